@@ -1,0 +1,101 @@
+-- What the operations answer (01: "Each answer is three numbers: number, place, steps").
+use Prim.Native.Nat.{ℕ, zero, suc, _+_, _-_, _*_}
+use mathlib.Core.Path.{_≡_}
+use mathlib.Core.Bool.{Bool, true, false, cond}
+use mathlib.Core.Option.{Option, none, some}
+use mathlib.Core.List.{List, [], _∷_}
+use lib.ListN.{length, getD, take, drop}
+use lib.Dec.{ltb}
+use denote.Ref.{RefT, ptr}
+use Rattle.system.specs.declared.Answer.{Answer}
+use Rattle.system.specs.declared.Shape.{Shape}
+use Rattle.system.specs.declared.reader.Section.{Section}
+use Rattle.system.specs.declared.reader.Side.{Side}
+use Rattle.system.specs.declared.reader.Scan.{Scan}
+use Rattle.system.specs.Signature.{Signature, arity, span, argument, subterm}
+use Rattle.system.specs.System.{System, head}
+use Rattle.system.specs.Format.{encodeStrategies}
+use Rattle.system.specs.Fault.{Fault, numberOf}
+use Rattle.system.specs.Reader.{Parsed, ok, fault, Reading, read}
+use Rattle.system.specs.TermCheck.{termFault}
+
+-- ---- reading a book
+
+-- "For 1 to 8 the place is the index of the word being read"; "On 0 the reader's place is the book's length", the index reached
+abbrev pub answerOf : Parsed System → Answer
+answerOf (ok s i) = record { number = 0; place = i; steps = 0 }
+answerOf (fault f i) = record { number = numberOf f; place = i; steps = 0 }
+
+-- how many symbols and rules an accepted book has, and at which index its first strategy and its first rule start
+abbrev pub shapeOf : Parsed System → Shape
+shapeOf (ok s i) = record {
+  symbols = length (s .arities);
+  strategies = length (s .arities) + 2;
+  rules = length (s .rules);
+  «first_rule» = length (s .arities) + 3 + length (encodeStrategies (s .strategies));
+}
+shapeOf (fault f i) = record { symbols = 0; strategies = 0; rules = 0; «first_rule» = 0 }
+
+-- the arities as the words of any book list them, before it is known whether it is accepted
+unfoldable pub signatureOf : List ℕ → Signature
+signatureOf ws = take (getD ws 0 0) (drop 1 ws)
+
+-- ---- a section of a book: number 0 and the index after it, or the first fault
+
+abbrev pub sectionOf : {A : Type 0} → Parsed A → Section
+sectionOf (ok a i) = record { number = 0; place = i }
+sectionOf (fault f i) = record { number = numberOf f; place = i }
+
+abbrev pub sideOf : Parsed Reading → Side
+sideOf (ok r i) = record { number = 0; place = i; known = r .known }
+sideOf (fault f i) = record { number = numberOf f; place = i; known = 0 }
+
+-- the whole book, with the index of the count of its rules
+abbrev pub scanOf : Parsed System → Scan
+scanOf (ok s i) = record { number = 0; place = i; rules = length (s .arities) + 2 + length (encodeStrategies (s .strategies)) }
+scanOf (fault f i) = record { number = numberOf f; place = i; rules = 0 }
+
+abbrev pub numberOr0 : Option Fault → ℕ
+numberOr0 none = 0
+numberOr0 (some f) = numberOf f
+
+-- ---- checking a term: 9 and the place, or 0 and the term's length
+
+abbrev pub brokenAt : List ℕ → Option ℕ → Section
+brokenAt t none = record { number = 0; place = length t }
+brokenAt t (some i) = record { number = 9; place = i }
+
+unfoldable pub termAnswer : List ℕ → List ℕ → Answer
+termAnswer book t =
+    elim (read book) [
+      | fault f i ↦ record { number = numberOf f; place = i; steps = 0 }
+      | ok s j ↦ elim (termFault (s .arities) 1 t 0) [ none ↦ record { number = 0; place = length t; steps = 0 } | some i ↦ record { number = 9; place = i; steps = 0 } ]
+    ]
+
+-- ---- taking out one argument
+
+-- where argument i (from 1) of the first symbol starts, if there is one
+unfoldable pub nthArgument : Signature → List ℕ → ℕ → Option ℕ
+nthArgument g t zero = none
+nthArgument g t (suc k) = cond (ltb k (arity g (head t))) (some (argument g t 0 k)) none
+
+-- none "exactly when book or cue would be refused, or i is not 1 up to the argument count"
+unfoldable pub argumentAt : List ℕ → List ℕ → ℕ → Option ℕ
+argumentAt book t i =
+    elim (read book) [
+      | fault f j ↦ none
+      | ok s j ↦ elim (termFault (s .arities) 1 t 0) [ none ↦ nthArgument (s .arities) t i | some j ↦ none ]
+    ]
+
+-- its first word's index, 0 where there is none; its words
+abbrev pub startOf : Option ℕ → ℕ
+startOf none = 0
+startOf (some p) = p
+
+abbrev pub partOf : List ℕ → List ℕ → Option ℕ → List ℕ
+partOf book t none = []
+partOf book t (some p) = subterm (signatureOf book) t p
+
+-- the slice r is the caller's own slice s from word a on: the same memory, two bytes further for each word
+abbrev pub LiesIn : RefT (List ℕ) → ℕ → RefT (List ℕ) → Type 0
+LiesIn s a r = ptr r ≡ (ptr s .0, a * 2 + ptr s .1)

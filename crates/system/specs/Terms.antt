@@ -1,0 +1,63 @@
+-- Whole terms, sides of rules, and well-formed systems: which books 01 describes.
+use Prim.Native.Nat.{ℕ, zero, suc, _+_, _≤_, _<_}
+use mathlib.Core.Path.{_≡_}
+use mathlib.Core.Logic.{_⊎_}
+use mathlib.Core.List.{List, [], _∷_}
+use lib.ListN.{length, getD}
+use Rattle.system.specs.Signature.{Signature, Symbol, arity, variable, variables}
+use Rattle.system.specs.System.{System, Rule, rule, strategy}
+
+-- `Forest g P k ws`: the words are k whole terms, one after the other, and P holds of each word
+pub data Forest (g : Signature) (P : ℕ → Type 0) : ℕ → List ℕ → Type 0 where
+  empty : Forest g P zero []
+  more : {w k : ℕ} {ws : List ℕ} → P w → Forest g P (k + arity g w) ws → Forest g P (suc k) (w ∷ ws)
+
+-- a word of a side: a symbol or a variable
+abbrev pub Word : Signature → ℕ → Type 0
+Word g w = Symbol g w ⊎ (variable ≤ w)
+
+-- a whole term ("written the same way, with no placeholders"); a whole side of a rule
+abbrev pub Whole : Signature → List ℕ → Type 0
+Whole g ws = Forest g (Symbol g) 1 ws
+
+abbrev pub Side : Signature → List ℕ → Type 0
+Side g ws = Forest g (Word g) 1 ws
+
+-- e stands in a list
+pub data Stands : ℕ → List ℕ → Type 0 where
+  first : {e : ℕ} {es : List ℕ} → Stands e (e ∷ es)
+  later : {e d : ℕ} {es : List ℕ} → Stands e es → Stands e (d ∷ es)
+
+-- `Numbered n m ws`: the variables of ws are number n, n + 1, .. up to m - 1, in this order, each once
+-- ("its placeholders appear as 0, 1, 2, .. in reading order, each once")
+pub data Numbered : ℕ → ℕ → List ℕ → Type 0 where
+  end : {n : ℕ} → Numbered n n []
+  name : {n m w : ℕ} {ws : List ℕ} → w < variable → Numbered n m ws → Numbered n m (w ∷ ws)
+  next : {n m w : ℕ} {ws : List ℕ} → w ≡ variable + n → Numbered (suc n) m ws → Numbered n m (w ∷ ws)
+
+-- a rule that 01 allows: "a length 1 to 64 and its left side, then a length 1 to 64 and its right side";
+-- "A left side starts with a name"; "A right side uses only placeholders of its left side". (A whole side has at least one word.)
+pub record Lawful (g : Signature) (r : Rule) : Type 0 where
+  pub count : ℕ
+  pub few : count ≤ variables
+  pub headed : Symbol g (getD (r .lhs) 0 variable)
+  pub left : Side g (r .lhs)
+  pub right : Side g (r .rhs)
+  pub shortLeft : length (r .lhs) ≤ 64
+  pub shortRight : length (r .rhs) ≤ 64
+  pub numbered : Numbered 0 count (r .lhs)
+  pub known : (w : ℕ) → Stands w (r .rhs) → w < variable + count
+
+-- a system that 01 describes
+pub record WellFormed (s : System) : Type 0 where
+  -- "a count S, 1 to 256, then S argument counts, each 0 to 8"
+  pub some : 1 ≤ length (s .arities)
+  pub names : length (s .arities) ≤ 256
+  pub narrow : (f : ℕ) → arity (s .arities) f ≤ 8
+  -- "a count that must equal S, then for each name a length 0 to 16 and that many entries, each 0 up to the name's argument count"
+  pub orders : length (s .strategies) ≡ length (s .arities)
+  pub short : (f : ℕ) → length (strategy s f) ≤ 16
+  pub entries : (f e : ℕ) → Stands e (strategy s f) → e ≤ arity (s .arities) f
+  -- "a count 0 to 128"
+  pub few : length (s .rules) ≤ 128
+  pub lawful : (k : ℕ) → k < length (s .rules) → Lawful (s .arities) (rule s k)

@@ -1,0 +1,106 @@
+// Show books and cues read from words: the lowest library.
+//
+// A book is a slice of words, three sections one after the other, each after its count (01: "The show book"). None of the
+// operations here asks anything of its caller: every refusal is a number of 01's table.
+ghost use mathlib.Core.Path.{_≡_};
+ghost use Rattle.system.specs.Answers.{answerOf, shapeOf, termAnswer, argumentAt, startOf, partOf, LiesIn};
+ghost use Rattle.system.specs.Reader.{read};
+
+mod reader;
+pub mod terms;
+pub mod words;
+
+// 01: "Each answer is three numbers: number, place, steps."
+pub struct Answer {
+    pub number: u32,
+    pub place: usize,
+    pub steps: u32,
+}
+
+// What the layers above need of an accepted book: how many symbols and rules it has, and at which index its first strategy and
+// its first rule start. All are 0 of a refused book.
+pub struct Shape {
+    pub symbols: usize,
+    pub strategies: usize,
+    pub rules: usize,
+    pub first_rule: usize,
+}
+
+// Reads a book: 0 and its length, or the first fault with the index of the word being read.
+pub fn read(book: &[u16]) -> Answer
+    ensures { λ r. ⌜ r ≡ answerOf (read (now (book .entry))) ⌝ }
+{
+    let s = reader::scan_book(book);
+    Answer {
+        number: s.number,
+        place: s.place,
+        steps: 0,
+    }
+}
+
+// The shape of an accepted book.
+pub fn shape_of(book: &[u16]) -> Shape
+    ensures { λ r. ⌜ r ≡ shapeOf (read (now (book .entry))) ⌝ }
+{
+    let s = reader::scan_book(book);
+    if s.number != 0 {
+        return Shape {
+            symbols: 0,
+            strategies: 0,
+            rules: 0,
+            first_rule: 0,
+        };
+    }
+    let n = words::symbols(book);
+    let at = s.rules;
+    Shape {
+        symbols: n,
+        strategies: n + 2,
+        rules: words::wide(book[at]),
+        first_rule: at + 1,
+    }
+}
+
+// Checks a term (01: a cue) against a book: the reader's answer where the book is refused, else 9 and the index of the first word
+// that can't stand there, or 0 and the term's length.
+pub fn check_term(book: &[u16], term: &[u16]) -> Answer
+    ensures { λ r. ⌜ r ≡ termAnswer (now (book .entry)) (now (term .entry)) ⌝ }
+{
+    let s = reader::scan_book(book);
+    if s.number != 0 {
+        return Answer {
+            number: s.number,
+            place: s.place,
+            steps: 0,
+        };
+    }
+    let b = terms::first_break(book, term);
+    Answer {
+        number: b.number,
+        place: b.place,
+        steps: 0,
+    }
+}
+
+// Argument i (from 1) of the term's first symbol, as a part of the caller's own slice. It is empty exactly when the book or the
+// term would be refused, or there is no such argument.
+pub fn argument<'a>(book: &[u16], term: &'a [u16], i: usize) -> &'a [u16]
+    ensures words { λ r. ⌜ now r ≡ partOf (now (book .entry)) (now (term .entry)) (argumentAt (now (book .entry)) (now (term .entry)) i) ⌝ }
+    ensures place { λ r. ⌜ LiesIn (term .entry) (startOf (argumentAt (now (book .entry)) (now (term .entry)) i)) r ⌝ }
+{
+    let c = check_term(book, term);
+    if c.number != 0 {
+        return &term[0..0];
+    }
+    if i == 0 {
+        return &term[0..0];
+    }
+    if words::arity(book, term[0]) < i {
+        return &term[0..0];
+    }
+    let arguments = &term[1..];
+    let a = 1 + words::spans(book, arguments, i - 1);
+    let part = &term[a..];
+    let e = a + words::span(book, part);
+    &term[a..e]
+}

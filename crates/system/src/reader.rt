@@ -1,0 +1,350 @@
+// The reader: one pass over the book, from left to right, that ends at the first fault.
+ghost use mathlib.Core.Path.{_≡_};
+ghost use mathlib.Core.Bool.{true};
+ghost use Prim.Native.Nat.{_+_, _≤_};
+ghost use lib.ListN.{length, getD};
+ghost use Rattle.system.specs.Fault.{Fault, range, numberOf};
+ghost use Rattle.system.specs.Reader.{read, times, each, number, readStrategy, readWords, readSide, readRule, readRules, sideFault, variableFault, learn};
+ghost use Rattle.system.specs.Answers.{signatureOf, sectionOf, sideOf, scanOf, numberOr0};
+use crate::words::arity;
+use crate::words::is_symbol;
+use crate::words::symbols;
+use crate::words::wide;
+
+// A section of the book that was read: number 0 and the index after it, or the first fault.
+pub struct Section {
+    pub number: u32,
+    pub place: usize,
+}
+
+// Which side of a rule is read.
+pub enum Hand {
+    Left,
+    Right,
+}
+
+// A side that was read: as a section, with how many variables are known after it.
+pub struct Side {
+    pub number: u32,
+    pub place: usize,
+    pub known: usize,
+}
+
+// The whole book that was read: as a section, with the index of the count of its rules.
+pub struct Scan {
+    pub number: u32,
+    pub place: usize,
+    pub rules: usize,
+}
+
+// What is wrong with the word at `at`, a number from `low` to `high`: 0, 1, or `otherwise`.
+fn check(book: &[u16], at: usize, low: usize, high: usize, otherwise: u32) -> u32
+    ensures { λ r. ⌜ ((f : Fault) → numberOf f ≡ otherwise → r ≡ sectionOf (number (now (book .entry)) f low high at) .number) ⌝ }
+{
+    if book.len() <= at {
+        return 1;
+    }
+    let w = wide(book[at]);
+    if w < low {
+        return otherwise;
+    }
+    if high < w {
+        return otherwise;
+    }
+    0
+}
+
+// n numbers from 0 to `high`.
+fn read_numbers(book: &[u16], at: usize, n: usize, high: usize, otherwise: u32) -> Section
+    requires { ⌜ (at ≤ length (now book)) × (n ≤ 65535) ⌝ }
+    ensures { λ r. ⌜ ((f : Fault) → numberOf f ≡ otherwise → r ≡ sectionOf (times n (number (now (book .entry)) f 0 high) at)) ⌝ }
+    ensures within { λ r. ⌜ r .place ≤ length (now (book .entry)) ⌝ }
+{
+    let mut i = at;
+    let mut left = n;
+    while 0 < left {
+        let f = check(book, i, 0, high, otherwise);
+        if f != 0 {
+            return Section {
+                number: f,
+                place: i,
+            };
+        }
+        i += 1;
+        left -= 1;
+    }
+    Section {
+        number: 0,
+        place: i,
+    }
+}
+
+// One strategy: a length 0 to 16 and that many entries, each 0 up to the arity.
+fn read_strategy(book: &[u16], at: usize, arity: usize) -> Section
+    requires { ⌜ at ≤ length (now book) ⌝ }
+    ensures { λ r. ⌜ r ≡ sectionOf (readStrategy (now (book .entry)) arity at) ⌝ }
+    ensures within { λ r. ⌜ r .place ≤ length (now (book .entry)) ⌝ }
+{
+    let f = check(book, at, 0, 16, 2);
+    if f != 0 {
+        return Section {
+            number: f,
+            place: at,
+        };
+    }
+    read_numbers(book, at + 1, wide(book[at]), arity, 3)
+}
+
+// The strategies of all symbols.
+fn read_strategies(book: &[u16], at: usize) -> Section
+    requires { ⌜ at ≤ length (now book) ⌝ }
+    ensures { λ r. ⌜ r ≡ sectionOf (each (readStrategy (now (book .entry))) (signatureOf (now (book .entry))) at) ⌝ }
+    ensures within { λ r. ⌜ r .place ≤ length (now (book .entry)) ⌝ }
+{
+    let n = symbols(book);
+    let mut i = at;
+    let mut k = 0;
+    while k < n {
+        let s = read_strategy(book, i, wide(book[k + 1]));
+        if s.number != 0 {
+            return s;
+        }
+        i = s.place;
+        k += 1;
+    }
+    Section {
+        number: 0,
+        place: i,
+    }
+}
+
+// What is wrong with variable k of a side, where `known` are known: 0, 6 or 7.
+fn variable_fault(hand: Hand, first: bool, known: usize, k: usize) -> u32
+    ensures { λ r. ⌜ r ≡ numberOr0 (variableFault hand first known k) ⌝ }
+{
+    match hand {
+        Hand::Left => {
+            if first {
+                return 6;
+            }
+            if k == known {
+                return 0;
+            }
+            7
+        }
+        Hand::Right => {
+            if k < known {
+                return 0;
+            }
+            7
+        }
+    }
+}
+
+// What is wrong with word w of a side, where `due` subterms are still to come: 0, 5, 4, 6 or 7, checked in this order.
+fn side_fault(book: &[u16], hand: Hand, first: bool, due: usize, known: usize, w: u16) -> u32
+    ensures { λ r. ⌜ r ≡ numberOr0 (sideFault (signatureOf (now (book .entry))) hand first due known w) ⌝ }
+{
+    if due == 0 {
+        return 5;
+    }
+    if is_symbol(book, w) {
+        return 0;
+    }
+    let x = wide(w);
+    if x < 32768 {
+        return 4;
+    }
+    if 32784 <= x {
+        return 4;
+    }
+    variable_fault(hand, first, known, x - 32768)
+}
+
+// How many variables are known after word w.
+fn learn(hand: Hand, known: usize, w: u16) -> usize
+    requires { ⌜ known ≤ 65535 ⌝ }
+    ensures { λ r. ⌜ (r ≡ learn hand known w) × (r ≤ known + 1) ⌝ }
+{
+    match hand {
+        Hand::Left => {
+            if 32768 <= w {
+                return known + 1;
+            }
+            known
+        }
+        Hand::Right => known,
+    }
+}
+
+// The n words of a side, which are one term.
+fn read_words(book: &[u16], at: usize, n: usize, hand: Hand, known: usize) -> Side
+    requires { ⌜ (at ≤ length (now book)) × (n ≤ 64) × (known ≤ 64) ⌝ }
+    ensures { λ r. ⌜ r ≡ sideOf (readWords (now (book .entry)) (signatureOf (now (book .entry))) hand true n 1 known at) ⌝ }
+    ensures within { λ r. ⌜ (r .place ≤ length (now (book .entry))) × (r .known ≤ 128) ⌝ }
+{
+    let mut due: usize = 1;
+    let mut seen = known;
+    let mut j = 0;
+    while j < n {
+        let i = at + j;
+        if book.len() <= i {
+            return Side {
+                number: 1,
+                place: i,
+                known: 0,
+            };
+        }
+        let w = book[i];
+        let f = side_fault(book, hand, j == 0, due, seen, w);
+        if f != 0 {
+            return Side {
+                number: f,
+                place: i,
+                known: 0,
+            };
+        }
+        due = due - 1 + arity(book, w);
+        seen = learn(hand, seen, w);
+        j += 1;
+    }
+    if due != 0 {
+        return Side {
+            number: 5,
+            place: at + n,
+            known: 0,
+        };
+    }
+    Side {
+        number: 0,
+        place: at + n,
+        known: seen,
+    }
+}
+
+// A side: a length 1 to 64 and that many words.
+fn read_side(book: &[u16], at: usize, hand: Hand, known: usize) -> Side
+    requires { ⌜ (at ≤ length (now book)) × (known ≤ 64) ⌝ }
+    ensures { λ r. ⌜ r ≡ sideOf (readSide (now (book .entry)) (signatureOf (now (book .entry))) hand known at) ⌝ }
+    ensures within { λ r. ⌜ (r .place ≤ length (now (book .entry))) × (r .known ≤ 128) ⌝ }
+{
+    let f = check(book, at, 1, 64, 2);
+    if f != 0 {
+        return Side {
+            number: f,
+            place: at,
+            known: 0,
+        };
+    }
+    read_words(book, at + 1, wide(book[at]), hand, known)
+}
+
+// One rule: its left side, then its right side, which may use the variables of the left.
+fn read_rule(book: &[u16], at: usize) -> Section
+    requires { ⌜ at ≤ length (now book) ⌝ }
+    ensures { λ r. ⌜ r ≡ sectionOf (readRule (now (book .entry)) (signatureOf (now (book .entry))) at) ⌝ }
+    ensures within { λ r. ⌜ r .place ≤ length (now (book .entry)) ⌝ }
+{
+    let l = read_side(book, at, Hand::Left, 0);
+    if l.number != 0 {
+        return Section {
+            number: l.number,
+            place: l.place,
+        };
+    }
+    let r = read_side(book, l.place, Hand::Right, l.known);
+    Section {
+        number: r.number,
+        place: r.place,
+    }
+}
+
+// n rules.
+fn read_rules(book: &[u16], at: usize, n: usize) -> Section
+    requires { ⌜ (at ≤ length (now book)) × (n ≤ 65535) ⌝ }
+    ensures { λ r. ⌜ r ≡ sectionOf (times n (readRule (now (book .entry)) (signatureOf (now (book .entry)))) at) ⌝ }
+    ensures within { λ r. ⌜ r .place ≤ length (now (book .entry)) ⌝ }
+{
+    let mut i = at;
+    let mut left = n;
+    while 0 < left {
+        let s = read_rule(book, i);
+        if s.number != 0 {
+            return s;
+        }
+        i = s.place;
+        left -= 1;
+    }
+    Section {
+        number: 0,
+        place: i,
+    }
+}
+
+// The last section, up to the book's end: a count 0 to 128 and that many rules.
+fn read_tail(book: &[u16], at: usize) -> Section
+    requires { ⌜ at ≤ length (now book) ⌝ }
+    ensures { λ r. ⌜ r ≡ sectionOf (readRules (now (book .entry)) (signatureOf (now (book .entry))) at) ⌝ }
+    ensures within { λ r. ⌜ r .place ≤ length (now (book .entry)) ⌝ }
+{
+    let f = check(book, at, 0, 128, 2);
+    if f != 0 {
+        return Section {
+            number: f,
+            place: at,
+        };
+    }
+    let r = read_rules(book, at + 1, wide(book[at]));
+    if r.number != 0 {
+        return r;
+    }
+    if r.place < book.len() {
+        return Section {
+            number: 8,
+            place: r.place,
+        };
+    }
+    r
+}
+
+fn refused(number: u32, place: usize) -> Scan
+    ensures { λ r. ⌜ (r .number ≡ number) × (r .place ≡ place) × (r .rules ≡ 0) ⌝ }
+{
+    Scan {
+        number,
+        place,
+        rules: 0,
+    }
+}
+
+// The whole book.
+pub fn scan_book(book: &[u16]) -> Scan
+    ensures { λ r. ⌜ r ≡ scanOf (read (now (book .entry))) ⌝ }
+{
+    let f = check(book, 0, 1, 256, 2);
+    if f != 0 {
+        return refused(f, 0);
+    }
+    let n = wide(book[0]);
+    let a = read_numbers(book, 1, n, 8, 2);
+    if a.number != 0 {
+        return refused(a.number, a.place);
+    }
+    let c = check(book, n + 1, n, n, 2);
+    if c != 0 {
+        return refused(c, n + 1);
+    }
+    let o = read_strategies(book, n + 2);
+    if o.number != 0 {
+        return refused(o.number, o.place);
+    }
+    let r = read_tail(book, o.place);
+    if r.number != 0 {
+        return refused(r.number, r.place);
+    }
+    Scan {
+        number: 0,
+        place: r.place,
+        rules: o.place,
+    }
+}
