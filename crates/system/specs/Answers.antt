@@ -1,9 +1,9 @@
 -- What the operations answer (01: "Each answer is three numbers: number, place, steps").
-use Prim.Native.Nat.{ℕ, zero, suc, _+_, _-_, _*_}
+use Prim.Native.Nat.{ℕ, zero, suc, _+_, _*_, _≤_, _<_}
 use mathlib.Core.Path.{_≡_}
-use mathlib.Core.Bool.{Bool, true, false, cond}
+use mathlib.Core.Bool.{cond}
 use mathlib.Core.Option.{Option, none, some}
-use mathlib.Core.List.{List, [], _∷_}
+use mathlib.Core.List.{List, []}
 use lib.ListN.{length, getD, take, drop}
 use lib.Dec.{ltb}
 use denote.Ref.{RefT, ptr}
@@ -12,7 +12,7 @@ use Rattle.system.specs.declared.Shape.{Shape}
 use Rattle.system.specs.declared.reader.Section.{Section}
 use Rattle.system.specs.declared.reader.Side.{Side}
 use Rattle.system.specs.declared.reader.Scan.{Scan}
-use Rattle.system.specs.Signature.{Signature, arity, span, argument, subterm}
+use Rattle.system.specs.Signature.{Signature, arity, argument, subterm}
 use Rattle.system.specs.System.{System, head}
 use Rattle.system.specs.Format.{encodeStrategies}
 use Rattle.system.specs.Fault.{Fault, numberOf}
@@ -46,6 +46,12 @@ abbrev pub sectionOf : {A : Type 0} → Parsed A → Section
 sectionOf (ok a i) = record { number = 0; place = i }
 sectionOf (fault f i) = record { number = numberOf f; place = i }
 
+-- a word stands at i, and lies between two numbers
+pub record Inside (ws : List ℕ) (i low high : ℕ) : Type 0 where
+  pub here : i < length ws
+  pub above : low ≤ getD ws i 0
+  pub below : getD ws i 0 ≤ high
+
 abbrev pub sideOf : Parsed Reading → Side
 sideOf (ok r i) = record { number = 0; place = i; known = r .known }
 sideOf (fault f i) = record { number = numberOf f; place = i; known = 0 }
@@ -65,12 +71,13 @@ abbrev pub brokenAt : List ℕ → Option ℕ → Section
 brokenAt t none = record { number = 0; place = length t }
 brokenAt t (some i) = record { number = 9; place = i }
 
+abbrev pub wholeAnswer : List ℕ → Option ℕ → Answer
+wholeAnswer t none = record { number = 0; place = length t; steps = 0 }
+wholeAnswer t (some i) = record { number = 9; place = i; steps = 0 }
+
+-- the book first
 unfoldable pub termAnswer : List ℕ → List ℕ → Answer
-termAnswer book t =
-    elim (read book) [
-      | fault f i ↦ record { number = numberOf f; place = i; steps = 0 }
-      | ok s j ↦ elim (termFault (s .arities) 1 t 0) [ none ↦ record { number = 0; place = length t; steps = 0 } | some i ↦ record { number = 9; place = i; steps = 0 } ]
-    ]
+termAnswer book t = elim (read book) [ fault f i ↦ answerOf (fault f i) | ok s j ↦ wholeAnswer t (termFault (s .arities) 1 t 0) ]
 
 -- ---- taking out one argument
 

@@ -19,7 +19,7 @@ pub data Fault : Type 0 where
   -- "words after the last rule"
   trailing : Fault
 
-unfoldable pub numberOf : Fault → ℕ
+abbrev pub numberOf : Fault → ℕ
 numberOf missing = 1
 numberOf range = 2
 numberOf entry = 3

@@ -1,11 +1,11 @@
 // The reader: one pass over the book, from left to right, that ends at the first fault.
 ghost use mathlib.Core.Path.{_≡_};
 ghost use mathlib.Core.Bool.{true};
-ghost use Prim.Native.Nat.{_+_, _≤_};
-ghost use lib.ListN.{length, getD};
+ghost use Prim.Native.Nat.{_+_, _≤_, _<_};
+ghost use lib.ListN.{length};
 ghost use Rattle.system.specs.Fault.{Fault, range, numberOf};
 ghost use Rattle.system.specs.Reader.{read, times, each, number, readStrategy, readWords, readSide, readRule, readRules, sideFault, variableFault, learn};
-ghost use Rattle.system.specs.Answers.{signatureOf, sectionOf, sideOf, scanOf, numberOr0};
+ghost use Rattle.system.specs.Answers.{signatureOf, sectionOf, sideOf, scanOf, numberOr0, Inside};
 use crate::words::arity;
 use crate::words::is_symbol;
 use crate::words::symbols;
@@ -39,7 +39,9 @@ pub struct Scan {
 
 // What is wrong with the word at `at`, a number from `low` to `high`: 0, 1, or `otherwise`.
 fn check(book: &[u16], at: usize, low: usize, high: usize, otherwise: u32) -> u32
+    requires { ⌜ 0 < otherwise ⌝ }
     ensures { λ r. ⌜ ((f : Fault) → numberOf f ≡ otherwise → r ≡ sectionOf (number (now (book .entry)) f low high at) .number) ⌝ }
+    ensures inside { λ r. ⌜ (r ≡ 0 → Inside (now (book .entry)) at low high) ⌝ }
 {
     if book.len() <= at {
         return 1;
@@ -56,7 +58,7 @@ fn check(book: &[u16], at: usize, low: usize, high: usize, otherwise: u32) -> u3
 
 // n numbers from 0 to `high`.
 fn read_numbers(book: &[u16], at: usize, n: usize, high: usize, otherwise: u32) -> Section
-    requires { ⌜ (at ≤ length (now book)) × (n ≤ 65535) ⌝ }
+    requires { ⌜ (at ≤ length (now book)) × (n ≤ 65535) × (0 < otherwise) ⌝ }
     ensures { λ r. ⌜ ((f : Fault) → numberOf f ≡ otherwise → r ≡ sectionOf (times n (number (now (book .entry)) f 0 high) at)) ⌝ }
     ensures within { λ r. ⌜ r .place ≤ length (now (book .entry)) ⌝ }
 {
@@ -181,7 +183,7 @@ fn learn(hand: Hand, known: usize, w: u16) -> usize
 fn read_words(book: &[u16], at: usize, n: usize, hand: Hand, known: usize) -> Side
     requires { ⌜ (at ≤ length (now book)) × (n ≤ 64) × (known ≤ 64) ⌝ }
     ensures { λ r. ⌜ r ≡ sideOf (readWords (now (book .entry)) (signatureOf (now (book .entry))) hand true n 1 known at) ⌝ }
-    ensures within { λ r. ⌜ (r .place ≤ length (now (book .entry))) × (r .known ≤ 128) ⌝ }
+    ensures within { λ r. ⌜ (r .place ≤ length (now (book .entry))) × (r .known ≤ known + 64) ⌝ }
 {
     let mut due: usize = 1;
     let mut seen = known;
@@ -226,7 +228,7 @@ fn read_words(book: &[u16], at: usize, n: usize, hand: Hand, known: usize) -> Si
 fn read_side(book: &[u16], at: usize, hand: Hand, known: usize) -> Side
     requires { ⌜ (at ≤ length (now book)) × (known ≤ 64) ⌝ }
     ensures { λ r. ⌜ r ≡ sideOf (readSide (now (book .entry)) (signatureOf (now (book .entry))) hand known at) ⌝ }
-    ensures within { λ r. ⌜ (r .place ≤ length (now (book .entry))) × (r .known ≤ 128) ⌝ }
+    ensures within { λ r. ⌜ (r .place ≤ length (now (book .entry))) × (r .known ≤ known + 64) ⌝ }
 {
     let f = check(book, at, 1, 64, 2);
     if f != 0 {
@@ -308,7 +310,7 @@ fn read_tail(book: &[u16], at: usize) -> Section
 }
 
 fn refused(number: u32, place: usize) -> Scan
-    ensures { λ r. ⌜ (r .number ≡ number) × (r .place ≡ place) × (r .rules ≡ 0) ⌝ }
+    ensures { λ r. ⌜ r ≡ record { number = number; place = place; rules = 0 } ⌝ }
 {
     Scan {
         number,

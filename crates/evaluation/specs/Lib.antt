@@ -1,0 +1,4 @@
+pub mod Evaluation
+pub mod Rewriting
+pub mod Promises
+pub mod Machine

@@ -1,0 +1,1 @@
+// The evaluation of terms by local strategies.

@@ -1,0 +1,201 @@
+-- `bind` against `Matches`: what it finds is a substitution by which the rule matches, and it finds one if there is any.
+use Prim.Native.Nat.{ℕ, suc, _+_, _-_, _≤_, _<_}
+use native.Mathlib.Nat.{not-suc-le-zero, add-sub-cancel-left}
+use native.Mathlib.Omega.{arith}
+use native.Mathlib.Decide.{ℕ-discrete, decLt}
+use mathlib.Core.Path.{_≡_, refl, sym, ap, _∙_, subst}
+use mathlib.Core.Logic.{inl, inr}
+use mathlib.Core.Option.{Option, none, some}
+use mathlib.Core.List.{List, [], _∷_, _++_, append-assoc, append-nil}
+use lib.ListN.{length, getD, take, drop, length-append}
+use lib.Seq.{drop-append-seam, take-append-seam, append-snoc, getD-at}
+use borrow.Author.Tests.{lt-ltb, le-ltb, eq-eqb, ne-eqb}
+use Rattle.system.specs.Signature.{Signature, Symbol, span, arity, variable}
+use Rattle.system.specs.System.{Rule, instance}
+use Rattle.system.specs.Terms.{Forest, empty, more, Word, Whole, Stands, first, later, Numbered, end, name, next, Lawful}
+use Rattle.matching.specs.Matching.{Matches, bind}
+use Rattle.system.proofs.Signatures.{arity-variable, symbol-below}
+use Rattle.system.proofs.Forests.{span-forest, join, split, Split, Wholes, wholes-cons, wholes-getD, getD-any}
+use Rattle.system.proofs.Places.{at-subterm}
+
+-- one word of a side
+pub instance-nil : (σ : ℕ → List ℕ) → instance σ [] ≡ []
+unfolding instance
+instance-nil σ = refl
+
+pub instance-symbol : (σ : ℕ → List ℕ) (l : ℕ) (ls : List ℕ) → l < variable → instance σ (l ∷ ls) ≡ l ∷ instance σ ls
+unfolding instance
+instance-symbol σ l ls h = rw (lt-ltb l variable h)
+
+pub instance-variable : (σ : ℕ → List ℕ) (l n : ℕ) (ls : List ℕ) → l ≡ variable + n → instance σ (l ∷ ls) ≡ σ n ++ instance σ ls
+unfolding instance
+instance-variable σ l n ls e = rw (e, le-ltb (variable + n) variable (omega arith), add-sub-cancel-left variable n)
+
+pub instance-cong : (σ τ : ℕ → List ℕ) (ls : List ℕ) → ((w n : ℕ) → Stands w ls → w ≡ variable + n → σ n ≡ τ n) → instance σ ls ≡ instance τ ls
+instance-cong σ τ [] h = rw (instance-nil σ, instance-nil τ)
+instance-cong σ τ (w ∷ ws) h =
+    let ih = instance-cong σ τ ws (λ w n st e. h w n (later st) e) in
+    elim (decLt w variable) [
+      | yes l ↦ rw (instance-symbol σ w ws l, instance-symbol τ w ws l, ih)
+      | no l ↦
+          let e : w ≡ variable + (w - variable) = omega arith in
+          rw (instance-variable σ w (w - variable) ws e, instance-variable τ w (w - variable) ws e, ih, h w (w - variable) first e)
+    ]
+
+pub numbered-le : {n m : ℕ} {ls : List ℕ} → Numbered n m ls → n ≤ m
+numbered-le end = omega arith
+numbered-le (name l nb) = numbered-le nb
+numbered-le (next e nb) = let h = numbered-le nb in omega arith
+
+pub numbered-below : {n m w : ℕ} {ls : List ℕ} → Numbered n m ls → Stands w ls → w < variable + m
+numbered-below (name l nb) first = omega arith
+numbered-below (name l nb) (later st) = numbered-below nb st
+numbered-below (next e nb) first = let h = numbered-le nb in omega arith
+numbered-below (next e nb) (later st) = numbered-below nb st
+
+abbrev pub chain : Option (List (List ℕ)) → (List (List ℕ) → Option (List (List ℕ))) → Option (List (List ℕ))
+chain none on = none
+chain (some σ) on = on σ
+
+module _ (g : Signature) where
+  pub bind-nil : (ws : List ℕ) (σ : List (List ℕ)) → bind g [] ws σ ≡ some σ
+  unfolding bind
+  bind-nil ws σ = refl
+
+  pub bind-symbol : (l : ℕ) (ls ws : List ℕ) (σ : List (List ℕ)) → l < variable → bind g (l ∷ ls) (l ∷ ws) σ ≡ bind g ls ws σ
+  unfolding bind
+  bind-symbol l ls ws σ h = rw (lt-ltb l variable h, bind) (rw (eq-eqb l l refl))
+
+  pub bind-differ : (l w : ℕ) (ls ws : List ℕ) (σ : List (List ℕ)) → l < variable → (l ≡ w → ⊥) → bind g (l ∷ ls) (w ∷ ws) σ ≡ none
+  unfolding bind
+  bind-differ l w ls ws σ h d = rw (lt-ltb l variable h, bind) (rw (ne-eqb l w d))
+
+  pub bind-past : (l w : ℕ) (ls ws : List ℕ) (σ : List (List ℕ)) → variable ≤ l →
+      bind g (l ∷ ls) (w ∷ ws) σ ≡ bind g ls (drop (span g (w ∷ ws) 1) (w ∷ ws)) (σ ++ take (span g (w ∷ ws) 1) (w ∷ ws) ∷ [])
+  unfolding bind
+  bind-past l w ls ws σ h = rw (le-ltb l variable h, bind)
+
+  pub bind-variable : (l : ℕ) (ls ws : List ℕ) {x : List ℕ} (σ : List (List ℕ)) → variable ≤ l → Whole g x →
+      bind g (l ∷ ls) (x ++ ws) σ ≡ bind g ls ws (σ ++ x ∷ [])
+  bind-variable l ls ws {x = w ∷ x} σ h f =
+      rw (bind-past l w ls (x ++ ws) σ h, span-forest g (Symbol g) ws f, drop-append-seam (w ∷ x) ws, take-append-seam (w ∷ x) ws)
+
+  -- whether a side is bound does not depend on what was bound before
+  pub bind-any : (ls ws : List ℕ) (σ σ′ : List (List ℕ)) → bind g ls ws σ ≡ none → bind g ls ws σ′ ≡ none
+  bind-any [] ws σ σ′ e = absurd (let z : _≡_ {A = ℕ} 0 1 = cc (bind-nil ws σ) in omega arith)
+  bind-any (l ∷ ls) [] σ σ′ e = unfold bind in refl
+  bind-any (l ∷ ls) (w ∷ ws) σ σ′ e =
+      elim (decLt l variable) [
+        | yes h ↦ elim (ℕ-discrete l w) [
+          | yes q ↦ rw (← q, bind-symbol l ls ws σ′ h) (bind-any ls ws σ σ′ (rw (← q, bind-symbol l ls ws σ h) at e))
+          | no d ↦ bind-differ l w ls ws σ′ h d
+        ]
+        | no h ↦
+            let v : variable ≤ l = omega arith in
+            rw (bind-past l w ls ws σ′ v) (bind-any ls _ _ _ (rw (bind-past l w ls ws σ v) at e))
+      ]
+
+  module _ (few : length g ≤ variable) where
+    -- the term that a variable stands for, and the rest
+    peel : (l k : ℕ) {u : List ℕ} → variable ≤ l → Forest g (Symbol g) (suc k) u → Split g (Symbol g) 1 (k + arity g l) u
+    peel l k h fu = split g (Symbol g) fu 1 (k + arity g l) (omega (arith, arity-variable g l few h))
+
+    -- bind goes through a front of sides and of terms, and then through the rest
+    pub bind-append : {k : ℕ} {ls u : List ℕ} (ms b : List ℕ) (σ : List (List ℕ)) → Forest g (Word g) k ls → Forest g (Symbol g) k u →
+        bind g (ls ++ ms) (u ++ b) σ ≡ chain (bind g ls u σ) (bind g ms b)
+    bind-append ms b σ empty empty = rw (bind-nil [] σ)
+    bind-append ms b σ (more {w = l} {k} {ws = ls} (inl h) f) (more {w} {ws} _ fu) =
+        let v : l < variable = symbol-below g l few h in
+        elim (ℕ-discrete l w) [
+          | yes e ↦ rw (← e, bind-symbol l (ls ++ ms) (ws ++ b) σ v, bind-symbol l ls ws σ v) (bind-append ms b σ f (rw (← e) at fu))
+          | no d ↦ rw (bind-differ l w (ls ++ ms) (ws ++ b) σ v d, bind-differ l w ls ws σ v d)
+        ]
+    bind-append ms b σ (more {w = l} {k} {ws = ls} (inr h) f) fu =
+        let c = peel l k h fu in
+        rw (c .equal, append-assoc (c .front) (c .back) b, bind-variable l (ls ++ ms) (c .back ++ b) σ h (c .fronts), bind-variable l ls (c .back) σ h (c .fronts))
+        (bind-append ms b (σ ++ c .front ∷ []) f (c .backs))
+
+    -- what bind adds: whole terms, one for each variable, which fill the side to what was matched
+    pub record Bound (σ σ′ : List (List ℕ)) (m : ℕ) (ls u : List ℕ) : Type 0 where
+      pub added : List (List ℕ)
+      pub equal : σ′ ≡ σ ++ added
+      pub count : length σ′ ≡ m
+      pub wholes : Wholes g (Symbol g) added
+      pub filled : instance (λ v. getD σ′ v []) ls ≡ u
+
+    pub bind-sound : {k n m : ℕ} {ls u : List ℕ} (b : List ℕ) (σ σ′ : List (List ℕ)) → Forest g (Word g) k ls → Numbered n m ls → Forest g (Symbol g) k u →
+        length σ ≡ n → bind g ls (u ++ b) σ ≡ some σ′ → Bound σ σ′ m ls u
+    bind-sound b σ σ′ empty end empty c e =
+        let q : σ′ ≡ σ = cc (bind-nil b σ) in
+        record { added = []; equal = q ∙ sym (append-nil σ); count = ap length q ∙ c; wholes = λ i l. absurd (not-suc-le-zero l); filled = instance-nil _ }
+    bind-sound b σ σ′ (more _ f) (name {w = l} {ws = ls} h nb) (more {w} {ws} _ fu) c e =
+        elim (ℕ-discrete l w) [
+          | yes q ↦
+              let d = bind-sound b σ σ′ f nb (rw (← q) at fu) c (rw (← q, bind-symbol l ls (ws ++ b) σ h) at e) in
+              record {
+                added = d .added;
+                equal = d .equal;
+                count = d .count;
+                wholes = d .wholes;
+                filled = rw (← q, instance-symbol (λ v. getD σ′ v []) l ls h) (ap (λ r. l ∷ r) (d .filled));
+              }
+          | no d ↦ absurd (let z : _≡_ {A = ℕ} 0 1 = cc (bind-differ l w ls (ws ++ b) σ h d) in omega arith)
+        ]
+    bind-sound {n} b σ σ′ (more {k} _ f) (next {w = l} {ws = ls} q nb) fu c e =
+        let v : variable ≤ l = omega arith in
+        let x = peel l k v fu in
+        let d = bind-sound b (σ ++ x .front ∷ []) σ′ f nb (x .backs) (rw (length-append σ (x .front ∷ [])) (omega arith))
+        (rw (x .equal, append-assoc (x .front) (x .back) b, bind-variable l ls (x .back ++ b) σ v (x .fronts)) at e) in
+        let q′ = d .equal ∙ append-snoc σ (x .front) (d .added) in
+        record {
+          added = x .front ∷ d .added;
+          equal = q′;
+          count = d .count;
+          wholes = wholes-cons g (Symbol g) (x .front) (d .added) (x .fronts) (d .wholes);
+          filled = rw (instance-variable (λ v. getD σ′ v []) l n ls q, d .filled)
+              (ap (λ r. r ++ x .back) (ap (λ r. getD r n []) q′ ∙ getD-at σ (x .front) (d .added) [] n c) ∙ sym (x .equal));
+        }
+
+    -- a side whose instance stands there is bound
+    pub bind-complete : {n m : ℕ} {ls : List ℕ} (b : List ℕ) (σ : List (List ℕ)) (τ : ℕ → List ℕ) → ((v : ℕ) → Whole g (τ v)) → Numbered n m ls →
+        (σ′ : List (List ℕ)) × (bind g ls (instance τ ls ++ b) σ ≡ some σ′)
+    bind-complete b σ τ h end = (σ, bind-nil _ σ)
+    bind-complete b σ τ h (name {w} {ws} l nb) =
+        rw (instance-symbol τ w ws l, bind-symbol w ws (instance τ ws ++ b) σ l) (bind-complete b σ τ h nb)
+    bind-complete b σ τ h (next {n} {w} {ws} e nb) =
+        rw (instance-variable τ w n ws e, append-assoc (τ n) (instance τ ws) b, bind-variable w ws (instance τ ws ++ b) σ (omega arith) (h n))
+        (bind-complete b (σ ++ τ n ∷ []) τ h nb)
+
+    -- a side filled with whole terms is whole
+    pub instance-forest : {k : ℕ} {ls : List ℕ} (τ : ℕ → List ℕ) → ((v : ℕ) → Whole g (τ v)) → Forest g (Word g) k ls → Forest g (Symbol g) k (instance τ ls)
+    instance-forest τ h empty = rw (instance-nil τ) empty
+    instance-forest τ h (more {w} {ws} (inl l) f) = rw (instance-symbol τ w ws (symbol-below g w few l)) (more l (instance-forest τ h f))
+    instance-forest τ h (more {w} {k} {ws} (inr l) f) =
+        rw (instance-variable τ w (w - variable) ws (omega arith))
+        (subst (λ n. Forest g (Symbol g) n (τ (w - variable) ++ instance τ ws)) (omega (arith, arity-variable g w few l))
+        (join g (Symbol g) (h (w - variable)) (instance-forest τ h f)))
+
+    module _ (a b : List ℕ) {u : List ℕ} (whole : Whole g u) {r : Rule} (law : Lawful g r) where
+      -- bound: the rule matches, by the values that bind found; its right side is filled with them
+      pub matched : (σ : List (List ℕ)) → bind g (r .lhs) (u ++ b) [] ≡ some σ →
+          (m : Matches g (a ++ (u ++ b)) (length a) r) × (instance (m .σ) (r .rhs) ≡ instance (λ v. getD σ v []) (r .rhs))
+      matched σ e =
+          let c = bind-sound b [] σ (law .left) (law .numbered) whole refl e in
+          let same : (ls : List ℕ) → ((w : ℕ) → Stands w ls → w < variable + law .count) → instance (λ v. getD σ v u) ls ≡ instance (λ v. getD σ v []) ls
+          = λ ls h. instance-cong (λ v. getD σ v u) (λ v. getD σ v []) ls
+          (λ w n st q. getD-any σ u [] n (let h′ = h w st in let k = c .count in omega arith)) in (
+            record {
+              σ = λ v. getD σ v u;
+              whole = wholes-getD g (Symbol g) σ u (subst (Wholes g (Symbol g)) (sym (c .equal)) (c .wholes)) whole;
+              equal = same (r .lhs) (λ w st. numbered-below (law .numbered) st) ∙ c .filled ∙ sym (at-subterm g (Symbol g) a b whole);
+            },
+            same (r .rhs) (law .known),
+          )
+
+      -- not bound: the rule does not match
+      pub unmatched : bind g (r .lhs) (u ++ b) [] ≡ none → Matches g (a ++ (u ++ b)) (length a) r → ⊥
+      unmatched e m =
+          let c = bind-complete b [] (m .σ) (m .whole) (law .numbered) in
+          let q : instance (m .σ) (r .lhs) ≡ u = m .equal ∙ at-subterm g (Symbol g) a b whole in
+          let q′ = c .1 in
+          let z : _≡_ {A = ℕ} 0 1 = cc in omega arith

@@ -1,0 +1,117 @@
+-- The computed strategy test decides whether a system is safe.
+use Prim.Native.Nat.{ℕ, zero, suc, _<_}
+use native.Mathlib.Nat.{le-of-suc-le-suc, not-suc-le-zero}
+use native.Mathlib.Omega.{arith}
+use native.Mathlib.Decide.{ℕ-discrete}
+use mathlib.Core.Path.{_≡_, refl, ap}
+use mathlib.Core.Logic.{inl, inr}
+use mathlib.Core.List.{List, [], _∷_, _++_}
+use mathlib.Core.Bool.{Bool, true, false, not, _&&_, _||_, or-true}
+use lib.ListN.{length, getD}
+use lib.Dec.{eqb}
+use borrow.Author.Tests.{leb-true, le-leb, eq-eqb, ne-eqb}
+use Rattle.system.specs.Signature.{Symbol, variable}
+use Rattle.system.specs.System.{System, Rule, strategy, rule, noRule, head}
+use Rattle.system.specs.Terms.{Stands, first, later}
+use Rattle.matching.specs.Safety.{Idle, IdleEntry, idle, Constructor, Passes, Safe, every, idleTest, idles, closes, passes}
+
+both : (a b : Bool) → (a && b) ≡ true → (a ≡ true) × (b ≡ true)
+both true b e = (refl, e)
+both false b e = absurd (let z : _≡_ {A = ℕ} 0 1 = cc in omega arith)
+
+both-true : (a b : Bool) → a ≡ true → b ≡ true → (a && b) ≡ true
+both-true a b p q = rw (p, q)
+
+pub every-at : (test : Rule → Bool) (rs : List Rule) → every test rs ≡ true → (k : ℕ) → k < length rs → test (getD rs k noRule) ≡ true
+unfolding every
+every-at test [] e k h = absurd (not-suc-le-zero h)
+every-at test (r ∷ rs) e zero h = both (test r) (every test rs) e .0
+every-at test (r ∷ rs) e (suc k) h = every-at test rs (both (test r) (every test rs) e .1) k (le-of-suc-le-suc h)
+
+pub every-all : (test : Rule → Bool) (rs : List Rule) → ((k : ℕ) → k < length rs → test (getD rs k noRule) ≡ true) → every test rs ≡ true
+unfolding every
+every-all test [] h = refl
+every-all test (r ∷ rs) h = both-true (test r) (every test rs) (h 0 (omega arith)) (every-all test rs (λ k l. h (suc k) (omega arith)))
+
+module _ (s : System) (f : ℕ) where
+  pub idle-sound : (i : ℕ) → idleTest s f i ≡ true → Idle s f i
+  unfolding idleTest
+  idle-sound i e k h q = leb-true variable _ (rw (q, eq-eqb f f refl) at (every-at _ (s .rules) e k h))
+
+  pub idle-complete : (i : ℕ) → Idle s f i → idleTest s f i ≡ true
+  unfolding idleTest
+  idle-complete i h = every-all _ (s .rules) (λ k l. elim (ℕ-discrete (head (rule s k .lhs)) f) [
+    | yes q ↦ rw (q, eq-eqb f f refl) (le-leb variable _ (h k l q))
+    | no d ↦ rw (ne-eqb (head (rule s k .lhs)) f d)
+  ])
+
+  pub idles-sound : (es : List ℕ) → idles (idleTest s f) es ≡ true → (e : ℕ) → Stands e es → IdleEntry s f e
+  unfolding idles
+  idles-sound (zero ∷ es) q e st = absurd (let z : _≡_ {A = ℕ} 0 1 = cc in omega arith)
+  idles-sound (suc i ∷ es) q e first = idle (idle-sound i (both (idleTest s f i) _ q .0))
+  idles-sound (suc i ∷ es) q e (later st) = idles-sound es (both (idleTest s f i) _ q .1) e st
+
+  pub idles-complete : (es : List ℕ) → ((e : ℕ) → Stands e es → IdleEntry s f e) → idles (idleTest s f) es ≡ true
+  unfolding idles
+  idles-complete [] h = refl
+  idles-complete (zero ∷ es) h = elim (h 0 first) [ ]
+  idles-complete (suc i ∷ es) h = both-true _ _ (idle-complete i (go (h (suc i) first))) (idles-complete es (λ e st. h e (later st)))
+    where
+      go : IdleEntry s f (suc i) → Idle s f i
+      go (idle z) = z
+
+  pub record Closed (es : List ℕ) : Type 0 where
+    pub before : List ℕ
+    pub after : List ℕ
+    pub split : es ≡ before ++ 0 ∷ after
+    pub last : (e : ℕ) → Stands e after → IdleEntry s f e
+
+  pub closes-sound : (es : List ℕ) → closes (idleTest s f) es ≡ true → Closed es
+  unfolding closes
+  closes-sound [] q = absurd (let z : _≡_ {A = ℕ} 0 1 = cc in omega arith)
+  closes-sound (zero ∷ es) q = go (idles (idleTest s f) es) refl q (closes-sound es)
+    where
+      go : (b : Bool) → idles (idleTest s f) es ≡ b → (b || closes (idleTest s f) es) ≡ true → (closes (idleTest s f) es ≡ true → Closed es) → Closed (0 ∷ es)
+      go true e q ih = record { before = []; after = es; split = refl; last = idles-sound es e }
+      go false e q ih = let c = ih q in record { before = 0 ∷ c .before; after = c .after; split = ap (λ r. 0 ∷ r) (c .split); last = c .last }
+  closes-sound (suc i ∷ es) q = let c = closes-sound es q in record { before = suc i ∷ c .before; after = c .after; split = ap (λ r. suc i ∷ r) (c .split); last = c .last }
+
+  pub closes-complete : (before after : List ℕ) → ((e : ℕ) → Stands e after → IdleEntry s f e) → closes (idleTest s f) (before ++ 0 ∷ after) ≡ true
+  unfolding closes
+  closes-complete [] after h = rw (idles-complete after h)
+  closes-complete (zero ∷ before) after h = rw (closes-complete before after h) (or-true (idles (idleTest s f) (before ++ 0 ∷ after)))
+  closes-complete (suc i ∷ before) after h = closes-complete before after h
+
+-- the test passes a symbol exactly when 01's rule does
+module _ (s : System) (f : ℕ) where
+  -- whether no left side starts with it
+  abbrev constructs : Bool
+  constructs = every (λ r. not (eqb (head (r .lhs)) f)) (s .rules)
+
+  constructs-sound : constructs ≡ true → Constructor s f
+  constructs-sound e k l q =
+      let z : not (eqb (head (rule s k .lhs)) f) ≡ true = every-at (λ r. not (eqb (head (r .lhs)) f)) (s .rules) e k l in
+      let z′ = eq-eqb (head (rule s k .lhs)) f q in
+      let y : _≡_ {A = ℕ} 0 1 = cc in omega arith
+
+  pub passes-sound : passes s f ≡ true → Passes s f
+  unfolding passes
+  passes-sound e = go constructs refl e
+    where
+      go : (b : Bool) → constructs ≡ b → (b || closes (idleTest s f) (strategy s f)) ≡ true → Passes s f
+      go true e q = inl (constructs-sound e)
+      go false e q = let c = closes-sound s f (strategy s f) q in inr (record { before = c .before; after = c .after; split = c .split; last = c .last })
+
+  pub passes-complete : Passes s f → passes s f ≡ true
+  unfolding passes
+  passes-complete (inl h) =
+      let e : constructs ≡ true = every-all (λ r. not (eqb (head (r .lhs)) f)) (s .rules) (λ k l. rw (ne-eqb (head (rule s k .lhs)) f (h k l))) in
+      rw e
+  passes-complete (inr h) = rw (h .split, closes-complete s f (h .before) (h .after) (h .last)) (or-true constructs)
+
+-- so it passes every symbol exactly when the system is safe
+pub passes-safe : (s : System) → ((f : ℕ) → Symbol (s .arities) f → passes s f ≡ true) → Safe s
+passes-safe s h f n = passes-sound s f (h f n)
+
+pub safe-passes : (s : System) → Safe s → (f : ℕ) → Symbol (s .arities) f → passes s f ≡ true
+safe-passes s h f n = passes-complete s f (h f n)

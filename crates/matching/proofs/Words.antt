@@ -1,0 +1,68 @@
+-- What a loop over the words of a side, of a rule list or of a term asks for: one word, one rule, one word more.
+use Prim.Native.Nat.{ℕ, suc, _+_, _≤_, _<_}
+use mathlib.Core.Path.{_≡_, refl, sym, ap, _∙_}
+use mathlib.Core.Option.{none, some}
+use mathlib.Core.List.{List, [], _∷_, _++_, append-assoc, append-nil}
+use lib.ListN.{length, getD, take, drop, drop-of-length-le}
+use lib.Seq.{drop-cons, drop-drop, take-suc}
+use Rattle.system.specs.Signature.{Signature, span, variable, subterm}
+use Rattle.system.specs.System.{Rule, noRule, instance}
+use Rattle.matching.specs.Matching.{bind, firstMatch}
+use Rattle.matching.proofs.Matched.{bind-symbol, bind-differ, bind-past, instance-nil, instance-symbol, instance-variable}
+use Rattle.matching.proofs.Firsts.{first-here, first-next}
+
+module _ (g : Signature) where
+  -- matching: word j of a side against word q of a term
+  module _ (ls t : List ℕ) (j q : ℕ) (σ : List (List ℕ)) (more : j < length ls) where
+    abbrev l : ℕ
+    l = getD ls j 0
+
+    split : drop j ls ≡ l ∷ drop (suc j) ls
+    split = drop-cons ls j 0 more
+
+    pub match-end : length t ≤ q → bind g (drop j ls) (drop q t) σ ≡ none
+    unfolding bind
+    match-end h = rw (split, drop-of-length-le t h)
+
+    module _ (within : q < length t) where
+      pub match-symbol : l < variable → l ≡ getD t q 0 → bind g (drop j ls) (drop q t) σ ≡ bind g (drop (suc j) ls) (drop (suc q) t) σ
+      match-symbol h e = rw (split, drop-cons t q 0 within, ← e) (bind-symbol g l (drop (suc j) ls) (drop (suc q) t) σ h)
+
+      pub match-differ : l < variable → (l ≡ getD t q 0 → ⊥) → bind g (drop j ls) (drop q t) σ ≡ none
+      match-differ h d = rw (split, drop-cons t q 0 within) (bind-differ g l (getD t q 0) (drop (suc j) ls) (drop (suc q) t) σ h d)
+
+      pub match-variable : variable ≤ l → bind g (drop j ls) (drop q t) σ ≡ bind g (drop (suc j) ls) (drop (q + span g (drop q t) 1) t) (σ ++ subterm g t q ∷ [])
+      unfolding subterm
+      match-variable h =
+          let e = drop-cons t q 0 within in
+          ap (λ y. bind g y (drop q t) σ) split ∙ ap (λ y. bind g (l ∷ drop (suc j) ls) y σ) e
+          ∙ bind-past g l (getD t q 0) (drop (suc j) ls) (drop (suc q) t) σ h
+          ∙ ap (λ y. bind g (drop (suc j) ls) (drop (span g y 1) y) (σ ++ take (span g y 1) y ∷ [])) (sym e)
+          ∙ ap (λ y. bind g (drop (suc j) ls) y (σ ++ take (span g (drop q t) 1) (drop q t) ∷ [])) (drop-drop (span g (drop q t) 1) q t)
+
+  -- the rules in turn
+  module _ (rules : List Rule) (ws : List ℕ) (k : ℕ) (more : k < length rules) where
+    pub search-next : bind g (getD rules k noRule .lhs) ws [] ≡ none → firstMatch g (drop k rules) k ws ≡ firstMatch g (drop (suc k) rules) (suc k) ws
+    search-next e = rw (drop-cons rules k noRule more) (first-next g (getD rules k noRule) (drop (suc k) rules) k ws e)
+
+    pub search-here : (σ : List (List ℕ)) → bind g (getD rules k noRule .lhs) ws [] ≡ some σ →
+        firstMatch g (drop k rules) k ws ≡ some (record { number = k; reduct = instance (λ v. getD σ v []) (getD rules k noRule .rhs) })
+    search-here σ e = rw (drop-cons rules k noRule more) (first-here g (getD rules k noRule) (drop (suc k) rules) k ws σ e)
+
+  pub search-none : (rules : List Rule) (ws : List ℕ) (k : ℕ) → length rules ≤ k → firstMatch g (drop k rules) k ws ≡ none
+  unfolding firstMatch
+  search-none rules ws k h = rw (drop-of-length-le rules h)
+
+-- filling: the words that stand for the first j words of a side
+pub instance-append : (σ : ℕ → List ℕ) (a b : List ℕ) → instance σ (a ++ b) ≡ instance σ a ++ instance σ b
+unfolding instance
+instance-append σ [] b = refl
+instance-append σ (w ∷ a) b = simp (instance-append σ a b, append-assoc)
+
+module _ (σ : ℕ → List ℕ) (ls : List ℕ) (j : ℕ) (more : j < length ls) where
+  pub fill-symbol : getD ls j 0 < variable → instance σ (take (suc j) ls) ≡ instance σ (take j ls) ++ (getD ls j 0 ∷ [])
+  fill-symbol h = rw (take-suc ls j 0 more, instance-append σ (take j ls) (getD ls j 0 ∷ []), instance-symbol σ (getD ls j 0) [] h, instance-nil σ)
+
+  pub fill-variable : (n : ℕ) → getD ls j 0 ≡ variable + n → instance σ (take (suc j) ls) ≡ instance σ (take j ls) ++ σ n
+  fill-variable n e =
+      rw (take-suc ls j 0 more, instance-append σ (take j ls) (getD ls j 0 ∷ []), instance-variable σ (getD ls j 0) n [] e, instance-nil σ, append-nil (σ n))

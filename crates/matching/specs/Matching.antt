@@ -1,0 +1,51 @@
+-- Matching (01: fitting): when a rule matches, and how the first rule that matches is found.
+use Prim.Native.Nat.{ℕ, suc}
+use mathlib.Core.Path.{_≡_}
+use mathlib.Core.List.{List, [], _∷_, _++_}
+use mathlib.Core.Bool.{true, false}
+use mathlib.Core.Option.{Option, none, some}
+use lib.ListN.{getD, take, drop}
+use lib.Dec.{ltb, eqb}
+use Rattle.system.specs.Signature.{Signature, variable, span, subterm}
+use Rattle.system.specs.System.{System, Rule, instance}
+use Rattle.system.specs.Terms.{Whole}
+
+-- "A filling gives each placeholder a whole cue, the same wherever it stands; a side so filled is an instance. A rule fits at a place
+-- if some instance of its left side is the part there." Rule r matches the subterm of t at p, by the substitution (01: filling) σ
+pub record Matches (g : Signature) (t : List ℕ) (p : ℕ) (r : Rule) : Type 0 where
+  pub σ : ℕ → List ℕ
+  pub whole : (v : ℕ) → Whole g (σ v)
+  pub equal : instance σ (r .lhs) ≡ subterm g t p
+
+-- "names equal, each placeholder standing for one whole argument": a left side against the front of ws, word by word, up to "its first
+-- unequal word"; "Each argument is fitted as the stretch of the cue that starts at its own word". What its variables stand for is
+-- put after σ in reading order, which is the order of their numbers
+unfoldable pub bind : Signature → List ℕ → List ℕ → List (List ℕ) → Option (List (List ℕ))
+bind g [] ws σ = some σ
+bind g (l ∷ ls) [] σ = none
+bind g (l ∷ ls) (w ∷ ws) σ =
+    elim (ltb l variable) [
+      | true ↦ elim (eqb l w) [ true ↦ bind g ls ws σ | false ↦ none ]
+      | false ↦
+          let n = span g (w ∷ ws) 1 in
+          bind g ls (drop n (w ∷ ws)) (σ ++ take n (w ∷ ws) ∷ [])
+    ]
+
+-- a rule that matches, by its number, and its reduct: "the right side, so filled"
+pub record Redex : Type 0 where
+  pub number : ℕ
+  pub reduct : List ℕ
+
+-- "The search tries rules in book order and gives up a rule at its first unequal word": the first of the rules, numbered from k on, that
+-- matches the front of ws
+unfoldable pub firstMatch : Signature → List Rule → ℕ → List ℕ → Option Redex
+firstMatch g [] k ws = none
+firstMatch g (r ∷ rs) k ws =
+    elim (bind g (r .lhs) ws []) [
+      | some σ ↦ some (record { number = k; reduct = instance (λ v. getD σ v []) (r .rhs) })
+      | none ↦ firstMatch g rs (suc k) ws
+    ]
+
+-- "the lowest-numbered rule that fits here", at the front of ws
+unfoldable pub redex : System → List ℕ → Option Redex
+redex s ws = firstMatch (s .arities) (s .rules) 0 ws

@@ -1,0 +1,66 @@
+-- The condition of the strategy test (01: the order test), and the test as a computation.
+use Prim.Native.Nat.{ℕ, zero, suc, _≤_, _<_}
+use mathlib.Core.Path.{_≡_}
+use mathlib.Core.Logic.{_⊎_}
+use mathlib.Core.List.{List, [], _∷_, _++_}
+use mathlib.Core.Bool.{Bool, true, false, not, _&&_, _||_}
+use lib.ListN.{length, getD}
+use lib.Dec.{leb, eqb}
+use Rattle.system.specs.Signature.{Symbol, variable, argument}
+use Rattle.system.specs.System.{System, Rule, strategy, rule, head}
+use Rattle.system.specs.Terms.{Stands}
+
+-- "An argument is idle if it is a placeholder in every left side starting with that name": the argument of f with i others before it
+abbrev pub Idle : System → ℕ → ℕ → Type 0
+Idle s f i =
+    (k : ℕ) → k < length (s .rules) → head (rule s k .lhs) ≡ f → variable ≤ getD (rule s k .lhs) (argument (s .arities) (rule s k .lhs) 0 i) 0
+
+-- an entry that is an idle argument
+pub data IdleEntry (s : System) (f : ℕ) : ℕ → Type 0 where
+  idle : {i : ℕ} → Idle s f i → IdleEntry s f (suc i)
+
+-- "its order holds a 0 and every entry after the last 0 is an idle argument". (Idle entries are not 0, so the 0 named here is the last.)
+pub record Guarded (s : System) (f : ℕ) : Type 0 where
+  pub before : List ℕ
+  pub after : List ℕ
+  pub split : strategy s f ≡ before ++ 0 ∷ after
+  pub last : (e : ℕ) → Stands e after → IdleEntry s f e
+
+-- a constructor: "no left side starts with it"
+abbrev pub Constructor : System → ℕ → Type 0
+Constructor s f = (k : ℕ) → k < length (s .rules) → head (rule s k .lhs) ≡ f → ⊥
+
+-- "a name passes if no left side starts with it, or if its order holds a 0 and .."
+abbrev pub Passes : System → ℕ → Type 0
+Passes s f = Constructor s f ⊎ Guarded s f
+
+-- "All pass"
+abbrev pub Safe : System → Type 0
+Safe s = (f : ℕ) → Symbol (s .arities) f → Passes s f
+
+-- ---- the test as a computation
+
+-- a test that every rule passes
+unfoldable pub every : (Rule → Bool) → List Rule → Bool
+every test [] = true
+every test (r ∷ rs) = test r && every test rs
+
+-- whether the argument of f with i others before it is idle
+unfoldable pub idleTest : System → ℕ → ℕ → Bool
+idleTest s f i = every (λ r. not (eqb (head (r .lhs)) f) || leb variable (getD (r .lhs) (argument (s .arities) (r .lhs) 0 i) 0)) (s .rules)
+
+-- whether all entries are idle arguments
+unfoldable pub idles : (ℕ → Bool) → List ℕ → Bool
+idles test [] = true
+idles test (zero ∷ es) = false
+idles test (suc i ∷ es) = test i && idles test es
+
+-- whether there is a 0, and only idle arguments after the last one
+unfoldable pub closes : (ℕ → Bool) → List ℕ → Bool
+closes test [] = false
+closes test (zero ∷ es) = idles test es || closes test es
+closes test (suc i ∷ es) = closes test es
+
+-- whether the symbol f passes
+unfoldable pub passes : System → ℕ → Bool
+passes s f = every (λ r. not (eqb (head (r .lhs)) f)) (s .rules) || closes (idleTest s f) (strategy s f)

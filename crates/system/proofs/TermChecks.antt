@@ -1,0 +1,60 @@
+-- The check of a term finds no fault exactly in the whole terms of at most 4,096 words.
+use Prim.Native.Nat.{ℕ, zero, suc, _+_, _≤_, _<_}
+use native.Mathlib.Omega.{arith}
+use native.Mathlib.Decide.{decLt}
+use mathlib.Core.Path.{_≡_, refl, sym, _∙_}
+use mathlib.Core.Option.{none, some}
+use mathlib.Core.Bool.{Bool, true, false}
+use mathlib.Core.List.{List, [], _∷_}
+use lib.ListN.{length}
+use lib.Dec.{ltb}
+use borrow.Author.Tests.{lt-ltb, le-ltb}
+use Rattle.system.specs.Signature.{Signature, Symbol, isSymbol, arity}
+use Rattle.system.specs.Terms.{Forest, empty, more, Whole}
+use Rattle.system.specs.TermCheck.{termFault}
+
+module _ (g : Signature) where
+  -- one word: it can stand at its index, or it cannot
+  pub fault-word : (k w : ℕ) (ws : List ℕ) (i : ℕ) → i < 4096 → Symbol g w → termFault g (suc k) (w ∷ ws) i ≡ termFault g (k + arity g w) ws (suc i)
+  unfolding termFault
+  fault-word k w ws i h n = rw (lt-ltb i 4096 h, n, termFault)
+
+  pub fault-long : (k w : ℕ) (ws : List ℕ) (i : ℕ) → 4096 ≤ i → termFault g (suc k) (w ∷ ws) i ≡ some i
+  unfolding termFault
+  fault-long k w ws i h = rw (le-ltb i 4096 h, termFault)
+
+  pub fault-unknown : (k w : ℕ) (ws : List ℕ) (i : ℕ) → isSymbol g w ≡ false → termFault g (suc k) (w ∷ ws) i ≡ some i
+  unfolding termFault
+  fault-unknown k w ws i h = go (ltb i 4096) refl
+    where
+      go : (b : Bool) → ltb i 4096 ≡ b → termFault g (suc k) (w ∷ ws) i ≡ some i
+      go true e = rw (e, h, termFault)
+      go false e = rw (e, termFault)
+
+  -- no fault: the words are k whole terms, and not too many
+  pub fault-none : (ws : List ℕ) (k i : ℕ) → i ≤ 4096 → termFault g k ws i ≡ none → Forest g (Symbol g) k ws × (i + length ws ≤ 4096)
+  unfolding termFault
+  fault-none [] zero i h e = (empty, omega arith)
+  fault-none [] (suc k) i h e = absurd (let z : _≡_ {A = ℕ} 0 1 = cc in omega arith)
+  fault-none (w ∷ ws) zero i h e = absurd (let z : _≡_ {A = ℕ} 0 1 = cc in omega arith)
+  fault-none (w ∷ ws) (suc k) i h e =
+      elim (decLt i 4096) [
+        | no l ↦ absurd (let z : _≡_ {A = ℕ} 0 1 = cc (fault-long k w ws i (omega arith)) in omega arith)
+        | yes l ↦ go l (isSymbol g w) refl (fault-none ws (k + arity g w) (suc i) l)
+      ]
+    where
+      go : i < 4096 → (b : Bool) → isSymbol g w ≡ b →
+          (termFault g (k + arity g w) ws (suc i) ≡ none → Forest g (Symbol g) (k + arity g w) ws × (suc i + length ws ≤ 4096)) →
+          Forest g (Symbol g) (suc k) (w ∷ ws) × (i + length (w ∷ ws) ≤ 4096)
+      go l true m ih = let c = ih (sym (fault-word k w ws i l m) ∙ e) in (more m (c .0), let z = c .1 in omega arith)
+      go l false m ih = absurd (let z : _≡_ {A = ℕ} 0 1 = cc (fault-unknown k w ws i m) in omega arith)
+
+  pub none-fault : {k : ℕ} {ws : List ℕ} (i : ℕ) → Forest g (Symbol g) k ws → i + length ws ≤ 4096 → termFault g k ws i ≡ none
+  none-fault i empty h = unfold termFault in refl
+  none-fault i (more {w} {k} {ws} n f) h = fault-word k w ws i (omega arith) n ∙ none-fault (suc i) f (omega arith)
+
+  pub fault-whole : (ws : List ℕ) → termFault g 1 ws 0 ≡ none → Whole g ws × (length ws ≤ 4096)
+  fault-whole ws e = let c = fault-none ws 1 0 (omega arith) e in (c .0, let z = c .1 in omega arith)
+
+  pub whole-fault : (ws : List ℕ) → Whole g ws → length ws ≤ 4096 → termFault g 1 ws 0 ≡ none
+  whole-fault ws f h = none-fault 0 f (omega arith)

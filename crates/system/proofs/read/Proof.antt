@@ -1,0 +1,20 @@
+use Rattle.system.proofs.Answering.{scan-answer}
+use Rattle.system.specs.Reader.{read}
+use mathlib.Core.Path.{_≡_, refl, sym, ap, _∙_}
+use borrow.Author.Needs.{needs}
+use Rattle.system.proofs.read.Statement.{statement}
+use Rattle.system.proofs.read.Tie as tie
+use Rattle.system.proofs.read.Reads as reads
+use Rattle.system.proofs.read.Lts as lts
+use Rattle.system.proofs.reader.scan_book.Reads as scan-book-reads
+
+-- src/lib.rt:33:9
+scan-book-requires : tie.Need-scan-book-requires
+scan-book-requires c κs = search needs
+
+-- src/lib.rt:30:1
+returns : tie.Need-returns
+returns c = scan-answer (read (c .before .before .args .book .now)) (c .scan-book .result) (c .scan-book .ensures)
+
+pub read-spec : {M : Type 1} → statement M
+read-spec = tie.close (tie.spec scan-book-requires returns)

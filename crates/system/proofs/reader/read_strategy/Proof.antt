@@ -1,0 +1,70 @@
+use Rattle.system.proofs.SectionSteps.{strategy-refused, strategy-entries}
+use Rattle.system.specs.Answers.{sectionOf}
+use Rattle.system.specs.Reader.{times, number}
+use Rattle.system.specs.Fault.{range, entry}
+use lib.ListN.{length, getD}
+use Prim.Native.Nat.{ℕ, _+_, _<_, _≤_}
+use native.Mathlib.Omega.{arith}
+use mathlib.Core.Path.{_≡_, refl, sym, ap, _∙_}
+use borrow.Author.Needs.{needs}
+use Rattle.system.proofs.reader.read_strategy.Statement.{statement}
+use Rattle.system.proofs.reader.read_strategy.Tie as tie
+use Rattle.system.proofs.reader.read_strategy.Reads as reads
+use Rattle.system.proofs.reader.read_strategy.Lts as lts
+use Rattle.system.proofs.reader.check.Reads as check-reads
+use Rattle.system.proofs.reader.read_numbers.Reads as read-numbers-reads
+use Rattle.system.proofs.words.wide.Reads as wide-reads
+
+-- src/reader.rt:90:9
+check-requires : tie.Need-check-requires
+check-requires c κs = search needs
+
+-- src/reader.rt:92:9
+returns : tie.Need-returns
+returns c = let a = c .before .before .before .args in
+    (sym (strategy-refused (a .book .now) (a .arity) (a .at) (c .before .check .result) (c .before .check .ensures .0 range refl) (c .if1 .taken)), omega arith)
+
+-- src/reader.rt:97:24
+add-read-numbers : tie.Need-add-read-numbers
+add-read-numbers c = let n = c .before .check .ensures .1 (c .if1 .left) in let h = n .here in omega arith
+
+-- src/reader.rt:97:37
+mul-wide : tie.Need-mul-wide
+mul-wide c = let n = c .before .check .ensures .1 (c .if1 .left) in let h = n .here in search needs
+
+-- src/reader.rt:97:37
+shared-slice-read-wide : tie.Need-shared-slice-read-wide
+shared-slice-read-wide c = let n = c .before .before .check .ensures .1 (c .before .if1 .left) in let h = n .here in omega arith
+
+-- src/reader.rt:97:32
+wide-requires : tie.Need-wide-requires
+wide-requires c κs = search needs
+
+-- src/reader.rt:97:5
+read-numbers-requires : tie.Need-read-numbers-requires
+read-numbers-requires c κs = let n = c .before .before .before .check .ensures .1 (c .before .before .if1 .left) in let h = n .here in let w = c .wide .ensures in
+    omega arith
+
+-- src/reader.rt:85:1
+returns-2 : tie.Need-returns-2
+returns-2 c = let a = c .before .before .before .before .before .before .args in
+    let n = c .before .before .before .before .check .ensures .1 (c .before .before .before .if1 .left) in
+    let w = c .before .wide .ensures .0 in (
+      c .read-numbers .ensures .0 entry refl
+          ∙ ap (λ k. sectionOf (times k (number (a .book .now) entry 0 (a .arity)) (a .at + 1))) w
+          ∙ sym (strategy-entries (a .book .now) (a .arity) (a .at) n),
+      c .read-numbers .ensures .1,
+    )
+
+pub read-strategy-spec : {M : Type 1} → statement M
+read-strategy-spec =
+    tie.close
+    (tie.spec
+    check-requires
+    returns
+    add-read-numbers
+    mul-wide
+    shared-slice-read-wide
+    wide-requires
+    read-numbers-requires
+    returns-2)

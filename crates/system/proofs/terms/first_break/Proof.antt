@@ -1,0 +1,121 @@
+use Rattle.system.proofs.TermSteps.{break-complete, break-long, break-unknown, break-next, break-short, break-none}
+use Rattle.system.specs.Answers.{signatureOf, brokenAt}
+use Rattle.system.specs.TermCheck.{termFault}
+use Rattle.system.specs.Signature.{arity}
+use borrow.Author.Tests.{not-true, not-false}
+use lib.ListN.{length, getD, drop}
+use Prim.Native.Nat.{ℕ, _+_, _-_, _*_, _<_, _≤_}
+use native.Mathlib.Omega.{arith}
+use mathlib.Core.Path.{_≡_, refl, sym, ap, _∙_}
+use borrow.Author.Needs.{needs}
+use Rattle.system.proofs.terms.first_break.Statement.{statement}
+use Rattle.system.proofs.terms.first_break.Tie as tie
+use Rattle.system.proofs.terms.first_break.Reads as reads
+use Rattle.system.proofs.terms.first_break.Lts as lts
+use Rattle.system.proofs.words.arity.Reads as arity-reads
+use Rattle.system.proofs.words.is_symbol.Reads as is-symbol-reads
+
+abbrev Inv-loop : tie.InvT-loop
+Inv-loop book term due₀ i₀ due i = (i ≤ length term) × (i ≤ 4096) × (due ≤ 1 + 65535 * i) × (termFault (signatureOf book) due (drop i term) i ≡ termFault (signatureOf book) 1 term 0)
+
+abbrev μ-loop : tie.MeasureT-loop
+μ-loop book term due₀ i₀ due i = length term - i
+
+-- src/terms.rt:18:5
+loop-holds : tie.Need-loop-holds Inv-loop μ-loop
+loop-holds c = (omega arith, omega arith, omega arith, refl)
+
+-- src/terms.rt:20:13
+returns : tie.Need-returns Inv-loop μ-loop
+returns c = let l = c .before .before .loop in
+    let a = c .before .before .before .before .before .args in
+    ap (brokenAt (a .term .now)) (sym (break-complete (signatureOf (a .book .now)) (a .term .now) (l .due) (l .i) (omega arith) (c .if1 .taken)) ∙ l .inv .3)
+
+-- src/terms.rt:26:13
+returns-2 : tie.Need-returns-2 Inv-loop μ-loop
+returns-2 c = let l = c .before .before .before .loop in
+    let a = c .before .before .before .before .before .before .args in
+    ap (brokenAt (a .term .now)) (sym (break-long (signatureOf (a .book .now)) (a .term .now) (l .due) (l .i) (omega arith) (c .if2 .taken)) ∙ l .inv .3)
+
+-- src/terms.rt:31:17
+mul-w : tie.Need-mul-w Inv-loop μ-loop
+mul-w c = search needs
+
+-- src/terms.rt:31:17
+shared-slice-read-w : tie.Need-shared-slice-read-w Inv-loop μ-loop
+shared-slice-read-w c = search needs
+
+-- src/terms.rt:32:13
+is-symbol-requires : tie.Need-is-symbol-requires Inv-loop μ-loop
+is-symbol-requires c κs = search needs
+
+-- src/terms.rt:33:13
+returns-3 : tie.Need-returns-3 Inv-loop μ-loop
+returns-3 c = let l = c .before .before .before .before .before .before .loop in
+    let a = c .before .before .before .before .before .before .before .before .before .args in
+    ap (brokenAt (a .term .now)) (sym (break-unknown (signatureOf (a .book .now)) (a .term .now) (l .due) (l .i) (omega arith) (omega arith) (sym (c .before .is-symbol .ensures) ∙ not-true _ (c .if3 .taken))) ∙ l .inv .3)
+
+-- src/terms.rt:38:15
+sub-due : tie.Need-sub-due Inv-loop μ-loop
+sub-due c = search needs
+
+-- src/terms.rt:38:25
+arity-requires : tie.Need-arity-requires Inv-loop μ-loop
+arity-requires c κs = search needs
+
+-- src/terms.rt:38:15
+add-due : tie.Need-add-due Inv-loop μ-loop
+add-due c = search needs
+
+-- src/terms.rt:39:9
+add-i : tie.Need-add-i Inv-loop μ-loop
+add-i c = search needs
+
+-- src/terms.rt:18:5
+loop-less : tie.Need-loop-less Inv-loop μ-loop
+loop-less c = search needs
+
+-- src/terms.rt:18:5
+loop-again : tie.Need-loop-again Inv-loop μ-loop
+loop-again c = let l = c .before .before .before .before .before .before .before .loop in
+    let a = c .before .before .before .before .before .before .before .before .before .before .args in (
+      omega arith,
+      omega arith,
+      omega arith,
+      rw (c .arity .ensures .0) (sym (break-next (signatureOf (a .book .now)) (a .term .now) (l .due) (l .i) (omega arith) (omega arith) (omega arith) (sym (c .before .before .is-symbol .ensures) ∙ not-false _ (c .before .if3 .left))) ∙ l .inv .3),
+    )
+
+-- src/terms.rt:42:9
+returns-4 : tie.Need-returns-4 Inv-loop μ-loop
+returns-4 c = let l = c .before .before .loop in
+    let a = c .before .before .before .before .before .args in
+    ap (brokenAt (a .term .now)) (sym (break-short (signatureOf (a .book .now)) (a .term .now) (l .due) (l .i) (omega arith) (omega arith)) ∙ l .inv .3)
+
+-- src/terms.rt:13:1
+returns-5 : tie.Need-returns-5 Inv-loop μ-loop
+returns-5 c = let l = c .before .before .loop in
+    let a = c .before .before .before .before .before .args in
+    let e : l .i ≡ length (a .term .now) = omega arith in
+    rw e (ap (brokenAt (a .term .now)) (sym (break-none (signatureOf (a .book .now)) (a .term .now) (l .due) (l .i) (omega arith) (omega arith)) ∙ l .inv .3))
+
+pub first-break-spec : {M : Type 1} → statement M
+first-break-spec =
+    tie.close
+    (tie.spec
+    Inv-loop
+    μ-loop
+    loop-holds
+    returns
+    returns-2
+    mul-w
+    shared-slice-read-w
+    is-symbol-requires
+    returns-3
+    sub-due
+    arity-requires
+    add-due
+    add-i
+    loop-less
+    loop-again
+    returns-4
+    returns-5)

@@ -1,0 +1,66 @@
+use Rattle.system.proofs.BookWords.{signature-room, signature-arity, arity-none}
+use Rattle.system.specs.Answers.{signatureOf}
+use Rattle.system.specs.Signature.{arity}
+use lib.ListN.{length, getD}
+use Prim.Native.Nat.{ℕ, _+_, _<_, _≤_}
+use native.Mathlib.Omega.{arith}
+use mathlib.Core.Path.{_≡_, refl, sym, ap, _∙_}
+use borrow.Author.Needs.{needs}
+use Rattle.system.proofs.words.arity.Statement.{statement}
+use Rattle.system.proofs.words.arity.Tie as tie
+use Rattle.system.proofs.words.arity.Reads as reads
+use Rattle.system.proofs.words.arity.Lts as lts
+use Rattle.system.proofs.words.symbols.Reads as symbols-reads
+use Rattle.system.proofs.words.wide.Reads as wide-reads
+
+-- src/words.rt:40:9
+wide-requires : tie.Need-wide-requires
+wide-requires c κs = search needs
+
+-- src/words.rt:41:12
+symbols-requires : tie.Need-symbols-requires
+symbols-requires c κs = search needs
+
+-- src/words.rt:42:26
+add-wide : tie.Need-add-wide
+add-wide c = search needs
+
+-- src/words.rt:42:21
+mul-wide : tie.Need-mul-wide
+mul-wide c = search needs
+
+-- src/words.rt:42:21
+shared-slice-read-wide : tie.Need-shared-slice-read-wide
+shared-slice-read-wide c = let ws = c .before .before .before .before .before .args .book .now in
+    signature-room ws (c .before .before .before .wide .result) (omega arith)
+
+-- src/words.rt:42:9
+wide-requires-2 : tie.Need-wide-requires-2
+wide-requires-2 c κs = search needs
+
+-- src/words.rt:42:9
+returns : tie.Need-returns
+returns c = let a = c .before .before .before .before .before .before .args in
+    let ws = a .book .now in
+    let h : c .before .before .before .before .wide .result < length (signatureOf ws) = omega arith in (
+      c .wide2 .ensures .0 ∙ sym (signature-arity ws (c .before .before .before .before .wide .result) h) ∙ ap (λ n. arity (signatureOf ws) n) (c .before .before .before .before .wide .ensures .0),
+      c .wide2 .ensures .1,
+    )
+
+-- src/words.rt:37:1
+returns-2 : tie.Need-returns-2
+returns-2 c = let a = c .before .before .before .before .args in
+    (sym (arity-none (signatureOf (a .book .now)) (a .w) (let e = c .before .before .wide .ensures in omega arith)), omega arith)
+
+pub arity-spec : {M : Type 1} → statement M
+arity-spec =
+    tie.close
+    (tie.spec
+    wide-requires
+    symbols-requires
+    add-wide
+    mul-wide
+    shared-slice-read-wide
+    wide-requires-2
+    returns
+    returns-2)

@@ -1,0 +1,31 @@
+use Rattle.system.proofs.BookWords.{symbol-test}
+use Rattle.system.specs.Answers.{signatureOf}
+use lib.ListN.{length}
+use lib.Dec.{ltb}
+use mathlib.Core.Bool.{Bool}
+use mathlib.Core.Path.{_≡_, refl, sym, ap, _∙_}
+use borrow.Author.Needs.{needs}
+use Rattle.system.proofs.words.is_symbol.Statement.{statement}
+use Rattle.system.proofs.words.is_symbol.Tie as tie
+use Rattle.system.proofs.words.is_symbol.Reads as reads
+use Rattle.system.proofs.words.is_symbol.Lts as lts
+use Rattle.system.proofs.words.symbols.Reads as symbols-reads
+use Rattle.system.proofs.words.wide.Reads as wide-reads
+
+-- src/words.rt:33:5
+wide-requires : tie.Need-wide-requires
+wide-requires c κs = search needs
+
+-- src/words.rt:33:15
+symbols-requires : tie.Need-symbols-requires
+symbols-requires c κs = search needs
+
+-- src/words.rt:30:1
+returns : tie.Need-returns
+returns c = let a = c .before .before .before .args in
+    ap (λ n. ltb n (c .symbols .result)) (c .before .wide .ensures .0)
+    ∙ ap (λ n. ltb (a .w) n) (c .symbols .ensures)
+    ∙ sym (symbol-test (signatureOf (a .book .now)) (a .w))
+
+pub is-symbol-spec : {M : Type 1} → statement M
+is-symbol-spec = tie.close (tie.spec wide-requires symbols-requires returns)
