@@ -3,6 +3,15 @@ pub mod Matched
 pub mod Firsts
 -- One turn of a loop over the words of a side, over the rules, over the words of a reduct
 pub mod Words
+pub mod Stretched
+-- What the code's loops cite
+pub mod Books
+pub mod Shapes
+pub mod MatchSteps
+pub mod Searches
+pub mod Reducts
 -- The strategy test
 pub mod Idle
 pub mod SafetyTest
+pub mod SafetySteps
+pub mod Tests

@@ -13,7 +13,7 @@ use borrow.Author.Tests.{leb-true, le-leb, eq-eqb, ne-eqb}
 use Rattle.system.specs.Signature.{Symbol, variable}
 use Rattle.system.specs.System.{System, Rule, strategy, rule, noRule, head}
 use Rattle.system.specs.Terms.{Stands, first, later}
-use Rattle.matching.specs.Safety.{Idle, IdleEntry, idle, Constructor, Passes, Safe, every, idleTest, idles, closes, passes}
+use Rattle.matching.specs.Safety.{Idle, IdleEntry, idle, Constructor, Passes, Safe, every, isVariable, idleTest, idles, closes, constructs, passes}
 
 both : (a b : Bool) → (a && b) ≡ true → (a ≡ true) × (b ≡ true)
 both true b e = (refl, e)
@@ -35,11 +35,11 @@ every-all test (r ∷ rs) h = both-true (test r) (every test rs) (h 0 (omega ari
 
 module _ (s : System) (f : ℕ) where
   pub idle-sound : (i : ℕ) → idleTest s f i ≡ true → Idle s f i
-  unfolding idleTest
+  unfolding idleTest isVariable
   idle-sound i e k h q = leb-true variable _ (rw (q, eq-eqb f f refl) at (every-at _ (s .rules) e k h))
 
   pub idle-complete : (i : ℕ) → Idle s f i → idleTest s f i ≡ true
-  unfolding idleTest
+  unfolding idleTest isVariable
   idle-complete i h = every-all _ (s .rules) (λ k l. elim (ℕ-discrete (head (rule s k .lhs)) f) [
     | yes q ↦ rw (q, eq-eqb f f refl) (le-leb variable _ (h k l q))
     | no d ↦ rw (ne-eqb (head (rule s k .lhs)) f d)
@@ -84,30 +84,29 @@ module _ (s : System) (f : ℕ) where
 
 -- the test passes a symbol exactly when 01's rule does
 module _ (s : System) (f : ℕ) where
-  -- whether no left side starts with it
-  abbrev constructs : Bool
-  constructs = every (λ r. not (eqb (head (r .lhs)) f)) (s .rules)
-
-  constructs-sound : constructs ≡ true → Constructor s f
+  constructs-sound : constructs s f ≡ true → Constructor s f
+  unfolding constructs
   constructs-sound e k l q =
       let z : not (eqb (head (rule s k .lhs)) f) ≡ true = every-at (λ r. not (eqb (head (r .lhs)) f)) (s .rules) e k l in
       let z′ = eq-eqb (head (rule s k .lhs)) f q in
       let y : _≡_ {A = ℕ} 0 1 = cc in omega arith
 
+  constructs-complete : Constructor s f → constructs s f ≡ true
+  unfolding constructs
+  constructs-complete h = every-all (λ r. not (eqb (head (r .lhs)) f)) (s .rules) (λ k l. rw (ne-eqb (head (rule s k .lhs)) f (h k l)))
+
   pub passes-sound : passes s f ≡ true → Passes s f
   unfolding passes
-  passes-sound e = go constructs refl e
+  passes-sound e = go (constructs s f) refl e
     where
-      go : (b : Bool) → constructs ≡ b → (b || closes (idleTest s f) (strategy s f)) ≡ true → Passes s f
+      go : (b : Bool) → constructs s f ≡ b → (b || closes (idleTest s f) (strategy s f)) ≡ true → Passes s f
       go true e q = inl (constructs-sound e)
       go false e q = let c = closes-sound s f (strategy s f) q in inr (record { before = c .before; after = c .after; split = c .split; last = c .last })
 
   pub passes-complete : Passes s f → passes s f ≡ true
   unfolding passes
-  passes-complete (inl h) =
-      let e : constructs ≡ true = every-all (λ r. not (eqb (head (r .lhs)) f)) (s .rules) (λ k l. rw (ne-eqb (head (rule s k .lhs)) f (h k l))) in
-      rw e
-  passes-complete (inr h) = rw (h .split, closes-complete s f (h .before) (h .after) (h .last)) (or-true constructs)
+  passes-complete (inl h) = rw (constructs-complete h)
+  passes-complete (inr h) = rw (h .split, closes-complete s f (h .before) (h .after) (h .last)) (or-true (constructs s f))
 
 -- so it passes every symbol exactly when the system is safe
 pub passes-safe : (s : System) → ((f : ℕ) → Symbol (s .arities) f → passes s f ≡ true) → Safe s

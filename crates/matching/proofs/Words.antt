@@ -1,15 +1,14 @@
--- What a loop over the words of a side, of a rule list or of a term asks for: one word, one rule, one word more.
+-- One word of a side: matching it against a term, and filling it.
 use Prim.Native.Nat.{ℕ, suc, _+_, _≤_, _<_}
 use mathlib.Core.Path.{_≡_, refl, sym, ap, _∙_}
-use mathlib.Core.Option.{none, some}
+use mathlib.Core.Option.{none}
 use mathlib.Core.List.{List, [], _∷_, _++_, append-assoc, append-nil}
 use lib.ListN.{length, getD, take, drop, drop-of-length-le}
 use lib.Seq.{drop-cons, drop-drop, take-suc}
 use Rattle.system.specs.Signature.{Signature, span, variable, subterm}
-use Rattle.system.specs.System.{Rule, noRule, instance}
-use Rattle.matching.specs.Matching.{bind, firstMatch}
+use Rattle.system.specs.System.{instance}
+use Rattle.matching.specs.Matching.{bind}
 use Rattle.matching.proofs.Matched.{bind-symbol, bind-differ, bind-past, instance-nil, instance-symbol, instance-variable}
-use Rattle.matching.proofs.Firsts.{first-here, first-next}
 
 module _ (g : Signature) where
   -- matching: word j of a side against word q of a term
@@ -39,19 +38,6 @@ module _ (g : Signature) where
           ∙ bind-past g l (getD t q 0) (drop (suc j) ls) (drop (suc q) t) σ h
           ∙ ap (λ y. bind g (drop (suc j) ls) (drop (span g y 1) y) (σ ++ take (span g y 1) y ∷ [])) (sym e)
           ∙ ap (λ y. bind g (drop (suc j) ls) y (σ ++ take (span g (drop q t) 1) (drop q t) ∷ [])) (drop-drop (span g (drop q t) 1) q t)
-
-  -- the rules in turn
-  module _ (rules : List Rule) (ws : List ℕ) (k : ℕ) (more : k < length rules) where
-    pub search-next : bind g (getD rules k noRule .lhs) ws [] ≡ none → firstMatch g (drop k rules) k ws ≡ firstMatch g (drop (suc k) rules) (suc k) ws
-    search-next e = rw (drop-cons rules k noRule more) (first-next g (getD rules k noRule) (drop (suc k) rules) k ws e)
-
-    pub search-here : (σ : List (List ℕ)) → bind g (getD rules k noRule .lhs) ws [] ≡ some σ →
-        firstMatch g (drop k rules) k ws ≡ some (record { number = k; reduct = instance (λ v. getD σ v []) (getD rules k noRule .rhs) })
-    search-here σ e = rw (drop-cons rules k noRule more) (first-here g (getD rules k noRule) (drop (suc k) rules) k ws σ e)
-
-  pub search-none : (rules : List Rule) (ws : List ℕ) (k : ℕ) → length rules ≤ k → firstMatch g (drop k rules) k ws ≡ none
-  unfolding firstMatch
-  search-none rules ws k h = rw (drop-of-length-le rules h)
 
 -- filling: the words that stand for the first j words of a side
 pub instance-append : (σ : ℕ → List ℕ) (a b : List ℕ) → instance σ (a ++ b) ≡ instance σ a ++ instance σ b

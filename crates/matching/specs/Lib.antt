@@ -1,2 +1,5 @@
+pub mod Accepted
 pub mod Matching
+pub mod Rules
+pub mod Stretches
 pub mod Safety

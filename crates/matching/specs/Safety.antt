@@ -6,9 +6,12 @@ use mathlib.Core.List.{List, [], _∷_, _++_}
 use mathlib.Core.Bool.{Bool, true, false, not, _&&_, _||_}
 use lib.ListN.{length, getD}
 use lib.Dec.{leb, eqb}
-use Rattle.system.specs.Signature.{Symbol, variable, argument}
+use Rattle.system.specs.declared.Answer.{Answer}
+use Rattle.system.specs.Signature.{Signature, Symbol, variable, argument}
 use Rattle.system.specs.System.{System, Rule, strategy, rule, head}
 use Rattle.system.specs.Terms.{Stands}
+use Rattle.system.specs.Reader.{Parsed, ok, fault}
+use Rattle.system.specs.Answers.{answerOf}
 
 -- "An argument is idle if it is a placeholder in every left side starting with that name": the argument of f with i others before it
 abbrev pub Idle : System → ℕ → ℕ → Type 0
@@ -45,9 +48,13 @@ unfoldable pub every : (Rule → Bool) → List Rule → Bool
 every test [] = true
 every test (r ∷ rs) = test r && every test rs
 
+-- whether the argument with i others before it is a variable of the left side
+unfoldable pub isVariable : Signature → List ℕ → ℕ → Bool
+isVariable g lhs i = leb variable (getD lhs (argument g lhs 0 i) 0)
+
 -- whether the argument of f with i others before it is idle
 unfoldable pub idleTest : System → ℕ → ℕ → Bool
-idleTest s f i = every (λ r. not (eqb (head (r .lhs)) f) || leb variable (getD (r .lhs) (argument (s .arities) (r .lhs) 0 i) 0)) (s .rules)
+idleTest s f i = every (λ r. not (eqb (head (r .lhs)) f) || isVariable (s .arities) (r .lhs) i) (s .rules)
 
 -- whether all entries are idle arguments
 unfoldable pub idles : (ℕ → Bool) → List ℕ → Bool
@@ -61,6 +68,22 @@ closes test [] = false
 closes test (zero ∷ es) = idles test es || closes test es
 closes test (suc i ∷ es) = closes test es
 
+-- whether no left side starts with f
+unfoldable pub constructs : System → ℕ → Bool
+constructs s f = every (λ r. not (eqb (head (r .lhs)) f)) (s .rules)
+
 -- whether the symbol f passes
 unfoldable pub passes : System → ℕ → Bool
-passes s f = every (λ r. not (eqb (head (r .lhs)) f)) (s .rules) || closes (idleTest s f) (strategy s f)
+passes s f = constructs s f || closes (idleTest s f) (strategy s f)
+
+-- ---- what the test answers
+
+-- "All pass: 0. Otherwise 14, the place being a name that fails." Which of the symbols that fail is free.
+pub data Tested (s : System) : Answer → Type 0 where
+  passed : Safe s → Tested s (record { number = 0; place = 0; steps = 0 })
+  failed : (f : ℕ) → Symbol (s .arities) f → (Passes s f → ⊥) → Tested s (record { number = 14; place = f; steps = 0 })
+
+-- "A book that the reader refuses gets the reader's answer."
+abbrev pub TestedBook : Parsed System → Answer → Type 0
+TestedBook (ok s i) r = Tested s r
+TestedBook (fault f i) r = r ≡ answerOf (fault f i)

@@ -1,1 +1,56 @@
-// Matching a left side, the first rule that matches, and the strategy test.
+// Matching a left side, the first rule that matches, and the strategy test (01: the order test): the second library, built on the
+// contracts of `system`. The two operations here ask nothing of their caller; `rules` is the inner interface for the
+// layers above, over a book that is known to be accepted.
+ghost use mathlib.Core.Path.{_≡_};
+ghost use Rattle.system.specs.Reader.{read};
+ghost use Rattle.matching.specs.Accepted.{systemOf};
+ghost use Rattle.matching.specs.Stretches.{matchOf};
+ghost use Rattle.matching.specs.Safety.{TestedBook};
+use system::Answer;
+
+pub mod rules;
+mod safety;
+
+// The first rule that matches: its number, the index in the book of the first word of its right side, and how many words that has.
+pub enum Found {
+    Nothing,
+    First {
+        number: usize,
+        rhs: usize,
+        size: usize,
+    },
+}
+
+// What was found, and for each variable where its stretch of the subterm starts and how many words it has; 0 and 0 of the others.
+pub struct Match {
+    pub found: Found,
+    pub starts: [usize; 16],
+    pub lengths: [usize; 16],
+}
+
+// The first rule of the book that matches the subterm at the front of ws; nothing in a book that the reader refuses.
+pub fn first_match(book: &[u16], ws: &[u16]) -> Match
+    ensures { λ r. ⌜ r ≡ matchOf (systemOf (now (book .entry))) (now (ws .entry)) ⌝ }
+{
+    let shape = system::shape_of(book);
+    if shape.symbols == 0 {
+        return Match {
+            found: Found::Nothing,
+            starts: [0; 16],
+            lengths: [0; 16],
+        };
+    }
+    rules::first_rule(book, shape, ws)
+}
+
+// The strategy test: the reader's answer where it refuses the book, else 0 0 0 where every symbol passes, and otherwise 14 with a
+// symbol that fails. Which of those that fail is free.
+pub fn test_strategies(book: &[u16]) -> Answer
+    ensures { λ r. ⌜ TestedBook (read (now (book .entry))) r ⌝ }
+{
+    let shape = system::shape_of(book);
+    if shape.symbols == 0 {
+        return system::read(book);
+    }
+    safety::tested(book, shape)
+}

@@ -1,0 +1,176 @@
+-- The answer of the search over an accepted book: the first redex; and the length of its reduct.
+use Prim.Native.Nat.{ℕ, suc, _+_, _-_, _≤_, _<_}
+use native.Mathlib.Omega.{arith}
+use native.Mathlib.Numerals.{add-one}
+use native.Mathlib.Decide.{decLt}
+use mathlib.Core.Path.{_≡_, refl, sym, ap, _∙_, subst}
+use mathlib.Core.Logic.{_↔_}
+use mathlib.Core.Option.{none, some}
+use mathlib.Core.List.{List, [], _∷_, _++_}
+use lib.ListN.{length, getD, take, drop, length-append, length-drop, length-take, drop-of-length-le}
+use lib.Seq.{drop-cons, getD-take, getD-drop, length-take-le}
+use borrow.Author.Tests.{lt-ltb, le-ltb}
+use Rattle.system.specs.declared.Shape.{Shape}
+use Rattle.system.specs.Signature.{variable}
+use Rattle.system.specs.System.{System, rule, instance}
+use Rattle.system.specs.Terms.{Whole}
+use Rattle.system.specs.Answers.{signatureOf}
+use Rattle.system.proofs.Signatures.{few-symbols}
+use Rattle.matching.specs.declared.Match.{Match}
+use Rattle.matching.specs.declared.Found.{Found}
+use Rattle.matching.specs.declared.Found.the-variants.{Nothing, First}
+use Rattle.matching.specs.Accepted.{systemOf, Accepted}
+use Rattle.matching.specs.Matching.{Matches, bind, redex}
+use Rattle.matching.specs.Stretches.{Stretches, matchOf, value, stretchesOf, redexOf, reductLength, RightSide, Within}
+use Rattle.matching.proofs.Matched.{instance-nil, instance-symbol, instance-variable, instance-cong, bind-sound}
+use Rattle.matching.proofs.Firsts.{redex-first, redex-rest, Fired, fired, unfired}
+use Rattle.matching.proofs.Stretched.{Answers, answers}
+use Rattle.matching.proofs.Words.{fill-symbol, fill-variable}
+use Rattle.matching.proofs.Books.{well, signature, first-rest, match-start, lawful, rule-count}
+
+-- ---- lengths
+
+module _ (lengths : List ℕ) where
+  length-cons-symbol : (w : ℕ) (ls : List ℕ) → w < variable → reductLength lengths (w ∷ ls) ≡ 1 + reductLength lengths ls
+  unfolding reductLength
+  length-cons-symbol w ls h = rw (lt-ltb w variable h)
+
+  length-cons-variable : (w : ℕ) (ls : List ℕ) → variable ≤ w → reductLength lengths (w ∷ ls) ≡ getD lengths (w - variable) 0 + reductLength lengths ls
+  unfolding reductLength
+  length-cons-variable w ls h = rw (le-ltb w variable h)
+
+  length-none : reductLength lengths [] ≡ 0
+  unfolding reductLength
+  length-none = refl
+
+  -- the length of an instance, from the lengths of what the variables stand for
+  pub instance-length : (σ : ℕ → List ℕ) → ((v : ℕ) → length (σ v) ≡ getD lengths v 0) → (ls : List ℕ) → length (instance σ ls) ≡ reductLength lengths ls
+  instance-length σ h [] = rw (instance-nil σ, length-none)
+  instance-length σ h (w ∷ ls) =
+      let ih = instance-length σ h ls in
+      elim (decLt w variable) [
+        | yes l ↦ rw (instance-symbol σ w ls l, length-cons-symbol w ls l) (omega arith)
+        | no l ↦
+            let e : w ≡ variable + (w - variable) = omega arith in
+            rw (instance-variable σ w (w - variable) ls e, length-append (σ (w - variable)) (instance σ ls), length-cons-variable w ls (omega arith), h (w - variable), ih)
+      ]
+
+  -- word j of a right side of `size` words that starts at index `rhs` of the book
+  module _ (book : List ℕ) (rhs size j : ℕ) where
+    abbrev words : ℕ → List ℕ
+    words i = drop i (take size (drop rhs book))
+
+    pub length-done : size ≤ j → reductLength lengths (words j) ≡ 0
+    length-done h =
+        let e : length (take size (drop rhs book)) ≤ j = rw (length-take size (drop rhs book)) (omega arith) in
+        rw (drop-of-length-le (take size (drop rhs book)) e, length-none)
+
+    module _ (fits : rhs + size ≤ length book) (here : j < size) (w : ℕ) (is : w ≡ getD book (rhs + j) 0) where
+      split : words j ≡ w ∷ words (j + 1)
+      split =
+          let n : length (take size (drop rhs book)) ≡ size = length-take-le size (drop rhs book) (rw (length-drop rhs book) (omega arith)) in
+          let e : getD (take size (drop rhs book)) j 0 ≡ w = getD-take size (drop rhs book) j 0 here ∙ getD-drop rhs book j 0 ∙ sym is in
+          rw (add-one j) (drop-cons (take size (drop rhs book)) j 0 (omega arith) ∙ ap (λ y. y ∷ drop (suc j) (take size (drop rhs book))) e)
+
+      pub length-symbol : w < variable → reductLength lengths (words j) ≡ 1 + reductLength lengths (words (j + 1))
+      length-symbol h = ap (reductLength lengths) split ∙ length-cons-symbol w (words (j + 1)) h
+
+      pub length-variable : variable ≤ w → reductLength lengths (words j) ≡ getD lengths (w - variable) 0 + reductLength lengths (words (j + 1))
+      length-variable h = ap (reductLength lengths) split ∙ length-cons-variable w (words (j + 1)) h
+
+-- what a variable stands for is as long as its stretch
+pub value-length : (ws : List ℕ) (a : Stretches) → Within ws (a .starts) (a .lengths) → (v : ℕ) → length (value ws a v) ≡ getD (a .lengths) v 0
+unfolding value
+value-length ws a h v = let i = h .inside v in length-take-le (getD (a .lengths) v 0) (drop (getD (a .starts) v 0) ws) (rw (length-drop (getD (a .starts) v 0) ws) (omega arith))
+
+-- so the reduct is as long as the lengths say
+pub reduct-length : (ws : List ℕ) (a : Stretches) → Within ws (a .starts) (a .lengths) → (ls : List ℕ) → length (instance (value ws a) ls) ≡ reductLength (a .lengths) ls
+reduct-length ws a h ls = instance-length (a .lengths) (value ws a) (value-length ws a h) ls
+
+-- ---- the answer over an accepted book
+
+module _ (b : List ℕ) (sh : Shape) (acc : Accepted b sh) where
+  abbrev s : System
+  s = systemOf b
+
+  module _ (ws : List ℕ) where
+    found : Answers b ws (signatureOf b) (s .rules) 0 (matchOf s ws)
+    found =
+        rw (← match-start b sh acc ws)
+        (answers b ws (signatureOf b) (s .rules) 0 (sh .«first_rule») (first-rest b sh acc .words) (λ j h. lawful b sh acc j (rw (rule-count b sh acc) h)))
+
+    -- the search finds the first redex
+    pub match-redex : redexOf b ws (matchOf s ws) ≡ redex s ws
+    match-redex = found .redex ∙ rw (← signature b sh acc) (sym (redex-first s ws))
+
+    -- its right side, and the stretches of its variables
+    pub match-right : (m : Match) → m ≡ matchOf s ws → {n rhs size : ℕ} → m .found ≡ First n rhs size → RightSide b rhs size
+    match-right m e {n} {rhs} {size} f = found .right n rhs size (ap (λ y. y .found) (sym e) ∙ f)
+
+    pub match-within : (m : Match) → m ≡ matchOf s ws → Within ws (m .starts) (m .lengths)
+    match-within m e = rw e (found .within)
+
+    -- the redex, by what was found
+    pub match-none : (m : Match) → m ≡ matchOf s ws → m .found ≡ Nothing → redex s ws ≡ none
+    unfolding redexOf
+    match-none m e f = sym (match-redex) ∙ ap (redexOf b ws) (sym e) ∙ rw (f, redexOf)
+
+    pub match-some : (m : Match) → m ≡ matchOf s ws → {n rhs size : ℕ} → m .found ≡ First n rhs size →
+        redex s ws ≡ some (record { number = n; reduct = instance (value ws (stretchesOf m)) (take size (drop rhs b)) })
+    unfolding redexOf
+    match-some m e f = sym (match-redex) ∙ ap (redexOf b ws) (sym e) ∙ rw (f, redexOf)
+
+    -- the reduct's length, from the lengths that were found
+    pub match-length : (m : Match) → m ≡ matchOf s ws → (rhs size : ℕ) →
+        length (instance (value ws (stretchesOf m)) (take size (drop rhs b))) ≡ reductLength (m .lengths) (take size (drop rhs b))
+    match-length m e rhs size = reduct-length ws (stretchesOf m) (match-within m e) (take size (drop rhs b))
+
+  -- ---- over a whole subterm u, wherever it stands: a ++ (u ++ d), and ws the words from it on
+
+  module _ (a d : List ℕ) {u : List ℕ} (whole : Whole (s .arities) u) (m : Match) (e : m ≡ matchOf s (u ++ d)) where
+    -- nothing is found: no rule matches
+    pub nothing-matches : m .found ≡ Nothing → (k : ℕ) → k < length (s .rules) → Matches (s .arities) (a ++ (u ++ d)) (length a) (rule s k) → ⊥
+    nothing-matches f = unfired s (well b sh acc) whole a d (sym (redex-rest s (well b sh acc) whole d) ∙ match-none (u ++ d) m e f)
+
+    -- a rule is found: it matches, no lower one does, and the substitution makes the instance, which is whole
+    pub first-matches : {n rhs size : ℕ} → m .found ≡ First n rhs size →
+        Fired s (well b sh acc) whole a d (record { number = n; reduct = instance (value (u ++ d) (stretchesOf m)) (take size (drop rhs b)) })
+    first-matches f = fired s (well b sh acc) whole a d _ (sym (redex-rest s (well b sh acc) whole d) ∙ match-some (u ++ d) m e f)
+
+    -- the words of the stretches fill its left side to the subterm
+    pub found-instance : {n rhs size : ℕ} → m .found ≡ First n rhs size → instance (value (u ++ d) (stretchesOf m)) (rule s n .lhs) ≡ u
+    found-instance {n} {rhs} {size} f =
+        let w = well b sh acc in
+        let c = found (u ++ d) .chosen n rhs size (ap (λ y. y .found) (sym e) ∙ f) in
+        let z = first-matches f .known in
+        let i : c .index ≡ n = (let q = c .number in omega arith) in
+        let law = w .lawful n z in
+        let q : bind (s .arities) (rule s n .lhs) (u ++ d) [] ≡ some (c .σ) =
+        ap (λ y. bind y (rule s n .lhs) (u ++ d) []) (signature b sh acc) ∙ subst (λ y. bind (signatureOf b) (rule s y .lhs) (u ++ d) [] ≡ some (c .σ)) i (c .bound) in
+        instance-cong (value (u ++ d) (stretchesOf m)) (λ v. getD (c .σ) v []) (rule s n .lhs) (λ v k st y. ap (λ x. value (u ++ d) (stretchesOf x) k) e ∙ sym (c .reads .values k))
+        ∙ bind-sound (s .arities) (few-symbols s w) d [] (c .σ) (law .left) (law .numbered) whole refl q .filled
+
+    -- so a rule is found exactly if some rule matches
+    pub found-exactly : (m .found ≡ Nothing) ↔ ((k : ℕ) → k < length (s .rules) → Matches (s .arities) (a ++ (u ++ d)) (length a) (rule s k) → ⊥)
+    found-exactly = (nothing-matches, λ h. go (m .found) refl h)
+      where
+        go : (o : Found) → m .found ≡ o → ((k : ℕ) → k < length (s .rules) → Matches (s .arities) (a ++ (u ++ d)) (length a) (rule s k) → ⊥) → m .found ≡ Nothing
+        go Nothing f h = f
+        go (First n rhs size) f h = let c = first-matches f in absurd (h n (c .known) (c .match))
+
+-- ---- writing the reduct: after j words of the right side that starts at index `rhs` of the book stands `instance σ (take j (drop rhs b))`
+
+module _ (σ : ℕ → List ℕ) (b : List ℕ) (rhs j w : ℕ) (here : rhs + j < length b) (is : w ≡ getD b (rhs + j) 0) where
+  in-rest : j < length (drop rhs b)
+  in-rest = rw (length-drop rhs b) (omega arith)
+
+  word : getD (drop rhs b) j 0 ≡ w
+  word = getD-drop rhs b j 0 ∙ sym is
+
+  pub written-symbol : w < variable → instance σ (take (j + 1) (drop rhs b)) ≡ instance σ (take j (drop rhs b)) ++ w ∷ []
+  written-symbol h = rw (add-one j) (fill-symbol σ (drop rhs b) j in-rest (rw word h) ∙ ap (λ y. instance σ (take j (drop rhs b)) ++ y ∷ []) word)
+
+  pub written-variable : variable ≤ w → instance σ (take (j + 1) (drop rhs b)) ≡ instance σ (take j (drop rhs b)) ++ σ (w - variable)
+  written-variable h =
+      let e : getD (drop rhs b) j 0 ≡ variable + (w - variable) = (let z = word in omega arith) in
+      rw (add-one j) (fill-variable σ (drop rhs b) j in-rest (w - variable) e)

@@ -1,0 +1,263 @@
+-- The stretches are what `bind` finds: the same rules match, and the words of the stretches are bind's substitution. So the answer of the
+-- search is the first redex.
+use Prim.Native.Nat.{ℕ, suc, _+_, _-_, _≤_, _<_}
+use native.Mathlib.Omega.{arith}
+use native.Mathlib.Numerals.{add-one}
+use native.Mathlib.Decide.{ℕ-discrete, decLt}
+use mathlib.Core.Path.{_≡_, refl, sym, ap, _∙_, subst, subst₂}
+use mathlib.Core.Option.{Option, none, some}
+use mathlib.Core.List.{List, [], _∷_, _++_}
+use lib.ListN.{length, getD, take, drop, set, replicate, length-append, length-drop, length-set, length-replicate, getD-replicate, List·getD-eq-default, List·getD-append}
+use lib.Seq.{getD-take, getD-drop, getD-at, getD-set-same, getD-set-other, drop-cons}
+use Rattle.system.specs.Signature.{Signature, variable, variables, span, subterm}
+use Rattle.system.specs.System.{Rule, noRule, instance}
+use Rattle.system.specs.Terms.{Numbered, end, name, next, Lawful}
+use Rattle.system.specs.Format.{encodeRules}
+use Rattle.system.proofs.Accepts.{forest-some}
+use Rattle.system.proofs.Forests.{stands-getD}
+use Rattle.system.proofs.Located.{RuleAt, rule-listed}
+use Rattle.system.proofs.Spans.{span-le}
+use Rattle.matching.specs.Matching.{bind, Redex, firstMatch}
+use Rattle.matching.specs.declared.Match.{Match}
+use Rattle.matching.specs.declared.Found.the-variants.{First}
+use Rattle.matching.specs.Stretches.{Stretches, unset, stretches, nothing, matchFrom, value, stretchesOf, redexOf, RightSide, Within}
+use Rattle.matching.proofs.Matched.{bind-nil, instance-cong, numbered-le}
+use Rattle.matching.proofs.Firsts.{first-here, first-next, first-nil}
+use Rattle.matching.proofs.Words.{match-end, match-symbol, match-differ, match-variable}
+use Rattle.matching.proofs.MatchSteps.{takes-end, takes-variable, takes-differ, takes-same, note-symbol, note-variable, words-end, words-stop, words-next, from-nil, from-here, from-next}
+
+-- a list of zeros
+zero-at : (n v : ℕ) → _≡_ {A = ℕ} (getD (replicate n 0) v 0) 0
+zero-at n v = elim (decLt v n) [ yes h ↦ getD-replicate n v 0 0 h | no h ↦ List·getD-eq-default (replicate n 0) 0 {n = v} (rw (length-replicate {A = ℕ} n 0) (omega arith)) ]
+
+module _ (t : List ℕ) where
+  -- the values that were bound are the words of the stretches
+  pub record Reads (σ : List (List ℕ)) (a : Stretches) : Type 0 where
+    pub values : (v : ℕ) → getD σ v [] ≡ value t a v
+    pub within : Within t (a .starts) (a .lengths)
+
+  pub data Agree : Option (List (List ℕ)) → Option Stretches → Type 0 where
+    neither : Agree none none
+    both : {σ : List (List ℕ)} {a : Stretches} → Reads σ a → Agree (some σ) (some a)
+
+  reads-none : Reads [] unset
+  unfolding unset value
+  reads-none = record {
+    values = λ v. rw (zero-at variables v);
+    within = record { size-starts = refl; size-lengths = refl; inside = λ v. rw (zero-at variables v) (omega arith) };
+  }
+
+  -- one stretch more
+  module _ (σ : List (List ℕ)) (a : Stretches) (n q m : ℕ) (count : length σ ≡ n) (few : n < variables) (fits : q + m ≤ length t) (before : Reads σ a) where
+    abbrev a′ : Stretches
+    a′ = record { starts = set (a .starts) n q; lengths = set (a .lengths) n m }
+
+    abbrev x : List ℕ
+    x = take m (drop q t)
+
+    in-starts : n < length (a .starts)
+    in-starts = omega (arith, before .within .size-starts)
+
+    in-lengths : n < length (a .lengths)
+    in-lengths = omega (arith, before .within .size-lengths)
+
+    value-same : value t a′ n ≡ x
+    unfolding value
+    value-same = rw (getD-set-same (a .lengths) n m 0 in-lengths, getD-set-same (a .starts) n q 0 in-starts)
+
+    value-other : (v : ℕ) → (v ≡ n → ⊥) → value t a′ v ≡ value t a v
+    unfolding value
+    value-other v d = rw (getD-set-other (a .lengths) n v m 0 d, getD-set-other (a .starts) n v q 0 d)
+
+    inside-other : (v : ℕ) → (v ≡ n → ⊥) → getD (a′ .starts) v 0 + getD (a′ .lengths) v 0 ≤ length t
+    inside-other v d = rw (getD-set-other (a .lengths) n v m 0 d, getD-set-other (a .starts) n v q 0 d) (before .within .inside v)
+
+    inside-same : getD (a′ .starts) n 0 + getD (a′ .lengths) n 0 ≤ length t
+    inside-same = rw (getD-set-same (a .lengths) n m 0 in-lengths, getD-set-same (a .starts) n q 0 in-starts) fits
+
+    values-at : (v : ℕ) → getD (σ ++ x ∷ []) v [] ≡ value t a′ v
+    values-at v = elim (ℕ-discrete v n) [
+      | yes e ↦ subst (λ y. getD (σ ++ x ∷ []) y [] ≡ value t a′ y) (sym e) (getD-at σ x [] [] n count ∙ sym value-same)
+      | no d ↦ elim (decLt v n) [
+        | yes h ↦ List·getD-append σ (x ∷ []) [] v (omega arith) ∙ before .values v ∙ sym (value-other v d)
+        | no h ↦
+            List·getD-eq-default (σ ++ x ∷ []) [] {n = v} (rw (length-append σ (x ∷ [])) (omega arith))
+            ∙ sym (List·getD-eq-default σ [] {n = v} (omega arith)) ∙ before .values v ∙ sym (value-other v d)
+      ]
+    ]
+
+    reads-more : Reads (σ ++ x ∷ []) a′
+    reads-more = record {
+      values = values-at;
+      within = record {
+        size-starts = length-set (a .starts) n q ∙ before .within .size-starts;
+        size-lengths = length-set (a .lengths) n m ∙ before .within .size-lengths;
+        inside = λ v. elim (ℕ-discrete v n) [
+          | yes e ↦ subst (λ y. getD (a′ .starts) y 0 + getD (a′ .lengths) y 0 ≤ length t) (sym e) inside-same
+          | no d ↦ inside-other v d
+        ];
+      };
+    }
+
+  module _ (g : Signature) where
+    span-some : (ws : List ℕ) → 0 < length ws → 0 < span g ws 1
+    unfolding span
+    span-some [] h = absurd (omega arith)
+    span-some (w ∷ ws) h = omega arith
+
+    agree : {n m : ℕ} {ls : List ℕ} → Numbered n m ls → m ≤ variables → (q : ℕ) → q ≤ length t → (σ : List (List ℕ)) (a : Stretches) → length σ ≡ n → Reads σ a →
+        Agree (bind g ls (drop q t) σ) (stretches g ls (drop q t) q a)
+    unfolding subterm
+    agree end few q h σ a c r = rw (bind-nil g (drop q t) σ, words-end g [] t 0 q a (omega arith)) (both r)
+    agree (name {w = l} {ws = ls} v nb) few q h σ a c r =
+        elim (decLt q (length t)) [
+          | no past ↦
+              let past′ : length t ≤ q = omega arith in
+              let e : length (drop q t) ≡ 0 = rw (length-drop q t) (omega arith) in
+              rw (
+                match-end g (l ∷ ls) t 0 q σ (omega arith) past′,
+                words-stop g (l ∷ ls) t 0 q a (omega arith) l refl 0 (sym (takes-end g l (drop q t) e)) refl,
+              ) neither
+          | yes here ↦
+              let some : 0 < length (drop q t) = rw (length-drop q t) (omega arith) in
+              let front : getD (drop q t) 0 0 ≡ getD t q 0 = ap (λ y. getD y 0 0) (drop-cons t q 0 here) in
+              elim (ℕ-discrete l (getD t q 0)) [
+                | yes e ↦
+                    rw (
+                      match-symbol g (l ∷ ls) t 0 q σ (omega arith) here v e,
+                      ← add-one q,
+                      words-next g (l ∷ ls) t 0 q a (omega arith) l refl 1 (sym (takes-same g l (drop q t) some v (e ∙ sym front))) (omega arith),
+                      note-symbol l q 1 a v,
+                    )
+                    (agree nb few (q + 1) (omega arith) σ a c r)
+                | no d ↦
+                    rw (
+                      match-differ g (l ∷ ls) t 0 q σ (omega arith) here v d,
+                      words-stop g (l ∷ ls) t 0 q a (omega arith) l refl 0 (sym (takes-differ g l (drop q t) some v (λ e. d (e ∙ front)))) refl,
+                    ) neither
+              ]
+        ]
+    agree (next {n} {m} {w = l} {ws = ls} e nb) few q h σ a c r =
+        let v : variable ≤ l = omega arith in
+        elim (decLt q (length t)) [
+          | no past ↦
+              let past′ : length t ≤ q = omega arith in
+              let e : length (drop q t) ≡ 0 = rw (length-drop q t) (omega arith) in
+              rw (
+                match-end g (l ∷ ls) t 0 q σ (omega arith) past′,
+                words-stop g (l ∷ ls) t 0 q a (omega arith) l refl 0 (sym (takes-end g l (drop q t) e)) refl,
+              ) neither
+          | yes here ↦
+              let some : 0 < length (drop q t) = rw (length-drop q t) (omega arith) in
+              let k : ℕ = span g (drop q t) 1 in
+              let fits : q + k ≤ length t = (let b = rw (length-drop q t) at (span-le g (drop q t) 1) in omega arith) in
+              let i : l - variable ≡ n = omega arith in
+              rw (
+                match-variable g (l ∷ ls) t 0 q σ (omega arith) here v,
+                words-next g (l ∷ ls) t 0 q a (omega arith) l refl k (sym (takes-variable g l (drop q t) some v)) (span-some (drop q t) some),
+                note-variable l q k a v,
+                i,
+              )
+              (agree nb few (q + k) fits (σ ++ take k (drop q t) ∷ []) _ (rw (length-append σ (take k (drop q t) ∷ [])) (omega arith))
+              (reads-more σ a n q k c (let z = numbered-le nb in omega arith) fits r))
+        ]
+
+    -- the left side of a rule
+    pub rule-agree : {r : Rule} → Lawful g r → Agree (bind g (r .lhs) t []) (stretches g (r .lhs) t 0 unset)
+    rule-agree law = agree (law .numbered) (law .few) 0 (omega arith) [] unset refl reads-none
+
+-- ---- the answer of the search
+
+module _ (b ws : List ℕ) where
+  redex-nothing : redexOf b ws nothing ≡ none
+  unfolding redexOf
+  redex-nothing = refl
+
+  redex-found : (k rhs size : ℕ) (a : Stretches) →
+      redexOf b ws (record { found = First k rhs size; starts = a .starts; lengths = a .lengths }) ≡ some (record { number = k; reduct = instance (value ws a) (take size (drop rhs b)) })
+  unfolding redexOf
+  redex-found k rhs size a = refl
+
+  module _ (g : Signature) where
+    -- a rule that stands at `at`
+    module _ (r : Rule) (rs : List Rule) (k at : ℕ) (stands : RuleAt b at r rs) (law : Lawful g r) where
+      abbrev rhs : ℕ
+      rhs = at + 1 + length (r .lhs) + 1
+
+      right-side : RightSide b rhs (length (r .rhs))
+      right-side = record {
+        fits = stands .fits;
+        some = forest-some (law .right);
+        small = law .shortRight;
+        known = λ j h.
+            let e : getD b (rhs + j) 0 ≡ getD (r .rhs) j 0 =
+            sym (getD-drop rhs b j 0) ∙ sym (getD-take (length (r .rhs)) (drop rhs b) j 0 h) ∙ ap (λ y. getD y j 0) (stands .right-words) in
+            let z = law .known (getD (r .rhs) j 0) (stands-getD (r .rhs) j h) in
+            omega (arith, law .few);
+      }
+
+      -- the same reduct
+      found-redex : (σ : List (List ℕ)) (a : Stretches) → Reads ws σ a →
+          instance (value ws a) (take (length (r .rhs)) (drop rhs b)) ≡ instance (λ v. getD σ v []) (r .rhs)
+      found-redex σ a h =
+          (ap (instance (value ws a)) (stands .right-words) ∙ instance-cong (value ws a) (λ v. getD σ v []) (r .rhs) (λ w n st e. sym (h .values n)))
+
+    -- the rule that was found is bound, by the words of the stretches
+    pub record Chosen (rs : List Rule) (k n : ℕ) (a : Stretches) : Type 0 where
+      pub index : ℕ
+      pub number : n ≡ k + index
+      pub σ : List (List ℕ)
+      pub bound : bind g (getD rs index noRule .lhs) ws [] ≡ some σ
+      pub reads : Reads ws σ a
+
+    -- what the search found: the first redex, with its right side and stretches
+    pub record Answers (rs : List Rule) (k : ℕ) (m : Match) : Type 0 where
+      pub redex : redexOf b ws m ≡ firstMatch g rs k ws
+      pub right : (n rhs size : ℕ) → m .found ≡ First n rhs size → RightSide b rhs size
+      pub within : Within ws (m .starts) (m .lengths)
+      pub chosen : (n rhs size : ℕ) → m .found ≡ First n rhs size → Chosen rs k n (stretchesOf m)
+
+    answers-nothing : (k : ℕ) → Answers [] k nothing
+    answers-nothing k = record {
+      redex = redex-nothing ∙ sym (first-nil g k ws);
+      right = λ n rhs size e. absurd (let z : _≡_ {A = ℕ} 0 1 = cc in omega arith);
+      within = reads-none ws .within;
+      chosen = λ n rhs size e. absurd (let z : _≡_ {A = ℕ} 0 1 = cc in omega arith);
+    }
+
+    pub answers : (rs : List Rule) (k at : ℕ) → drop at b ≡ encodeRules rs → ((j : ℕ) → j < length rs → Lawful g (getD rs j noRule)) → Answers rs k (matchFrom g rs k at ws)
+    answers [] k at e law = rw (from-nil g k at ws) (answers-nothing k)
+    answers (r ∷ rs) k at e law = go (rule-agree ws g l) refl refl (answers rs (suc k) (at + 1 + length (r .lhs) + 1 + length (r .rhs)) (stands .rests) (λ j h. law (suc j) (omega arith)))
+      where
+        stands : RuleAt b at r rs
+        stands = rule-listed b at r rs e
+
+        l : Lawful g r
+        l = law 0 (omega arith)
+
+        go : {o : Option (List (List ℕ))} {p : Option Stretches} → Agree ws o p → bind g (r .lhs) ws [] ≡ o → stretches g (r .lhs) ws 0 unset ≡ p →
+            Answers rs (suc k) (matchFrom g rs (suc k) (at + 1 + length (r .lhs) + 1 + length (r .rhs)) ws) → Answers (r ∷ rs) k (matchFrom g (r ∷ rs) k at ws)
+        go neither d q ih = rw (from-next g r rs k at ws q) (record {
+          redex = ih .redex ∙ sym (first-next g r rs k ws d);
+          right = ih .right;
+          within = ih .within;
+          chosen = λ n rhs size e. let c = ih .chosen n rhs size e in record {
+            index = suc (c .index);
+            number = (let z = c .number in omega arith);
+            σ = c .σ;
+            bound = c .bound;
+            reads = c .reads;
+          };
+        })
+        go (both {σ} {a} h) d q ih =
+            let x : ℕ = at + 1 + length (r .lhs) + 1 in
+            let f : List ℕ → Option Redex = λ y. some (record { number = k; reduct = y }) in
+            rw (from-here g r rs k at ws a q) (record {
+              redex = redex-found k x (length (r .rhs)) a ∙ ap f (found-redex r rs k at stands l σ a h) ∙ sym (first-here g r rs k ws σ d);
+              right = λ n rhs size e.
+                  let e₁ : x ≡ rhs = cc in
+                  let e₂ : length (r .rhs) ≡ size = cc in
+                  subst₂ (λ y z. RightSide b y z) e₁ e₂ (right-side r rs k at stands l);
+              within = h .within;
+              chosen = λ n rhs size e. let z : k ≡ n = cc in record { index = 0; number = omega arith; σ = σ; bound = d; reads = h };
+            })

@@ -1,0 +1,49 @@
+-- The answer of the strategy test: 0 exactly for an accepted book whose system is safe, and 14 at a symbol that fails.
+use Prim.Native.Nat.{ℕ}
+use native.Mathlib.Omega.{arith}
+use mathlib.Core.Path.{_≡_, refl, sym, ap, _∙_}
+use mathlib.Core.List.{List}
+use lib.ListN.{length}
+use Rattle.system.specs.declared.Answer.{Answer}
+use Rattle.system.specs.Signature.{Symbol}
+use Rattle.system.specs.System.{System}
+use Rattle.system.specs.Reader.{Parsed, ok, fault, read}
+use Rattle.system.proofs.Located.{fault-not-zero}
+use Rattle.matching.specs.Accepted.{systemFrom, systemOf}
+use Rattle.matching.specs.Safety.{Passes, Safe, Tested, passed, failed, TestedBook}
+use Rattle.matching.proofs.Shapes.{reads-system}
+
+-- an accepted book whose system is safe
+pub record SafeBook (b : List ℕ) : Type 0 where
+  pub accepted : read b ≡ ok (systemOf b) (length b)
+  pub safe : Safe (systemOf b)
+
+module _ (s : System) where
+  pub tested-safe : {r : Answer} → Tested s r → r .number ≡ 0 → Safe s
+  tested-safe (passed h) e = h
+  tested-safe (failed f k h) e = absurd (omega arith)
+
+  pub safe-tested : {r : Answer} → Tested s r → Safe s → r ≡ record { number = 0; place = 0; steps = 0 }
+  safe-tested (passed h) e = refl
+  safe-tested (failed f k h) e = absurd (h (e f k))
+
+  -- the place of 14 is a symbol that fails
+  pub tested-fails : {r : Answer} → Tested s r → (r .number ≡ 0 → ⊥) → Symbol (s .arities) (r .place) × (Passes s (r .place) → ⊥)
+  tested-fails (passed h) e = absurd (e refl)
+  tested-fails (failed f k h) e = (k, h)
+
+module _ (b : List ℕ) (r : Answer) (t : TestedBook (read b) r) where
+  -- 0: the book is accepted and safe
+  pub test-safe : r .number ≡ 0 → SafeBook b
+  unfolding systemOf
+  test-safe z = go (read b) refl t
+    where
+      go : (o : Parsed System) → read b ≡ o → TestedBook o r → SafeBook b
+      go (ok s i) e t =
+          let q : systemOf b ≡ s = ap systemFrom e in
+          record { accepted = reads-system b e; safe = rw q (tested-safe s t z) }
+      go (fault f i) e t = absurd (fault-not-zero f (sym (ap (λ y. y .number) t) ∙ z))
+
+  -- and every such book gets it
+  pub safe-test : SafeBook b → r ≡ record { number = 0; place = 0; steps = 0 }
+  safe-test h = safe-tested (systemOf b) (rw (h .accepted) at t) (h .safe)

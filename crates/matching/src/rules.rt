@@ -1,0 +1,134 @@
+// The inner interface for the layers above: matching against an accepted book whose shape is known.
+ghost use mathlib.Core.Path.{_≡_};
+ghost use Prim.Native.Nat.{ℕ, _+_, _≤_};
+ghost use lib.ListN.{length, getD, take, drop};
+ghost use Rattle.system.specs.Answers.{signatureOf};
+ghost use Rattle.matching.specs.Accepted.{systemOf, Accepted};
+ghost use Rattle.matching.specs.Rules.{placeOf, after};
+ghost use Rattle.matching.specs.Stretches.{takes, matchOf, RightSide, reductLength};
+use crate::Found;
+use crate::Match;
+use system::Shape;
+use system::words::span;
+use system::words::wide;
+
+// Where the variables start among the words of a side.
+pub const VARIABLE: usize = 32768;
+
+// A rule in the book: the index of the first word of each side, how many words each side has, and the index after the rule.
+pub struct Place {
+    pub lhs: usize,
+    pub width: usize,
+    pub rhs: usize,
+    pub size: usize,
+    pub next: usize,
+}
+
+// The rule whose first length stands at `at`.
+pub fn rule_at(book: &[u16], at: usize) -> Place
+    requires { ⌜ after (now book) at ≤ length (now book) ⌝ }
+    ensures { λ r. ⌜ r ≡ placeOf (now (book .entry)) at ⌝ }
+{
+    let lhs = at + 1;
+    let width = wide(book[at]);
+    let second = lhs + width;
+    let size = wide(book[second]);
+    let rhs = second + 1;
+    Place {
+        lhs: lhs,
+        width: width,
+        rhs: rhs,
+        size: size,
+        next: rhs + size,
+    }
+}
+
+// How many words at the front of ws a word of a left side takes; 0 where the words are unequal.
+fn takes(book: &[u16], l: u16, ws: &[u16]) -> usize
+    ensures { λ r. ⌜ (r ≡ takes (signatureOf (now (book .entry))) l (now (ws .entry))) × (r ≤ length (now (ws .entry))) ⌝ }
+{
+    if ws.len() == 0 {
+        return 0;
+    }
+    if VARIABLE <= wide(l) {
+        return span(book, ws);
+    }
+    if l != ws[0] {
+        return 0;
+    }
+    1
+}
+
+// The first rule that matches the subterm at the front of ws; what follows the subterm does not count. Most rules start with another
+// symbol: they are given up before the stretches are cleared.
+pub fn first_rule(book: &[u16], shape: Shape, ws: &[u16]) -> Match
+    requires { ⌜ Accepted (now book) shape ⌝ }
+    ensures { λ r. ⌜ r ≡ matchOf (systemOf (now (book .entry))) (now (ws .entry)) ⌝ }
+{
+    let mut found = Found::Nothing;
+    let mut starts = [0usize; 16];
+    let mut lengths = [0usize; 16];
+    let mut k = 0;
+    let mut at = shape.first_rule;
+    'rules: while k < shape.rules {
+        let this = k;
+        let r = rule_at(book, at);
+        let lhs = r.lhs;
+        let width = r.width;
+        at = r.next;
+        k += 1;
+        if takes(book, book[lhs], ws) == 0 {
+            continue 'rules;
+        }
+        let mut s = [0usize; 16];
+        let mut l = [0usize; 16];
+        let mut j = 0;
+        let mut q = 0;
+        'words: while j < width {
+            let w = book[lhs + j];
+            let n = takes(book, w, &ws[q..]);
+            if n == 0 {
+                continue 'rules;
+            }
+            let v = wide(w);
+            if VARIABLE <= v {
+                s[v - VARIABLE] = q;
+                l[v - VARIABLE] = n;
+            }
+            q += n;
+            j += 1;
+        }
+        found = Found::First {
+            number: this,
+            rhs: r.rhs,
+            size: r.size,
+        };
+        starts = s;
+        lengths = l;
+        break 'rules;
+    }
+    Match {
+        found: found,
+        starts: starts,
+        lengths: lengths,
+    }
+}
+
+// How many words the reduct has: the right side's, with the variables' terms of these lengths in their places.
+pub fn reduct_length(book: &[u16], rhs: usize, size: usize, lengths: [usize; 16]) -> usize
+    requires { ⌜ RightSide (now book) rhs size × ((v : ℕ) → getD lengths v 0 ≤ 65535) ⌝ }
+    ensures { λ r. ⌜ r ≡ reductLength lengths (take size (drop rhs (now (book .entry)))) ⌝ }
+{
+    let mut total = 0;
+    let mut j = 0;
+    while j < size {
+        let w = wide(book[rhs + j]);
+        j += 1;
+        if w < VARIABLE {
+            total += 1;
+        } else {
+            total += lengths[w - VARIABLE];
+        }
+    }
+    total
+}

@@ -1,0 +1,123 @@
+// The strategy test, symbol by symbol, over an accepted book whose shape is known.
+ghost use mathlib.Core.Path.{_≡_};
+ghost use mathlib.Core.Bool.{not};
+ghost use Rattle.system.specs.Answers.{signatureOf};
+ghost use Rattle.system.specs.System.{strategy};
+ghost use Rattle.matching.specs.Accepted.{systemOf, Accepted, StrategyAt};
+ghost use Rattle.matching.specs.Safety.{isVariable, idleTest, closes, constructs, passes, Tested};
+use crate::rules::VARIABLE;
+use crate::rules::rule_at;
+use system::Answer;
+use system::Shape;
+use system::words::spans;
+use system::words::wide;
+
+// Whether the argument with i others before it is a variable of the left side.
+fn is_variable(book: &[u16], lhs: &[u16], i: usize) -> bool
+    ensures { λ r. ⌜ r ≡ isVariable (signatureOf (now (book .entry))) (now (lhs .entry)) i ⌝ }
+{
+    if lhs.len() == 0 {
+        return false;
+    }
+    let p = 1 + spans(book, &lhs[1..], i);
+    if lhs.len() <= p {
+        return false;
+    }
+    VARIABLE <= wide(lhs[p])
+}
+
+// Whether the argument of f with i others before it is idle: a variable in every left side that starts with f.
+fn idle(book: &[u16], shape: Shape, f: usize, i: usize) -> bool
+    requires { ⌜ Accepted (now book) shape ⌝ }
+    ensures { λ r. ⌜ r ≡ idleTest (systemOf (now (book .entry))) f i ⌝ }
+{
+    let mut k = 0;
+    let mut at = shape.first_rule;
+    while k < shape.rules {
+        let r = rule_at(book, at);
+        let lhs = r.lhs;
+        let end = lhs + r.width;
+        at = r.next;
+        k += 1;
+        if wide(book[lhs]) == f {
+            if !is_variable(book, &book[lhs..end], i) {
+                return false;
+            }
+        }
+    }
+    true
+}
+
+// Whether some left side starts with f.
+fn defined(book: &[u16], shape: Shape, f: usize) -> bool
+    requires { ⌜ Accepted (now book) shape ⌝ }
+    ensures { λ r. ⌜ r ≡ not (constructs (systemOf (now (book .entry))) f) ⌝ }
+{
+    let mut k = 0;
+    let mut at = shape.first_rule;
+    while k < shape.rules {
+        let r = rule_at(book, at);
+        let lhs = r.lhs;
+        at = r.next;
+        k += 1;
+        if wide(book[lhs]) == f {
+            return true;
+        }
+    }
+    false
+}
+
+// Whether the strategy of f, which stands at `at`, holds a 0 and only idle arguments after the last 0. It is looked through from its end.
+fn closes(book: &[u16], shape: Shape, f: usize, at: usize) -> bool
+    requires { ⌜ Accepted (now book) shape × StrategyAt (now book) f at ⌝ }
+    ensures { λ r. ⌜ r ≡ closes (idleTest (systemOf (now (book .entry))) f) (strategy (systemOf (now (book .entry))) f) ⌝ }
+{
+    let mut i = wide(book[at]);
+    while 0 < i {
+        let e = wide(book[at + i]);
+        if e == 0 {
+            return true;
+        }
+        if !idle(book, shape, f, e - 1) {
+            return false;
+        }
+        i -= 1;
+    }
+    false
+}
+
+// Whether the symbol f passes, whose strategy stands at `at`.
+fn passes(book: &[u16], shape: Shape, f: usize, at: usize) -> bool
+    requires { ⌜ Accepted (now book) shape × StrategyAt (now book) f at ⌝ }
+    ensures { λ r. ⌜ r ≡ passes (systemOf (now (book .entry))) f ⌝ }
+{
+    if !defined(book, shape, f) {
+        return true;
+    }
+    closes(book, shape, f, at)
+}
+
+// 0 0 0 where every symbol passes, else 14 and a symbol that fails.
+pub fn tested(book: &[u16], shape: Shape) -> Answer
+    requires { ⌜ Accepted (now book) shape ⌝ }
+    ensures { λ r. ⌜ Tested (systemOf (now (book .entry))) r ⌝ }
+{
+    let mut f = 0;
+    let mut at = shape.strategies;
+    while f < shape.symbols {
+        if !passes(book, shape, f, at) {
+            return Answer {
+                number: 14,
+                place: f,
+                steps: 0,
+            };
+        }
+        at = at + 1 + wide(book[at]);
+        f += 1;
+    }
+    Answer {
+        number: 0,
+        place: 0,
+        steps: 0,
+    }
+}
