@@ -2,7 +2,7 @@
 use Prim.Native.Nat.{ℕ, suc, _+_, _≤_, _<_}
 use native.Mathlib.Nat.{zero-add, suc-add}
 use native.Mathlib.Omega.{arith}
-use mathlib.Core.Path.{_≡_, refl, sym, _∙_, subst₂}
+use mathlib.Core.Path.{_≡_, refl, sym, _∙_, subst, subst₂}
 use mathlib.Core.List.{List, [], _∷_, _++_, append-nil, flatten}
 use lib.ListN.{length, getD, set, take, drop, length-append}
 use Rattle.system.specs.Signature.{Signature, Symbol}
@@ -91,9 +91,11 @@ module _ (s : System) where
         let c = evaluate-local s limit wf 64 [] [] t 0 r h (rw (append-nil t) e) in
         let q : r .term ≡ c .part = c .term ∙ append-nil (c .part) in
         let n : r .steps ≡ c .taken = c .steps ∙ zero-add (c .taken) in
+        let path : Steps s 4096 (r .steps) t (r .term) = subst₂ (λ k v. Steps s 4096 k t v) (sym n) (sym q) (rw (append-nil t, append-nil (c .part)) at
+        (walk-steps (c .walk) [] [] (c .bounded) (rw (append-nil t) l) (rw (append-nil t) h) h root (λ e z. z))) in
         record {
+          path = path;
+          none = λ z. steps-none (subst (λ k. Steps s 4096 k t (r .term)) z path);
           whole = rw q (c .whole);
-          path = subst₂ (λ k v. Steps s 4096 k t v) (sym n) (sym q) (rw (append-nil t, append-nil (c .part)) at
-              (walk-steps (c .walk) [] [] (c .bounded) (rw (append-nil t) l) (rw (append-nil t) h) h root (λ e z. z)));
           afford = c .afford (omega arith);
         }

@@ -26,11 +26,11 @@ module _ (s : System) where
         absurd (omega arith)
   ]
 
-  scan-pass : (inner : ℕ → Next) (t es : List ℕ) (c p : ℕ) → redex s (drop p t) ≡ none → scan s inner t (0 ∷ es) c p ≡ scan s inner t es (suc c) p
+  pub scan-pass : (inner : ℕ → Next) (t es : List ℕ) (c p : ℕ) → redex s (drop p t) ≡ none → scan s inner t (0 ∷ es) c p ≡ scan s inner t es (suc c) p
   unfolding scan
   scan-pass inner t es c p e = rw (e, scan)
 
-  scan-fire : (inner : ℕ → Next) (t es : List ℕ) (c p : ℕ) (x : Redex) → redex s (drop p t) ≡ some x → scan s inner t (0 ∷ es) c p ≡ ready [] (suc c) x
+  pub scan-fire : (inner : ℕ → Next) (t es : List ℕ) (c p : ℕ) (x : Redex) → redex s (drop p t) ≡ some x → scan s inner t (0 ∷ es) c p ≡ ready [] (suc c) x
   unfolding scan
   scan-fire inner t es c p x e = rw (e, scan)
 

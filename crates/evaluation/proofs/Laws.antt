@@ -6,6 +6,7 @@ use mathlib.Core.Path.{_≡_, refl, sym, ap, _∙_}
 use mathlib.Core.Option.{none, some}
 use mathlib.Core.List.{List, [], _∷_, _++_, append-nil}
 use lib.ListN.{length, getD, drop, drop-of-length-le}
+use lib.Seq.{drop-cons}
 use Rattle.system.specs.Signature.{argument, replace}
 use Rattle.system.specs.System.{System, strategy}
 use Rattle.matching.specs.Matching.{Redex, redex}
@@ -21,6 +22,10 @@ next-entry [] zero e es′ q = absurd (let z : _≡_ {A = ℕ} 0 1 = cc in omega
 next-entry [] (suc c) e es′ q = absurd (let z : _≡_ {A = ℕ} 0 1 = cc in omega arith)
 next-entry (x ∷ es) zero e es′ q = ((cc), (cc))
 next-entry (x ∷ es) (suc c) e es′ q = next-entry es c e es′ q
+
+-- the same, by the entry's index
+pub entry-at : (es : List ℕ) (c e : ℕ) → c < length es → getD es c 0 ≡ e → drop c es ≡ e ∷ drop (suc c) es
+entry-at es c e h q = drop-cons es c 0 h ∙ ap (λ z. z ∷ drop (suc c) es) q
 
 pub lower-sub : (l : ℕ) (cs : List ℕ) → lower l cs ≡ l - length cs
 unfolding lower

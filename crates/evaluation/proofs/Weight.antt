@@ -1,14 +1,15 @@
 -- The measure of the evaluator's loop: it falls with every transition of `Loop.antt`.
 use Prim.Native.Nat.{ℕ, suc, _+_, _-_, _*_, _≤_, _<_}
 use native.Mathlib.Omega.{arith}
-use mathlib.Core.Path.{_≡_, ap, _∙_, subst}
+use mathlib.Core.Path.{_≡_, subst}
 use mathlib.Core.List.{List, [], _∷_, _++_}
 use lib.ListN.{length, getD, drop}
-use lib.Seq.{drop-cons, append-snoc}
+use lib.Seq.{append-snoc}
 use Rattle.system.specs.System.{System}
 use Rattle.system.specs.Terms.{WellFormed}
 use Rattle.evaluation.specs.Evaluation.{Run}
 use Rattle.evaluation.specs.Machine.{strategyAt, position}
+use Rattle.evaluation.proofs.Laws.{entry-at}
 use Rattle.evaluation.proofs.Turns.{turns, total, turns-pop, turns-pass, turns-open, turns-bound, weight-less}
 
 -- the steps that the limit leaves, each for more than all turns without a step, and the turns that are left until the next
@@ -27,12 +28,12 @@ module _ (s : System) (wf : WellFormed s) (limit : ℕ) (cs : List ℕ) (c : ℕ
     pub weight-pass : getD entries c 0 ≡ 0 → weight s limit cs (suc c) r < weight s limit cs c r
     unfolding weight
     weight-pass e =
-        let z = turns-pass s (r .term) 64 0 cs c room (drop (suc c) entries) (drop-cons entries c 0 more ∙ ap (λ z. z ∷ drop (suc c) entries) e) in omega arith
+        let z = turns-pass s (r .term) 64 0 cs c room (drop (suc c) entries) (entry-at entries c 0 more e) in omega arith
 
     pub weight-open : (i : ℕ) → getD entries c 0 ≡ suc i → weight s limit (cs ++ suc c ∷ []) 0 r < weight s limit cs c r
     unfolding weight
     weight-open i e =
-        let z = turns-open s (r .term) 64 0 cs c room (drop (suc c) entries) i (drop-cons entries c 0 more ∙ ap (λ z. z ∷ drop (suc c) entries) e) in
+        let z = turns-open s (r .term) 64 0 cs c room (drop (suc c) entries) i (entry-at entries c (suc i) more e) in
         rw (append-snoc cs (suc c) (0 ∷ [])) (omega arith)
 
   pub weight-fire : (t : List ℕ) → r .steps < limit → weight s limit cs 0 (record { term = t; steps = suc (r .steps) }) < weight s limit cs c r

@@ -1,9 +1,10 @@
 -- The evaluation as a machine that can stop between any two turns and go on. A state is a run and, for each open level, outermost first,
 -- how many entries of its strategy are begun. The level below starts at the argument that the entry last begun tells of.
-use Prim.Native.Nat.{ℕ, zero, suc}
+use Prim.Native.Nat.{ℕ, zero, suc, _<_}
+use mathlib.Core.Path.{_≡_}
 use mathlib.Core.List.{List, [], _∷_, _++_}
 use mathlib.Core.Option.{none, some}
-use lib.ListN.{getD, drop}
+use lib.ListN.{length, getD, drop}
 use Rattle.system.specs.Signature.{argument}
 use Rattle.system.specs.System.{System, strategy}
 use Rattle.matching.specs.Matching.{Redex, redex}
@@ -31,6 +32,11 @@ down s t p c = argument (s .arities) t p (others (last (strategyAt s t p) c))
 unfoldable pub position : System → List ℕ → List ℕ → ℕ → ℕ
 position s t [] p = p
 position s t (c ∷ cs) p = position s t cs (down s t p c)
+
+-- the levels cs are open from p on: at each, the entry last begun is an argument
+pub data Opened (s : System) (t : List ℕ) : ℕ → List ℕ → Type 0 where
+  base : {p : ℕ} → Opened s t p []
+  level : {p c i : ℕ} {cs : List ℕ} → c < length (strategyAt s t p) → getD (strategyAt s t p) c 0 ≡ suc i → Opened s t (down s t p (suc c)) cs → Opened s t p (suc c ∷ cs)
 
 -- the levels that are left below the levels cs
 unfoldable pub lower : ℕ → List ℕ → ℕ

@@ -1,1 +1,66 @@
-// The evaluation of terms by local strategies.
+// The evaluation of terms by local strategies, in memory that the caller lends.
+ghost use mathlib.Core.Path.{_≡_};
+ghost use Prim.Native.Nat.{_≤_};
+ghost use lib.ListN.{length, take};
+ghost use Rattle.buffers.specs.Words.{over, zeros};
+ghost use Rattle.evaluation.specs.Expansion.{expansion};
+
+mod entries;
+mod machine;
+mod reducts;
+mod run;
+
+use crate::run::Ended;
+use system::Answer;
+
+// Expands a term (01: a cue) over a book, with at most `limit` steps (01: the allowance).
+//
+// It checks the buffers (10: `out` below 4,096 words or `work` below 8,192), then the book, then the term; none of these numbers
+// touches a buffer. Otherwise the first 8,192 words of `work` are zero afterwards and the rest is unchanged; and on 0 the answer
+// stands in the first words of `out`, whose other words, and on 11 to 13 all words, are unchanged.
+pub fn expand(book: &[u16], term: &[u16], limit: u32, out: &mut [u16], work: &mut [u16]) -> Answer
+    ensures numbers { λ r. ⌜ r ≡ expansion (now (book .entry)) (now (term .entry)) limit (now (out .entry)) (now (work .entry)) .numbers ⌝ }
+    ensures answer { λ _. ⌜ now (out .exit) ≡ expansion (now (book .entry)) (now (term .entry)) limit (now (out .entry)) (now (work .entry)) .answer ⌝ }
+    ensures zeroed { λ _. ⌜ now (work .exit) ≡ expansion (now (book .entry)) (now (term .entry)) limit (now (out .entry)) (now (work .entry)) .work ⌝ }
+{
+    if out.len() < 4096 {
+        return refused(10);
+    }
+    if work.len() < 8192 {
+        return refused(10);
+    }
+    let c = system::check_term(book, term);
+    if c.number != 0 {
+        return c;
+    }
+    let shape = system::shape_of(book);
+    let e = run::run(book, shape, term, limit, &mut work[0..8192]);
+    finish(out, work, e)
+}
+
+// Hands the first words of the area to the caller, none where the run was stopped, and clears the area.
+fn finish(out: &mut [u16], work: &mut [u16], e: Ended) -> Answer
+    requires { ⌜ (8192 ≤ length (now work)) × (e .size ≤ 4096) × (4096 ≤ length (now out)) ⌝ }
+    ensures numbers { λ r. ⌜ r ≡ record { number = e .number; place = e .size; steps = e .steps } ⌝ }
+    ensures answer { λ _. ⌜ now (out .exit) ≡ over (now (out .entry)) 0 (take (e .size) (now (work .entry))) ⌝ }
+    ensures zeroed { λ _. ⌜ now (work .exit) ≡ over (now (work .entry)) 0 (zeros 8192) ⌝ }
+{
+    let n = e.size;
+    buffers::copy_in(out, 0, &work[0..n]);
+    buffers::clear(work, 0, 8192);
+    Answer {
+        number: e.number,
+        place: n,
+        steps: e.steps,
+    }
+}
+
+fn refused(number: u32) -> Answer
+    ensures { λ r. ⌜ r ≡ record { number = number; place = 0; steps = 0 } ⌝ }
+{
+    Answer {
+        number,
+        place: 0,
+        steps: 0,
+    }
+}

@@ -1,8 +1,8 @@
 -- The reader accepts the books that 01 describes and no others: it gives the system s exactly if s is well formed and the words are
 -- the encoding of s.
-use Prim.Native.Nat.{ℕ, zero, suc, _+_, _≤_, zero-le}
+use Prim.Native.Nat.{ℕ, suc, _≤_, zero-le}
 use native.Mathlib.Omega.{arith}
-use native.Mathlib.Nat.{le-of-suc-le-suc, not-suc-le-zero}
+use native.Mathlib.Nat.{not-suc-le-zero}
 use native.Mathlib.Decide.{decLt}
 use mathlib.Core.Path.{_≡_, refl, sym, ap, _∙_}
 use mathlib.Core.Logic.{_↔_}
@@ -14,26 +14,18 @@ use lib.Dec.{ltb}
 use borrow.Author.Tests.{le-ltb, ltb-false}
 use Rattle.system.specs.Signature.{Signature, arity, variable}
 use Rattle.system.specs.System.{System, Rule, noRule, strategy}
-use Rattle.system.specs.Terms.{Forest, more, Stands, first, later, Lawful, WellFormed}
+use Rattle.system.specs.Terms.{Forest, more, Stands, Lawful, WellFormed}
 use Rattle.system.specs.Format.{encodeList, encodeStrategies, encodeRules, encode}
 use Rattle.system.specs.declared.reader.Hand.{Hand}
 use Rattle.system.specs.declared.reader.Hand.the-variants.{Left, Right}
 use Rattle.system.specs.Fault.{range, entry}
 use Rattle.system.specs.Reader.{ok, times, each, number, Reading, readWords, readStrategy, readSide, readRule, readRules, readEnd, readSystem, read}
-use Rattle.system.proofs.Signatures.{arity-getD}
+use Rattle.system.proofs.Signatures.{arity-getD, arity-none}
+use Rattle.system.proofs.Forests.{stands-getD, stands-index}
 use Rattle.system.proofs.Parses.{ok-value, ok-place, not-fault, after-ok, Between, between-join, between-split, between-ok, Reads, reads-iff, one, Every, Pairwise, reads-number, reads-numbers, reads-times, reads-each, reads-counted}
 use Rattle.system.proofs.Sides.{Taken, reads-words, taken-forest, taken-numbered, taken-few, taken-headed, taken-known, left-taken, right-taken}
 
 -- ---- strategies
-
-pub every-stands : (P : ℕ → Type 0) (es : List ℕ) → Every 0 P es → (e : ℕ) → Stands e es → P e
-every-stands P (d ∷ es) h e first = h 0 (omega arith)
-every-stands P (d ∷ es) h e (later s) = every-stands P es (λ k l. h (suc k) (omega arith)) e s
-
-pub stands-every : (P : ℕ → Type 0) (es : List ℕ) → ((e : ℕ) → Stands e es → P e) → Every 0 P es
-stands-every P [] h k l = absurd (not-suc-le-zero l)
-stands-every P (d ∷ es) h zero l = h d first
-stands-every P (d ∷ es) h (suc k) l = stands-every P es (λ e s. h e (later s)) k (le-of-suc-le-suc l)
 
 -- a strategy of a symbol that has arity a
 abbrev pub Strategy : ℕ → List ℕ → Type 0
@@ -44,8 +36,8 @@ module _ (ws : List ℕ) where
   unfolding readStrategy encodeList
   reads-strategy a =
       reads-iff
-      (λ es h. (h .1, every-stands (λ e. e ≤ a) es (λ k l. h .2 k l .1)))
-      (λ es h. (zero-le, h .0, λ k l. (zero-le, stands-every (λ e. e ≤ a) es (h .1) k l)))
+      (λ es h. (h .1, stands-index (λ e. e ≤ a) es (λ k l. h .2 k l .1)))
+      (λ es h. (zero-le, h .0, λ k l. (zero-le, h .1 (getD es k 0) (stands-getD es k l))))
       (reads-counted length (λ n. times n (number ws entry 0 a)) (λ n. reads-numbers ws entry 0 a n) range 0 16)
 
   pub reads-strategies : (g : Signature) →
@@ -177,7 +169,7 @@ pub record Accepted (ws : List ℕ) (j : ℕ) (s : System) : Type 0 where
 
 -- the arities and strategies by index, as the lists are read
 pub narrow-every : (g : Signature) → Every 0 (λ w. (0 ≤ w) × (w ≤ 8)) g → (f : ℕ) → arity g f ≤ 8
-narrow-every g h f = rw (arity-getD g f) (elim (decLt f (length g)) [ yes l ↦ h f l .1 | no l ↦ rw (List·getD-eq-default g 0 {n = f} (omega arith)) zero-le ])
+narrow-every g h f = elim (decLt f (length g)) [ yes l ↦ rw (arity-getD g f) (h f l .1) | no l ↦ rw (arity-none g f (omega arith)) zero-le ]
 
 pub strategy-every : (s : System) → length (s .strategies) ≡ length (s .arities) → Pairwise 0 [] Strategy (s .arities) (s .strategies) →
     (f : ℕ) → Strategy (arity (s .arities) f) (strategy s f)
@@ -185,7 +177,7 @@ unfolding strategy
 strategy-every s e h f = rw (arity-getD (s .arities) f) (elim (decLt f (length (s .arities))) [ yes l ↦ h f l | no l ↦ none (omega arith) ])
   where
     none : length (s .strategies) ≤ f → Strategy (getD (s .arities) f 0) (getD (s .strategies) f [])
-    none l = rw (List·getD-eq-default (s .strategies) [] {n = f} l) (zero-le, every-stands (λ e. e ≤ getD (s .arities) f 0) [] (λ k n. absurd (not-suc-le-zero n)))
+    none l = rw (List·getD-eq-default (s .strategies) [] {n = f} l) (zero-le, stands-index (λ e. e ≤ getD (s .arities) f 0) [] (λ k n. absurd (not-suc-le-zero n)))
 
 pub every-strategy : (s : System) → WellFormed s → Pairwise 0 [] Strategy (s .arities) (s .strategies)
 unfolding strategy

@@ -3,20 +3,18 @@ use Prim.Native.Nat.{ℕ, zero, suc, _+_, _-_, _≤_, _<_}
 use native.Mathlib.Omega.{arith}
 use mathlib.Core.Path.{_≡_, refl, sym, ap, _∙_}
 use mathlib.Core.Option.{Option, none, some}
-use mathlib.Core.Bool.{cond}
 use mathlib.Core.List.{List, [], _∷_}
 use lib.ListN.{length, getD, take, drop}
 use borrow.Author.Tests.{lt-ltb, le-ltb}
 use Rattle.system.specs.declared.reader.Section.{Section}
 use Rattle.system.specs.declared.reader.Scan.{Scan}
 use Rattle.system.specs.Signature.{Signature, arity, span, argument, subterm}
-use Rattle.system.specs.System.{System, head}
+use Rattle.system.specs.System.{System}
 use Rattle.system.specs.Format.{encodeStrategies}
 use Rattle.system.specs.Reader.{Parsed, ok, fault, read}
 use Rattle.system.specs.TermCheck.{termFault}
 use Rattle.system.specs.Answers.{answerOf, shapeOf, scanOf, signatureOf, brokenAt, wholeAnswer, termAnswer, nthArgument, argumentAt}
-use Rattle.system.proofs.Sections.{number-positive}
-use Rattle.system.proofs.Located.{located, read-signature}
+use Rattle.system.proofs.Located.{fault-not-zero, located, read-signature}
 use Rattle.system.proofs.Spans.{tail}
 
 pub scan-answer : (o : Parsed System) (s : Scan) → s ≡ scanOf o → record { number = s .number; place = s .place; steps = 0 } ≡ answerOf o
@@ -24,7 +22,7 @@ scan-answer (ok x i) s e = rw e
 scan-answer (fault f i) s e = rw e
 
 -- an accepted book
-pub record Accepted (ws : List ℕ) (s : Scan) : Type 0 where
+pub record Scanned (ws : List ℕ) (s : Scan) : Type 0 where
   pub system : System
   pub size : ℕ
   pub equal : read ws ≡ ok system size
@@ -32,12 +30,12 @@ pub record Accepted (ws : List ℕ) (s : Scan) : Type 0 where
   pub rules : s .rules ≡ length (system .arities) + 2 + length (encodeStrategies (system .strategies))
 
 module _ (ws : List ℕ) (s : Scan) (is : s ≡ scanOf (read ws)) where
-  pub accepted : s .number ≡ 0 → Accepted ws s
-  accepted e = go (read ws) refl is
+  pub scanned : s .number ≡ 0 → Scanned ws s
+  scanned e = go (read ws) refl is
     where
-      go : (o : Parsed System) → read ws ≡ o → s ≡ scanOf o → Accepted ws s
+      go : (o : Parsed System) → read ws ≡ o → s ≡ scanOf o → Scanned ws s
       go (ok x i) q e′ = record { system = x; size = i; equal = q; arities = read-signature ws q; rules = ap (λ y. y .rules) e′ }
-      go (fault f i) q e′ = absurd (let z = ap (λ y. y .number) e′ in omega (arith, number-positive f))
+      go (fault f i) q e′ = absurd (fault-not-zero f (sym (ap (λ y. y .number) e′) ∙ e))
 
   pub shape-none : (s .number ≡ 0 → ⊥) → record { symbols = 0; strategies = 0; rules = 0; «first_rule» = 0 } ≡ shapeOf (read ws)
   shape-none bad = go (read ws) is
@@ -48,12 +46,12 @@ module _ (ws : List ℕ) (s : Scan) (is : s ≡ scanOf (read ws)) where
 
   module _ (good : s .number ≡ 0) where
     pub rules-within : s .rules < length ws
-    rules-within = let a = accepted good in let l = located ws (a .equal) .size in let r = a .rules in omega arith
+    rules-within = let a = scanned good in let l = located ws (a .equal) .size in let r = a .rules in omega arith
 
     pub shape-some : (n m : ℕ) → n ≡ length (signatureOf ws) → m ≡ getD ws (s .rules) 0 →
         record { symbols = n; strategies = n + 2; rules = m; «first_rule» = s .rules + 1 } ≡ shapeOf (read ws)
     shape-some n m en em =
-        let a = accepted good in
+        let a = scanned good in
         let x = a .system in
         let en′ : n ≡ length (x .arities) = en ∙ ap length (sym (a .arities)) in
         let em′ : m ≡ length (x .rules) = em ∙ ap (λ k. getD ws k 0) (a .rules) ∙ located ws (a .equal) .count in
@@ -72,7 +70,7 @@ module _ (ws : List ℕ) (s : Scan) (is : s ≡ scanOf (read ws)) where
     pub term-checked : s .number ≡ 0 → (b : Section) → b ≡ brokenAt t (termFault (signatureOf ws) 1 t 0) → record { number = b .number; place = b .place; steps = 0 } ≡ termAnswer ws t
     unfolding termAnswer
     term-checked good b eb =
-        let a = accepted good in
+        let a = scanned good in
         rw (a .equal, termAnswer, a .arities, eb) (go (termFault (signatureOf ws) 1 t 0))
       where
         go : (o : Option ℕ) → record { number = brokenAt t o .number; place = brokenAt t o .place; steps = 0 } ≡ wholeAnswer t o
@@ -105,7 +103,7 @@ module _ (ws t : List ℕ) where
       inner g (some i) q z = absurd (omega arith)
 
       go : (o : Parsed System) → read ws ≡ o → Checked ws t
-      go (fault f i) q = absurd (let z = rw (q, termAnswer) at e in omega (arith, number-positive f))
+      go (fault f i) q = absurd (fault-not-zero f (rw (q, termAnswer) at e))
       go (ok x i) q =
           let a = read-signature ws q in
           let w = inner (x .arities) (termFault (x .arities) 1 t 0) refl (rw (q, termAnswer) at e) in

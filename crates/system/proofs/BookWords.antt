@@ -1,13 +1,13 @@
 -- The symbols as the words of any book list them, in the terms of the code.
-use Prim.Native.Nat.{ℕ, suc, _+_, _-_, _≤_, _<_, min}
+use Prim.Native.Nat.{ℕ, _+_, _-_, _≤_, _<_, min}
 use native.Mathlib.Omega.{arith}
-use mathlib.Core.Path.{_≡_, refl, sym, ap, _∙_}
+use mathlib.Core.Path.{_≡_, sym, ap, _∙_}
 use mathlib.Core.List.{List}
-use lib.ListN.{length, getD, take, drop, length-take, length-drop, List·getD-eq-default}
+use lib.ListN.{length, getD, drop, length-take, length-drop}
 use lib.Seq.{getD-take, getD-drop}
-use lib.Dec.{ltb}
-use Rattle.system.specs.Signature.{Signature, isSymbol, arity}
+use Rattle.system.specs.Signature.{arity}
 use Rattle.system.specs.Answers.{signatureOf}
+use Rattle.system.proofs.Signatures.{arity-getD}
 
 module _ (ws : List ℕ) where
   pub signature-length : length (signatureOf ws) ≡ min (getD ws 0 0) (length ws - 1)
@@ -27,15 +27,6 @@ module _ (ws : List ℕ) where
       let e : 1 + i ≡ i + 1 = omega arith in
       getD-take (getD ws 0 0) (drop 1 ws) i 0 (omega (arith, signature-length)) ∙ getD-drop 1 ws i 0 ∙ ap (λ n. getD ws n 0) e
 
-pub arity-none : (g : Signature) (w : ℕ) → length g ≤ w → arity g w ≡ 0
-unfolding arity
-arity-none g w h = List·getD-eq-default g 0 h
-
-pub symbol-test : (g : Signature) (w : ℕ) → isSymbol g w ≡ ltb w (length g)
-unfolding isSymbol
-symbol-test g w = refl
-
 -- the same, by index
 pub signature-word : (ws : List ℕ) (i : ℕ) → i < length (signatureOf ws) → getD (signatureOf ws) i 0 ≡ getD ws (i + 1) 0
-unfolding arity
-signature-word ws i h = signature-arity ws i h
+signature-word ws i h = sym (arity-getD (signatureOf ws) i) ∙ signature-arity ws i h

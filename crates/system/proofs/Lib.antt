@@ -6,6 +6,7 @@ pub mod Spans
 pub mod TermChecks
 -- The reader accepts the encodings of well-formed systems and nothing else
 pub mod Parses
+pub mod SideWords
 pub mod Sides
 pub mod Accepts
 pub mod Located
@@ -18,3 +19,6 @@ pub mod SideSteps
 pub mod SectionSteps
 pub mod ScanSteps
 pub mod Answering
+pub mod Arguments
+-- The starred cases
+pub mod Cases

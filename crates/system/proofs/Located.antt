@@ -2,57 +2,23 @@
 use Prim.Native.Nat.{ℕ, suc, _+_, _-_, _≤_, _<_}
 use native.Mathlib.Omega.{arith}
 use native.Mathlib.Numerals.{add-one}
-use mathlib.Core.Path.{_≡_, refl, sym, ap, _∙_}
+use mathlib.Core.Path.{_≡_, sym, ap, _∙_}
 use mathlib.Core.List.{List, [], _∷_, _++_, append-assoc}
 use lib.ListN.{length, getD, take, drop, length-append, length-drop}
 use lib.Seq.{take-append-seam, drop-cons}
 use Rattle.system.specs.Signature.{Signature}
 use Rattle.system.specs.System.{System, Rule, noRule}
 use Rattle.system.specs.Format.{encodeList, encodeStrategies, encodeRules, encode}
-use Rattle.system.specs.Fault.{Fault, missing, range, entry, unknown, unbalanced, variableHead, unbound, trailing, numberOf}
-use Rattle.system.specs.Reader.{Parsed, ok, fault, times, each, number, Reading, readStrategy, read}
-use Rattle.system.specs.Answers.{signatureOf, sectionOf, sideOf, scanOf, answerOf}
+use Rattle.system.specs.Fault.{Fault, range, numberOf}
+use Rattle.system.specs.Reader.{ok, times, each, number, readStrategy, read}
+use Rattle.system.specs.Answers.{signatureOf}
 use Rattle.system.proofs.Parses.{drop-head, drop-front, reads-numbers}
 use Rattle.system.proofs.Accepts.{reads-strategies, read-sound}
+use Rattle.system.proofs.Sections.{number-positive}
 
--- ---- numbers: 0 is no fault
-
-pub number-of-fault : (f : Fault) → 1 ≤ numberOf f
-unfolding numberOf
-number-of-fault missing = omega arith
-number-of-fault range = omega arith
-number-of-fault entry = omega arith
-number-of-fault unknown = omega arith
-number-of-fault unbalanced = omega arith
-number-of-fault variableHead = omega arith
-number-of-fault unbound = omega arith
-number-of-fault trailing = omega arith
-
+-- number 0 is no fault's
 pub fault-not-zero : (f : Fault) → numberOf f ≡ 0 → ⊥
-fault-not-zero f e = let p = number-of-fault f in omega arith
-
--- what a parser gave that answered 0
-pub record Given {A : Type 0} (p : Parsed A) : Type 0 where
-  pub value : A
-  pub place : ℕ
-  pub equal : p ≡ ok value place
-
-module _ {A : Type 0} where
-  pub section-given : (p : Parsed A) → sectionOf p .number ≡ 0 → Given p
-  section-given (ok a i) e = record { value = a; place = i; equal = refl }
-  section-given (fault f i) e = absurd (fault-not-zero f e)
-
-pub side-given : (p : Parsed Reading) → sideOf p .number ≡ 0 → Given p
-side-given (ok a i) e = record { value = a; place = i; equal = refl }
-side-given (fault f i) e = absurd (fault-not-zero f e)
-
-pub scan-given : (p : Parsed System) → scanOf p .number ≡ 0 → Given p
-scan-given (ok a i) e = record { value = a; place = i; equal = refl }
-scan-given (fault f i) e = absurd (fault-not-zero f e)
-
-pub answer-given : (p : Parsed System) → answerOf p .number ≡ 0 → Given p
-answer-given (ok a i) e = record { value = a; place = i; equal = refl }
-answer-given (fault f i) e = absurd (fault-not-zero f e)
+fault-not-zero f e = let p = number-positive f in omega arith
 
 -- ---- the signature
 

@@ -1,44 +1,30 @@
 -- A count, a length or an entry: what the test of one word tells of the parser.
-use Prim.Native.Nat.{ℕ, suc, _+_, _-_, _≤_, _<_}
+use Prim.Native.Nat.{ℕ, _+_, _-_, _<_}
 use native.Mathlib.Omega.{arith}
 use native.Mathlib.Decide.{decLt}
 use native.Mathlib.Numerals.{add-one}
 use mathlib.Core.Path.{_≡_, refl, sym, ap, _∙_}
 use mathlib.Core.List.{List}
 use lib.ListN.{length, getD}
-use borrow.Author.Tests.{lt-ltb, le-ltb, le-leb, lt-leb}
-use Rattle.system.specs.Fault.{Fault, missing}
-use Rattle.system.specs.Reader.{Parsed, ok, fault, word, number, outside, times}
+use Rattle.system.specs.Fault.{Fault}
+use Rattle.system.specs.Reader.{ok, number, times}
 use Rattle.system.specs.Answers.{sectionOf, Inside}
+use Rattle.system.proofs.Parses.{number-missing, number-below, number-above, number-here}
 use Rattle.system.proofs.Sections.{times-next, times-stop}
 
 module _ (ws : List ℕ) (f : Fault) (low high i : ℕ) where
-  pub number-missing : length ws ≤ i → number ws f low high i ≡ fault missing i
-  unfolding number word
-  number-missing h = rw (le-ltb i (length ws) h, word)
-
-  module _ (here : i < length ws) where
-    pub number-low : getD ws i 0 < low → number ws f low high i ≡ fault f i
-    unfolding number word outside
-    number-low h = rw (lt-ltb i (length ws) here, word) (rw (lt-leb low (getD ws i 0) h))
-
-    pub number-high : low ≤ getD ws i 0 → high < getD ws i 0 → number ws f low high i ≡ fault f i
-    unfolding number word outside
-    number-high l h = rw (lt-ltb i (length ws) here, word) (rw (le-leb low (getD ws i 0) l, lt-leb (getD ws i 0) high h))
-
   pub number-inside : Inside ws i low high → number ws f low high i ≡ ok (getD ws i 0) (i + 1)
-  unfolding number word outside
-  number-inside n = rw (lt-ltb i (length ws) (n .here), word) (rw (le-leb low (getD ws i 0) (n .above), le-leb (getD ws i 0) high (n .below), add-one i))
+  number-inside n = rw (add-one i) (number-here ws f low high i (n .here) (n .above) (n .below))
 
   -- a refused number is refused where it stands
   pub number-place : (sectionOf (number ws f low high i) .number ≡ 0 → ⊥) → sectionOf (number ws f low high i) .place ≡ i
   number-place n =
       elim (decLt i (length ws)) [
-        | no h ↦ ap (λ o. sectionOf o .place) (number-missing (omega arith))
+        | no h ↦ ap (λ o. sectionOf o .place) (number-missing ws f low high i (omega arith))
         | yes h ↦ elim (decLt (getD ws i 0) low) [
-          | yes l ↦ ap (λ o. sectionOf o .place) (number-low h l)
+          | yes l ↦ ap (λ o. sectionOf o .place) (number-below ws f low high i h l)
           | no l ↦ elim (decLt high (getD ws i 0)) [
-            | yes m ↦ ap (λ o. sectionOf o .place) (number-high h (omega arith) m)
+            | yes m ↦ ap (λ o. sectionOf o .place) (number-above ws f low high i h (omega arith) m)
             | no m ↦ absurd (n (ap (λ o. sectionOf o .number) (number-inside (record { here = h; above = omega arith; below = omega arith }))))
           ]
         ]

@@ -1,6 +1,6 @@
 -- Parsers by index: what a parser that succeeds has read, and when it succeeds. A parser is described by an encoder and by which
 -- values are good (`Reads`): it succeeds with x from i up to j exactly if x is good and its encoding stands there.
-use Prim.Native.Nat.{ℕ, zero, suc, _+_, _-_, _≤_, _<_}
+use Prim.Native.Nat.{ℕ, zero, suc, _+_, _≤_, _<_}
 use native.Mathlib.Omega.{arith}
 use native.Mathlib.Nat.{not-suc-le-zero, le-of-suc-le-suc}
 use native.Mathlib.Decide.{decLt}
@@ -8,7 +8,7 @@ use mathlib.Core.Path.{_≡_, refl, sym, ap, _∙_}
 use mathlib.Core.Bool.{Bool, true, false}
 use mathlib.Core.Option.{Option, none, some}
 use mathlib.Core.List.{List, [], _∷_, _++_, append-assoc}
-use lib.ListN.{length, getD, drop, length-append, length-drop, drop-of-length-le}
+use lib.ListN.{length, getD, drop, length-append, drop-of-length-le}
 use lib.Seq.{drop-cons, drop-drop, drop-append-seam}
 use lib.Dec.{ltb, leb}
 use borrow.Author.Tests.{lt-ltb, le-ltb, ltb-true, le-leb, lt-leb, leb-true}
@@ -93,13 +93,6 @@ module _ {ws : List ℕ} where
         record { words = rw f e; ends = refl },
         record { words = f; ends = let l = length-append xs ys in let q = b .ends in omega arith },
       )
-
-  -- they end inside the book
-  pub between-inside : {i j : ℕ} {xs : List ℕ} → Between ws i j xs → i ≤ length ws → j ≤ length ws
-  between-inside {i} {j} {xs} b h =
-      let l : length ws - i ≡ length xs + (length ws - j) = sym (length-drop i ws) ∙ ap length (b .words) ∙ length-append xs (drop j ws) ∙ ap (λ n. length xs + n) (length-drop j ws) in
-      let q = b .ends in
-      omega arith
 
   -- what stands there is known by what the parser gave
   pub between-ok : {A : Type 0} (enc : A → List ℕ) {x y : A} {i j k : ℕ} → ok x j ≡ ok y k → Between ws i j (enc x) → Between ws i k (enc y)
@@ -254,9 +247,17 @@ module _ {A : Type 0} (p : Parser A) where
       let b = after-ok (times n p (a .place)) _ (a .goes) in
       record { head = a .value; tail = b .value; place = a .place; equal = sym (ok-value (b .goes)); first = a .reads; others = b .reads ∙ ap (λ k. ok (b .value) k) (ok-place (b .goes)) }
 
-  pub times-cons : (n : ℕ) {i j k : ℕ} {x : A} {xs : List A} → p i ≡ ok x j → times n p j ≡ ok xs k → times (suc n) p i ≡ ok (x ∷ xs) k
+  -- the first is read: the others decide; it is refused: so is all
+  pub times-step : (n : ℕ) {i j : ℕ} {x : A} → p i ≡ ok x j → times (suc n) p i ≡ after (times n p j) (λ xs k. ok (x ∷ xs) k)
   unfolding times
-  times-cons n a b = rw a (rw b)
+  times-step n a = ok-after a _
+
+  pub times-fault : (n : ℕ) {i j : ℕ} {f : Fault} → p i ≡ fault f j → times (suc n) p i ≡ fault f j
+  unfolding times
+  times-fault n a = fault-after a _
+
+  pub times-cons : (n : ℕ) {i j k : ℕ} {x : A} {xs : List A} → p i ≡ ok x j → times n p j ≡ ok xs k → times (suc n) p i ≡ ok (x ∷ xs) k
+  times-cons n a b = times-step n a ∙ ok-after b _
 
 -- what a parser of a list reads, from what the parser of its elements reads
 module _ {A : Type 0} {ws : List ℕ} {p : Parser A} {enc : A → List ℕ} {Good : A → Type 0} (r : Reads ws p enc Good)
@@ -323,9 +324,16 @@ module _ {A B : Type 0} (p : A → Parser B) where
         others = u .reads ∙ ap (λ k. ok (u .value) k) (ok-place (u .goes));
       }
 
-  pub each-cons : (a : A) (more : List A) {i j k : ℕ} {x : B} {xs : List B} → p a i ≡ ok x j → each p more j ≡ ok xs k → each p (a ∷ more) i ≡ ok (x ∷ xs) k
+  pub each-step : (a : A) (more : List A) {i j : ℕ} {x : B} → p a i ≡ ok x j → each p (a ∷ more) i ≡ after (each p more j) (λ xs k. ok (x ∷ xs) k)
   unfolding each
-  each-cons a more h hs = rw h (rw hs)
+  each-step a more h = ok-after h _
+
+  pub each-fault : (a : A) (more : List A) {i j : ℕ} {f : Fault} → p a i ≡ fault f j → each p (a ∷ more) i ≡ fault f j
+  unfolding each
+  each-fault a more h = fault-after h _
+
+  pub each-cons : (a : A) (more : List A) {i j k : ℕ} {x : B} {xs : List B} → p a i ≡ ok x j → each p more j ≡ ok xs k → each p (a ∷ more) i ≡ ok (x ∷ xs) k
+  each-cons a more h hs = each-step a more h ∙ ok-after hs _
 
 -- P holds of the elements of two lists at each index
 abbrev pub Pairwise : {A B : Type 0} → A → B → (A → B → Type 0) → List A → List B → Type 0

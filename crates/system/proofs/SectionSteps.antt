@@ -1,9 +1,9 @@
 -- The sections of a book in turn: what the numbers of one part tell of the whole section.
-use Prim.Native.Nat.{ℕ, zero, suc, _+_, _-_, _≤_, _<_}
+use Prim.Native.Nat.{ℕ, _+_, _≤_, _<_}
 use native.Mathlib.Omega.{arith}
 use mathlib.Core.Path.{_≡_, refl, sym, ap, _∙_}
-use mathlib.Core.Bool.{Bool, true}
-use mathlib.Core.List.{List, [], _∷_}
+use mathlib.Core.Bool.{true}
+use mathlib.Core.List.{List}
 use lib.ListN.{length, getD}
 use borrow.Author.Tests.{lt-ltb, le-ltb}
 use Rattle.system.specs.declared.reader.Hand.{Hand}
@@ -12,36 +12,21 @@ use Rattle.system.specs.declared.reader.Section.{Section}
 use Rattle.system.specs.declared.reader.Side.{Side}
 use Rattle.system.specs.Signature.{Signature}
 use Rattle.system.specs.System.{Rule}
-use Rattle.system.specs.Fault.{Fault, range, entry, trailing, numberOf}
-use Rattle.system.specs.Reader.{Parsed, ok, fault, Parser, after, Reading, times, number, readStrategy, readWords, readSide, readRule, readRules, readEnd}
+use Rattle.system.specs.Fault.{Fault, range, entry}
+use Rattle.system.specs.Reader.{Parsed, ok, fault, after, Reading, times, number, readStrategy, readWords, readSide, readRule, readRules, readEnd}
 use Rattle.system.specs.Answers.{sectionOf, sideOf, Inside}
-use Rattle.system.proofs.Sections.{number-positive, Taken, taken, Refused, refused, stop}
-use Rattle.system.proofs.NumberSteps.{number-inside, number-place}
+use Rattle.system.proofs.Parses.{ok-after, fault-after}
+use Rattle.system.proofs.Sections.{number-positive, success, refused, stop}
+use Rattle.system.proofs.NumberSteps.{number-inside, number-refused}
 
 -- ---- after a number
 
 module _ {B : Type 0} (ws : List ℕ) (f : Fault) (low high i : ℕ) (on : ℕ → ℕ → Parsed B) where
   pub after-inside : Inside ws i low high → after (number ws f low high i) on ≡ on (getD ws i 0) (i + 1)
-  after-inside n = ap (λ o. after o on) (number-inside ws f low high i n)
+  after-inside n = ok-after (number-inside ws f low high i n) on
 
-  module _ (r : ℕ) (is : r ≡ sectionOf (number ws f low high i) .number) (bad : r ≡ 0 → ⊥) where
-    pub record Bad : Type 0 where
-      pub what : Fault
-      pub equal : after (number ws f low high i) on ≡ fault what i
-      pub number : numberOf what ≡ r
-
-    pub after-bad : Bad
-    after-bad =
-        let n : sectionOf (number ws f low high i) .number ≡ 0 → ⊥ = λ z. bad (is ∙ z) in
-        let x = refused (number ws f low high i) n in
-        record {
-          what = x .what;
-          equal = ap (λ o. after o on) (x .equal) ∙ ap (λ j. fault (x .what) j) (number-place ws f low high i n);
-          number = x .number ∙ sym is;
-        }
-
-    pub section-bad : sectionOf (after (number ws f low high i) on) ≡ record { number = r; place = i }
-    section-bad = let x = after-bad in ap sectionOf (x .equal) ∙ (λ j. record { number = x .number j; place = i })
+  pub section-bad : (r : ℕ) → r ≡ sectionOf (number ws f low high i) .number → (r ≡ 0 → ⊥) → sectionOf (after (number ws f low high i) on) ≡ record { number = r; place = i }
+  section-bad r is bad = stop (number ws f low high i) (record { number = r; place = i }) (sym (number-refused ws f low high i r is bad)) on bad
 
 -- ---- a strategy
 
@@ -60,8 +45,8 @@ module _ (ws : List ℕ) (g : Signature) (hand : Hand) (known i : ℕ) where
   pub side-refused : (r : ℕ) → r ≡ sectionOf (number ws range 1 64 i) .number → (r ≡ 0 → ⊥) → sideOf (readSide ws g hand known i) ≡ record { number = r; place = i; known = 0 }
   unfolding readSide
   side-refused r is bad =
-      let x = after-bad ws range 1 64 i (λ n. readWords ws g hand true n 1 known) r is bad in
-      ap sideOf (x .equal) ∙ (λ j. record { number = x .number j; place = i; known = 0 })
+      let x = refused (number ws range 1 64 i) (record { number = r; place = i }) (sym (number-refused ws range 1 64 i r is bad)) bad in
+      ap sideOf (fault-after (x .equal) _) ∙ (λ j. record { number = x .number j; place = i; known = 0 })
 
   pub side-words : Inside ws i 1 64 → sideOf (readSide ws g hand known i) ≡ sideOf (readWords ws g hand true (getD ws i 0) 1 known (i + 1))
   unfolding readSide
@@ -115,12 +100,10 @@ module _ (ws : List ℕ) (g : Signature) (i : ℕ) where
     here = after-inside ws range 0 128 i rulesOf n
 
     pub rules-bad : (t .number ≡ 0 → ⊥) → sectionOf (readRules ws g i) ≡ t
-    rules-bad bad = ap sectionOf here ∙ rw is (stop (times (getD ws i 0) (readRule ws g) (i + 1)) ending (λ z. bad (ap (λ s. s .number) is ∙ z)))
+    rules-bad bad = ap sectionOf here ∙ stop (times (getD ws i 0) (readRule ws g) (i + 1)) t is ending bad
 
     read-all : t .number ≡ 0 → (rules : List Rule) × (readRules ws g i ≡ ending rules (t .place))
-    read-all good =
-        let x = taken (times (getD ws i 0) (readRule ws g) (i + 1)) (sym (ap (λ s. s .number) is) ∙ good) in
-        (x .value, here ∙ ap (λ o. after o ending) (x .equal) ∙ ap (λ s. ending (x .value) (s .place)) (sym is))
+    read-all good = let x = success (times (getD ws i 0) (readRule ws g) (i + 1)) t is good in (x .value, here ∙ ok-after (x .equal) ending)
 
     pub rules-surplus : t .number ≡ 0 → t .place < length ws → sectionOf (readRules ws g i) ≡ record { number = 8; place = t .place }
     unfolding readEnd

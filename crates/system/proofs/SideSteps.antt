@@ -1,97 +1,22 @@
--- One word of a side, and one turn of the loop over its words.
+-- The words of a side: one turn of the loop over them.
 use Prim.Native.Nat.{ℕ, zero, suc, _+_, _-_, _≤_, _<_}
 use native.Mathlib.Omega.{arith}
 use native.Mathlib.Numerals.{add-one}
 use mathlib.Core.Path.{_≡_, refl, sym, ap, _∙_}
 use mathlib.Core.Bool.{Bool, true, false}
 use mathlib.Core.Option.{Option, none, some}
-use mathlib.Core.List.{List, [], _∷_}
+use mathlib.Core.List.{List, _∷_}
 use lib.ListN.{length, getD}
 use lib.Dec.{eqb}
-use borrow.Author.Tests.{lt-ltb, le-ltb, le-leb, lt-leb, eq-eqb, ne-eqb}
+use borrow.Author.Tests.{ne-eqb}
 use Rattle.system.specs.declared.reader.Hand.{Hand}
-use Rattle.system.specs.declared.reader.Hand.the-variants.{Left, Right}
-use Rattle.system.specs.Signature.{Signature, isSymbol, arity, variable, variables}
-use Rattle.system.specs.Fault.{Fault, missing, unknown, unbalanced, variableHead, unbound, numberOf}
-use Rattle.system.specs.Reader.{Parsed, ok, fault, after, Reading, word, variableFault, sideFault, learn, readWords}
+use Rattle.system.specs.Signature.{Signature, arity}
+use Rattle.system.specs.Fault.{Fault}
+use Rattle.system.specs.Reader.{Parsed, ok, fault, after, Reading, sideFault, learn, readWords}
 use Rattle.system.specs.Answers.{sideOf, numberOr0}
+use Rattle.system.proofs.Parses.{word-here, word-missing, word-refused}
+use Rattle.system.proofs.SideWords.{passes-due}
 use Rattle.system.proofs.Sections.{number-positive}
-
--- ---- a variable
-
-module _ (hand : Hand) (first : Bool) (known k : ℕ) where
-  pub variable-head : hand ≡ Left → first ≡ true → variableFault hand first known k ≡ some variableHead
-  unfolding variableFault
-  variable-head p q = rw (p, q)
-
-  pub variable-next : hand ≡ Left → first ≡ false → k ≡ known → variableFault hand first known k ≡ none
-  unfolding variableFault
-  variable-next p q e = rw (p, q, eq-eqb k known e)
-
-  pub variable-skips : hand ≡ Left → first ≡ false → (k ≡ known → ⊥) → variableFault hand first known k ≡ some unbound
-  unfolding variableFault
-  variable-skips p q e = rw (p, q, ne-eqb k known e)
-
-  pub variable-known : hand ≡ Right → k < known → variableFault hand first known k ≡ none
-  unfolding variableFault
-  variable-known p h = rw (p, lt-ltb k known h)
-
-  pub variable-unbound : hand ≡ Right → known ≤ k → variableFault hand first known k ≡ some unbound
-  unfolding variableFault
-  variable-unbound p h = rw (p, le-ltb k known h)
-
-module _ (hand : Hand) (known w : ℕ) where
-  pub learn-variable : hand ≡ Left → variable ≤ w → learn hand known w ≡ known + 1
-  unfolding learn
-  learn-variable p h = rw (p, le-leb variable w h, add-one known)
-
-  pub learn-symbol : hand ≡ Left → w < variable → learn hand known w ≡ known
-  unfolding learn
-  learn-symbol p h = rw (p, lt-leb variable w h)
-
-  pub learn-right : hand ≡ Right → learn hand known w ≡ known
-  unfolding learn
-  learn-right p = rw p
-
--- ---- a word
-
-module _ (g : Signature) (hand : Hand) (first : Bool) (due known w : ℕ) where
-  pub side-complete : due ≡ 0 → sideFault g hand first due known w ≡ some unbalanced
-  unfolding sideFault
-  side-complete e = rw e
-
-  module _ (open-due : 0 < due) where
-    pub side-symbol : isSymbol g w ≡ true → sideFault g hand first due known w ≡ none
-    unfolding sideFault
-    side-symbol e = go due open-due
-      where
-        go : (d : ℕ) → 0 < d → sideFault g hand first d known w ≡ none
-        go zero h = absurd (omega arith)
-        go (suc d) h = rw (e, sideFault)
-
-    pub side-low : isSymbol g w ≡ false → w < variable → sideFault g hand first due known w ≡ some unknown
-    unfolding sideFault
-    side-low e l = go due open-due
-      where
-        go : (d : ℕ) → 0 < d → sideFault g hand first d known w ≡ some unknown
-        go zero h = absurd (omega arith)
-        go (suc d) h = rw (e, sideFault) (rw (lt-leb variable w l))
-
-    pub side-high : isSymbol g w ≡ false → variable + variables ≤ w → sideFault g hand first due known w ≡ some unknown
-    unfolding sideFault
-    side-high e l = go due open-due
-      where
-        go : (d : ℕ) → 0 < d → sideFault g hand first d known w ≡ some unknown
-        go zero h = absurd (omega arith)
-        go (suc d) h = rw (e, sideFault) (rw (le-leb variable w (omega arith), le-ltb w (variable + variables) l))
-
-    pub side-variable : isSymbol g w ≡ false → variable ≤ w → w < variable + variables → sideFault g hand first due known w ≡ variableFault hand first known (w - variable)
-    unfolding sideFault
-    side-variable e l u = go due open-due
-      where
-        go : (d : ℕ) → 0 < d → sideFault g hand first d known w ≡ variableFault hand first known (w - variable)
-        go zero h = absurd (omega arith)
-        go (suc d) h = rw (e, sideFault) (rw (le-leb variable w l, lt-ltb w (variable + variables) u))
 
 -- ---- the words of a side
 
@@ -107,19 +32,6 @@ number-none (some f) e = absurd (omega (arith, number-positive f))
 number-some : (o : Option Fault) → (numberOr0 o ≡ 0 → ⊥) → (f : Fault) × (o ≡ some f)
 number-some none n = absurd (n refl)
 number-some (some f) n = (f, refl)
-
-module _ (ws : List ℕ) (check : ℕ → Option Fault) (i : ℕ) where
-  word-missing : length ws ≤ i → word ws check i ≡ fault missing i
-  unfolding word
-  word-missing h = rw (le-ltb i (length ws) h, word)
-
-  word-ok : i < length ws → check (getD ws i 0) ≡ none → word ws check i ≡ ok (getD ws i 0) (suc i)
-  unfolding word
-  word-ok h e = rw (lt-ltb i (length ws) h, word) (rw e)
-
-  word-fault : i < length ws → (f : Fault) → check (getD ws i 0) ≡ some f → word ws check i ≡ fault f i
-  unfolding word
-  word-fault h f e = rw (lt-ltb i (length ws) h, word) (rw e)
 
 module _ (ws : List ℕ) (g : Signature) (hand : Hand) (first : Bool) (n due known i : ℕ) where
   abbrev before : ℕ → Reading → ℕ → Parsed Reading
@@ -146,7 +58,7 @@ module _ (ws : List ℕ) (g : Signature) (hand : Hand) (first : Bool) (n due kno
           go zero l f = absurd (omega arith)
           go (suc n) l f =
               ap (λ o. sideOf (after o (λ w j. after (readWords ws g hand false n (due - 1 + arity g w) (learn hand known w) j) (before w))))
-              (word-fault ws (sideFault g hand first due known) i within (f .0) (f .1))
+              (word-refused ws (sideFault g hand first due known) i within (f .1))
               ∙ (λ j. record { number = (sym (is ∙ ap numberOr0 (f .1))) j; place = i; known = 0 })
 
       pub words-next : r ≡ 0 → sideOf (readWords ws g hand first n due known i) ≡
@@ -161,7 +73,7 @@ module _ (ws : List ℕ) (g : Signature) (hand : Hand) (first : Bool) (n due kno
               let m : suc n - 1 ≡ n = omega arith in
               rw (m, add-one i)
               (ap (λ o. sideOf (after o (λ w j. after (readWords ws g hand false n (due - 1 + arity g w) (learn hand known w) j) (before w))))
-              (word-ok ws (sideFault g hand first due known) i within e)
+              (word-here ws (sideFault g hand first due known) i within e)
               ∙ keep (readWords ws g hand false n (due - 1 + arity g (getD ws i 0)) (learn hand known (getD ws i 0)) (suc i)) (getD ws i 0))
 
   pub words-short : n ≡ 0 → 0 < due → sideOf (readWords ws g hand first n due known i) ≡ record { number = 5; place = i; known = 0 }
@@ -178,8 +90,7 @@ module _ (ws : List ℕ) (g : Signature) (hand : Hand) (first : Bool) (n due kno
 
 -- a word without fault completes a subterm that was due
 pub side-open : (g : Signature) (hand : Hand) (first : Bool) (due known w : ℕ) → numberOr0 (sideFault g hand first due known w) ≡ 0 → 0 < due
-side-open g hand first zero known w e = absurd (let z = ap numberOr0 (side-complete g hand first 0 known w refl) in omega arith)
-side-open g hand first (suc due) known w e = omega arith
+side-open g hand first due known w e = passes-due g hand first due known w (number-none (sideFault g hand first due known w) e)
 
 -- ---- the same in the terms of a loop that has read j of the n words from `at` on
 

@@ -4,6 +4,7 @@ use native.Mathlib.Omega.{arith}
 use mathlib.Core.Path.{_≡_, refl}
 use mathlib.Core.Bool.{false}
 use lib.ListN.{length, getD, List·getD-eq-default}
+use lib.Dec.{ltb}
 use borrow.Author.Tests.{lt-ltb, ltb-true, le-ltb}
 use Rattle.system.specs.Signature.{Signature, Symbol, isSymbol, arity, variable}
 use Rattle.system.specs.System.{System}
@@ -22,6 +23,14 @@ module _ (g : Signature) (w : ℕ) where
   unfolding arity
   arity-getD = refl
 
+  pub arity-none : length g ≤ w → arity g w ≡ 0
+  unfolding arity
+  arity-none h = List·getD-eq-default g 0 h
+
+  pub symbol-test : isSymbol g w ≡ ltb w (length g)
+  unfolding isSymbol
+  symbol-test = refl
+
   -- a variable is no symbol
   pub symbol-below : length g ≤ variable → Symbol g w → w < variable
   symbol-below l h = let b = lt-symbol h in omega arith
@@ -31,8 +40,7 @@ module _ (g : Signature) (w : ℕ) where
   variable-not l h = le-ltb w (length g) (omega arith)
 
   pub arity-variable : length g ≤ variable → variable ≤ w → arity g w ≡ 0
-  unfolding arity
-  arity-variable l h = List·getD-eq-default g 0 (omega arith)
+  arity-variable l h = arity-none (omega arith)
 
 -- the symbols of a system that 01 describes stop short of the variables
 pub few-symbols : (s : System) → WellFormed s → length (s .arities) ≤ variable

@@ -7,7 +7,6 @@ use mathlib.Core.Option.{none, some}
 use mathlib.Core.Bool.{Bool, true, false}
 use mathlib.Core.List.{List, [], _∷_}
 use lib.ListN.{length}
-use lib.Dec.{ltb}
 use borrow.Author.Tests.{lt-ltb, le-ltb}
 use Rattle.system.specs.Signature.{Signature, Symbol, isSymbol, arity}
 use Rattle.system.specs.Terms.{Forest, empty, more, Whole}
@@ -19,17 +18,32 @@ module _ (g : Signature) where
   unfolding termFault
   fault-word k w ws i h n = rw (lt-ltb i 4096 h, n, termFault)
 
-  pub fault-long : (k w : ℕ) (ws : List ℕ) (i : ℕ) → 4096 ≤ i → termFault g (suc k) (w ∷ ws) i ≡ some i
+  pub fault-complete : (w : ℕ) (ws : List ℕ) (i : ℕ) → termFault g 0 (w ∷ ws) i ≡ some i
   unfolding termFault
-  fault-long k w ws i h = rw (le-ltb i 4096 h, termFault)
+  fault-complete w ws i = refl
 
-  pub fault-unknown : (k w : ℕ) (ws : List ℕ) (i : ℕ) → isSymbol g w ≡ false → termFault g (suc k) (w ∷ ws) i ≡ some i
+  pub fault-long : (due w : ℕ) (ws : List ℕ) (i : ℕ) → 4096 ≤ i → termFault g due (w ∷ ws) i ≡ some i
   unfolding termFault
-  fault-unknown k w ws i h = go (ltb i 4096) refl
-    where
-      go : (b : Bool) → ltb i 4096 ≡ b → termFault g (suc k) (w ∷ ws) i ≡ some i
-      go true e = rw (e, h, termFault)
-      go false e = rw (e, termFault)
+  fault-long zero w ws i h = refl
+  fault-long (suc k) w ws i h = rw (le-ltb i 4096 h, termFault)
+
+  pub fault-unknown : (due w : ℕ) (ws : List ℕ) (i : ℕ) → isSymbol g w ≡ false → termFault g due (w ∷ ws) i ≡ some i
+  unfolding termFault
+  fault-unknown zero w ws i h = refl
+  fault-unknown (suc k) w ws i h =
+      elim (decLt i 4096) [
+        | yes l ↦ rw (lt-ltb i 4096 l, h, termFault)
+        | no l ↦ fault-long (suc k) w ws i (omega arith)
+      ]
+
+  -- no word is left
+  pub fault-early : (k i : ℕ) → termFault g (suc k) [] i ≡ some i
+  unfolding termFault
+  fault-early k i = refl
+
+  pub fault-end : (i : ℕ) → termFault g 0 [] i ≡ none
+  unfolding termFault
+  fault-end i = refl
 
   -- no fault: the words are k whole terms, and not too many
   pub fault-none : (ws : List ℕ) (k i : ℕ) → i ≤ 4096 → termFault g k ws i ≡ none → Forest g (Symbol g) k ws × (i + length ws ≤ 4096)
@@ -39,7 +53,7 @@ module _ (g : Signature) where
   fault-none (w ∷ ws) zero i h e = absurd (let z : _≡_ {A = ℕ} 0 1 = cc in omega arith)
   fault-none (w ∷ ws) (suc k) i h e =
       elim (decLt i 4096) [
-        | no l ↦ absurd (let z : _≡_ {A = ℕ} 0 1 = cc (fault-long k w ws i (omega arith)) in omega arith)
+        | no l ↦ absurd (let z : _≡_ {A = ℕ} 0 1 = cc (fault-long (suc k) w ws i (omega arith)) in omega arith)
         | yes l ↦ go l (isSymbol g w) refl (fault-none ws (k + arity g w) (suc i) l)
       ]
     where
@@ -47,10 +61,10 @@ module _ (g : Signature) where
           (termFault g (k + arity g w) ws (suc i) ≡ none → Forest g (Symbol g) (k + arity g w) ws × (suc i + length ws ≤ 4096)) →
           Forest g (Symbol g) (suc k) (w ∷ ws) × (i + length (w ∷ ws) ≤ 4096)
       go l true m ih = let c = ih (sym (fault-word k w ws i l m) ∙ e) in (more m (c .0), let z = c .1 in omega arith)
-      go l false m ih = absurd (let z : _≡_ {A = ℕ} 0 1 = cc (fault-unknown k w ws i m) in omega arith)
+      go l false m ih = absurd (let z : _≡_ {A = ℕ} 0 1 = cc (fault-unknown (suc k) w ws i m) in omega arith)
 
   pub none-fault : {k : ℕ} {ws : List ℕ} (i : ℕ) → Forest g (Symbol g) k ws → i + length ws ≤ 4096 → termFault g k ws i ≡ none
-  none-fault i empty h = unfold termFault in refl
+  none-fault i empty h = fault-end i
   none-fault i (more {w} {k} {ws} n f) h = fault-word k w ws i (omega arith) n ∙ none-fault (suc i) f (omega arith)
 
   pub fault-whole : (ws : List ℕ) → termFault g 1 ws 0 ≡ none → Whole g ws × (length ws ≤ 4096)

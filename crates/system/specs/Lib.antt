@@ -6,3 +6,4 @@ pub mod Fault
 pub mod Reader
 pub mod TermCheck
 pub mod Answers
+pub mod Cases

@@ -1,21 +1,33 @@
-use Rattle.system.proofs.Answering.{checked, argument-refused, argument-zero, argument-beyond, argument-there, cut}
+-- The term is whole once its check has answered 0; from there the argument starts and ends within it.
+use Rattle.system.proofs.Answering.{Checked, checked, argument-refused, argument-zero, argument-beyond, argument-there, cut}
 use Rattle.system.proofs.Spans.{tail, tail-length}
-use Rattle.system.specs.Answers.{signatureOf, argumentAt, startOf, partOf}
-use Rattle.system.specs.Signature.{span, subterm}
+use Rattle.system.specs.Answers.{signatureOf, argumentAt}
+use Rattle.system.specs.Signature.{span}
 use mathlib.Core.Option.{some}
-use lib.ListN.{length, getD, take, drop}
-use Prim.Native.Nat.{ℕ, _+_, _-_, _<_, _≤_}
+use lib.ListN.{length}
+use Prim.Native.Nat.{_+_, _≤_}
 use native.Mathlib.Omega.{arith}
-use mathlib.Core.Path.{_≡_, refl, sym, ap, _∙_}
+use mathlib.Core.Path.{_≡_, sym, ap, _∙_}
 use borrow.Author.Needs.{needs}
 use Rattle.system.proofs.argument.Statement.{statement}
 use Rattle.system.proofs.argument.Tie as tie
-use Rattle.system.proofs.argument.Reads as reads
-use Rattle.system.proofs.argument.Lts as lts
-use Rattle.system.proofs.check_term.Reads as check-term-reads
-use Rattle.system.proofs.words.arity.Reads as arity-reads
-use Rattle.system.proofs.words.span.Reads as span-reads
-use Rattle.system.proofs.words.spans.Reads as spans-reads
+
+-- the term is whole, once its check has answered 0
+whole : (c : tie.Else1) → Checked (c .before .before .before .before .before .args .book .now) (c .before .before .before .before .before .args .term .now)
+whole c = checked _ _ (sym (ap (λ s. s .number) (c .before .before .check-term .ensures)) ∙ c .if1 .left)
+
+-- the argument starts and ends within the term
+starts : (c : tie.After-spans) → 1 + c .spans .result ≤ length (c .before .before .before .before .before .before .before .before .before .before .before .args .term .now)
+starts c =
+    let l = whole (c .before .before .before .before .before .before) .some-words in
+    let p = rw tail-length at (c .spans .ensures .1) in
+    omega arith
+
+ends : (c : tie.After-span) → 1 + c .before .before .spans .result + c .span .result ≤ length (c .before .before .before .before .before .before .before .before .before .before .before .before .before .args .term .now)
+ends c =
+    let l = starts (c .before .before) in
+    let q = rw tail-length at (c .span .ensures .1) in
+    omega arith
 
 -- src/lib.rt:91:9
 check-term-requires : tie.Need-check-term-requires
@@ -55,18 +67,12 @@ part-result-end-2 c = search needs
 -- src/lib.rt:96:9
 returns-2 : tie.Need-returns-2
 returns-2 c = let a = c .before .before .before .before .before .before .before .args in
-    let k = c .before .before .before .before .check-term in
-    let h = checked (a .book .now) (a .term .now) (sym (ap (λ s. s .number) (k .ensures)) ∙ c .before .before .if1 .left) in
-    let e = argument-zero (a .book .now) (a .term .now) h (a .i) (c .before .if2 .taken) in
+    let e = argument-zero (a .book .now) (a .term .now) (whole (c .before .before)) (a .i) (c .before .if2 .taken) in
     (rw e, rw e)
 
 -- src/lib.rt:98:27
 shared-slice-read-arity : tie.Need-shared-slice-read-arity
-shared-slice-read-arity c = let a = c .before .before .before .before .before .before .before .args in
-    let k = c .before .before .before .before .check-term in
-    let h = checked (a .book .now) (a .term .now) (sym (ap (λ s. s .number) (k .ensures)) ∙ c .before .before .if1 .left) in
-    let l = h .some-words in
-    search needs
+shared-slice-read-arity c = whole (c .before .before) .some-words
 
 -- src/lib.rt:98:8
 arity-requires : tie.Need-arity-requires
@@ -87,27 +93,17 @@ part-result-end-3 c = search needs
 -- src/lib.rt:99:9
 returns-3 : tie.Need-returns-3
 returns-3 c = let a = c .before .before .before .before .before .before .before .before .before .before .args in
-    let k = c .before .before .before .before .before .before .before .check-term in
-    let h = checked (a .book .now) (a .term .now) (sym (ap (λ s. s .number) (k .ensures)) ∙ c .before .before .before .before .before .if1 .left) in
     let r = c .before .before .arity .ensures .0 in
-    let e = argument-beyond (a .book .now) (a .term .now) h (a .i) (omega arith) (omega arith) in
+    let e = argument-beyond (a .book .now) (a .term .now) (whole (c .before .before .before .before .before)) (a .i) (omega arith) (omega arith) in
     (rw e, rw e)
 
 -- src/lib.rt:101:21
 sub-arguments : tie.Need-sub-arguments
-sub-arguments c = let a = c .before .before .before .before .before .before .before .before .before .args in
-    let k = c .before .before .before .before .before .before .check-term in
-    let h = checked (a .book .now) (a .term .now) (sym (ap (λ s. s .number) (k .ensures)) ∙ c .before .before .before .before .if1 .left) in
-    let l = h .some-words in
-    omega arith
+sub-arguments c = whole (c .before .before .before .before) .some-words
 
 -- src/lib.rt:101:21
 part-arguments-start : tie.Need-part-arguments-start
-part-arguments-start c = let a = c .before .before .before .before .before .before .before .before .before .args in
-    let k = c .before .before .before .before .before .before .check-term in
-    let h = checked (a .book .now) (a .term .now) (sym (ap (λ s. s .number) (k .ensures)) ∙ c .before .before .before .before .if1 .left) in
-    let l = h .some-words in
-    search needs
+part-arguments-start c = whole (c .before .before .before .before) .some-words
 
 -- src/lib.rt:101:21
 part-arguments-end : tie.Need-part-arguments-end
@@ -131,23 +127,11 @@ mul-part c = search needs
 
 -- src/lib.rt:103:16
 sub-part : tie.Need-sub-part
-sub-part c = let a = c .before .before .before .before .before .before .before .before .before .before .before .args in
-    let k = c .before .before .before .before .before .before .before .before .check-term in
-    let h = checked (a .book .now) (a .term .now) (sym (ap (λ s. s .number) (k .ensures)) ∙ c .before .before .before .before .before .before .if1 .left) in
-    let l = h .some-words in
-    let s = c .spans .ensures in
-    let p = rw tail-length at (s .1) in
-    omega arith
+sub-part c = starts c
 
 -- src/lib.rt:103:16
 part-part-start : tie.Need-part-part-start
-part-part-start c = let a = c .before .before .before .before .before .before .before .before .before .before .before .args in
-    let k = c .before .before .before .before .before .before .before .before .check-term in
-    let h = checked (a .book .now) (a .term .now) (sym (ap (λ s. s .number) (k .ensures)) ∙ c .before .before .before .before .before .before .if1 .left) in
-    let l = h .some-words in
-    let s = c .spans .ensures in
-    let p = rw tail-length at (s .1) in
-    omega arith
+part-part-start c = starts c
 
 -- src/lib.rt:103:16
 part-part-end : tie.Need-part-part-end
@@ -175,30 +159,18 @@ part-result-start-4 c = search needs
 
 -- src/lib.rt:105:5
 part-result-end-4 : tie.Need-part-result-end-4
-part-result-end-4 c = let a = c .before .before .before .before .before .before .before .before .before .before .before .before .before .args in
-    let k = c .before .before .before .before .before .before .before .before .before .before .check-term in
-    let h = checked (a .book .now) (a .term .now) (sym (ap (λ s. s .number) (k .ensures)) ∙ c .before .before .before .before .before .before .before .before .if1 .left) in
-    let l = h .some-words in
-    let s = c .before .before .spans .ensures in
-    let p = rw tail-length at (s .1) in
-    let q = rw tail-length at (c .span .ensures .1) in
-    omega arith
+part-result-end-4 c = ends c
 
 -- src/lib.rt:87:1
 returns-4 : tie.Need-returns-4
 returns-4 c = let a = c .before .before .before .before .before .before .before .before .before .before .before .before .before .before .args in
-    let k = c .before .before .before .before .before .before .before .before .before .before .before .check-term in
-    let h = checked (a .book .now) (a .term .now) (sym (ap (λ s. s .number) (k .ensures)) ∙ c .before .before .before .before .before .before .before .before .before .if1 .left) in
-    let l = h .some-words in
     let t = a .term .now in
-    let g = signatureOf (a .book .now) in
-    let s = c .before .before .before .spans .ensures in
-    let p = rw tail-length at (s .1) in
+    let s = c .before .before .before .spans in
     let r = c .before .before .before .before .before .before .arity .ensures .0 in
-    let n = c .before .before .before .spans .result in
+    let n = s .result in
     let e : argumentAt (a .book .now) t (a .i) ≡ some (1 + n) =
-    argument-there (a .book .now) t h (a .i) (omega arith) (omega arith) ∙ ap (λ m. some (1 + m)) (sym (rw tail at (s .0))) in
-    (rw e (cut g t (1 + n) (c .before .span .result) (c .before .span .ensures .0)), rw e)
+    argument-there (a .book .now) t (whole (c .before .before .before .before .before .before .before .before .before)) (a .i) (omega arith) (omega arith) ∙ ap (λ m. some (1 + m)) (sym (rw tail at (s .ensures .0))) in
+    (rw e (cut (signatureOf (a .book .now)) t (1 + n) (c .before .span .result) (c .before .span .ensures .0)), rw e)
 
 pub argument-spec : {M : Type 1} → statement M
 argument-spec =

@@ -1,11 +1,8 @@
+-- The book decides first, then the term.
 use Rattle.system.proofs.Answering.{term-refused, term-checked}
 use borrow.Author.Needs.{needs}
 use Rattle.system.proofs.check_term.Statement.{statement}
 use Rattle.system.proofs.check_term.Tie as tie
-use Rattle.system.proofs.check_term.Reads as reads
-use Rattle.system.proofs.check_term.Lts as lts
-use Rattle.system.proofs.reader.scan_book.Reads as scan-book-reads
-use Rattle.system.proofs.terms.first_break.Reads as first-break-reads
 
 -- src/lib.rt:69:9
 scan-book-requires : tie.Need-scan-book-requires

@@ -1,12 +1,9 @@
+-- The three numbers are those of the scan.
 use Rattle.system.proofs.Answering.{scan-answer}
 use Rattle.system.specs.Reader.{read}
-use mathlib.Core.Path.{_≡_, refl, sym, ap, _∙_}
 use borrow.Author.Needs.{needs}
 use Rattle.system.proofs.read.Statement.{statement}
 use Rattle.system.proofs.read.Tie as tie
-use Rattle.system.proofs.read.Reads as reads
-use Rattle.system.proofs.read.Lts as lts
-use Rattle.system.proofs.reader.scan_book.Reads as scan-book-reads
 
 -- src/lib.rt:33:9
 scan-book-requires : tie.Need-scan-book-requires

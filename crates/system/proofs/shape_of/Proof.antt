@@ -1,14 +1,10 @@
+-- The shape of an accepted book, from the index at which the scan found its rules.
 use Rattle.system.proofs.Answering.{shape-none, rules-within, shape-some}
 use Rattle.system.proofs.BookWords.{signature-within}
 use native.Mathlib.Omega.{arith}
 use borrow.Author.Needs.{needs}
 use Rattle.system.proofs.shape_of.Statement.{statement}
 use Rattle.system.proofs.shape_of.Tie as tie
-use Rattle.system.proofs.shape_of.Reads as reads
-use Rattle.system.proofs.shape_of.Lts as lts
-use Rattle.system.proofs.reader.scan_book.Reads as scan-book-reads
-use Rattle.system.proofs.words.symbols.Reads as symbols-reads
-use Rattle.system.proofs.words.wide.Reads as wide-reads
 
 -- src/lib.rt:45:9
 scan-book-requires : tie.Need-scan-book-requires

@@ -1,15 +1,12 @@
-use Rattle.system.proofs.NumberSteps.{number-missing, number-low, number-high, number-inside}
+-- A number is read in one of four ways: missing, below, above, inside. Each way out cites its law.
+use Rattle.system.proofs.Parses.{number-missing, number-below, number-above}
+use Rattle.system.proofs.NumberSteps.{number-inside}
 use Rattle.system.specs.Answers.{sectionOf, Inside}
-use lib.ListN.{length, getD, drop}
-use Prim.Native.Nat.{ℕ, _+_, _-_, _*_, _<_, _≤_}
 use native.Mathlib.Omega.{arith}
-use mathlib.Core.Path.{_≡_, refl, sym, ap, _∙_}
+use mathlib.Core.Path.{sym, ap, _∙_}
 use borrow.Author.Needs.{needs}
 use Rattle.system.proofs.reader.check.Statement.{statement}
 use Rattle.system.proofs.reader.check.Tie as tie
-use Rattle.system.proofs.reader.check.Reads as reads
-use Rattle.system.proofs.reader.check.Lts as lts
-use Rattle.system.proofs.words.wide.Reads as wide-reads
 
 -- src/reader.rt:45:9
 returns : tie.Need-returns
@@ -32,13 +29,13 @@ wide-requires c κs = search needs
 returns-2 : tie.Need-returns-2
 returns-2 c = let a = c .before .before .before .before .before .args in
     let w = c .before .wide .ensures in
-    (λ f e. sym e ∙ sym (ap (λ o. sectionOf o .number) (number-low (a .book .now) f (a .low) (a .high) (a .at) (omega arith) (omega arith))), λ z. absurd (omega arith))
+    (λ f e. sym e ∙ sym (ap (λ o. sectionOf o .number) (number-below (a .book .now) f (a .low) (a .high) (a .at) (omega arith) (omega arith))), λ z. absurd (omega arith))
 
 -- src/reader.rt:52:9
 returns-3 : tie.Need-returns-3
 returns-3 c = let a = c .before .before .before .before .before .before .args in
     let w = c .before .before .wide .ensures in
-    (λ f e. sym e ∙ sym (ap (λ o. sectionOf o .number) (number-high (a .book .now) f (a .low) (a .high) (a .at) (omega arith) (omega arith) (omega arith))), λ z. absurd (omega arith))
+    (λ f e. sym e ∙ sym (ap (λ o. sectionOf o .number) (number-above (a .book .now) f (a .low) (a .high) (a .at) (omega arith) (omega arith) (omega arith))), λ z. absurd (omega arith))
 
 -- src/reader.rt:41:1
 returns-4 : tie.Need-returns-4

@@ -1,11 +1,11 @@
-use Rattle.system.proofs.SideSteps.{learn-variable, learn-symbol, learn-right}
+-- How many variables are known after a word: one law for each way out.
+use Rattle.system.proofs.SideWords.{learn-variable, learn-symbol, learn-right}
 use native.Mathlib.Omega.{arith}
-use mathlib.Core.Path.{_≡_, refl, sym, ap, _∙_}
+use native.Mathlib.Numerals.{add-one}
+use mathlib.Core.Path.{sym, _∙_}
 use borrow.Author.Needs.{needs}
 use Rattle.system.proofs.reader.learn.Statement.{statement}
 use Rattle.system.proofs.reader.learn.Tie as tie
-use Rattle.system.proofs.reader.learn.Reads as reads
-use Rattle.system.proofs.reader.learn.Lts as lts
 
 -- src/reader.rt:171:16
 enum-told : tie.Need-enum-told
@@ -18,7 +18,7 @@ add-result c = search needs
 -- src/reader.rt:172:17
 returns : tie.Need-returns
 returns c = let a = c .before .before .before .args in
-    (sym (learn-variable (a .hand) (a .known) (a .w) (c .before .enum-told .given .1) (c .if1 .taken)), omega arith)
+    (add-one (a .known) ∙ sym (learn-variable (a .hand) (a .known) (a .w) (c .before .enum-told .given .1) (c .if1 .taken)), omega arith)
 
 -- src/reader.rt:176:24
 enum-told-2 : tie.Need-enum-told-2
@@ -27,7 +27,7 @@ enum-told-2 c = search needs
 -- src/reader.rt:165:1
 returns-2 : tie.Need-returns-2
 returns-2 c = let a = c .before .before .before .args in
-    (sym (learn-symbol (a .hand) (a .known) (a .w) (c .before .enum-told .given .1) (c .if1 .left)), omega arith)
+    (sym (learn-symbol (a .hand) (a .known) (a .w) (c .if1 .left)), omega arith)
 
 -- src/reader.rt:165:1
 returns-3 : tie.Need-returns-3

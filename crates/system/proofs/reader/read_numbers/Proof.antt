@@ -1,18 +1,16 @@
-use Rattle.system.proofs.NumberSteps.{number-inside, number-refused, numbers-next, numbers-stop}
-use Rattle.system.proofs.Sections.{times-none, times-next, times-stop}
+-- The loop keeps: the numbers still to be read from here answer as all of them do from the start.
+use Rattle.system.proofs.NumberSteps.{numbers-next, numbers-stop}
+use Rattle.system.proofs.Sections.{times-end}
 use Rattle.system.specs.Answers.{sectionOf}
 use Rattle.system.specs.Reader.{times, number}
 use Rattle.system.specs.Fault.{Fault, numberOf}
-use lib.ListN.{length, getD, drop}
-use Prim.Native.Nat.{ℕ, _+_, _-_, _*_, _<_, _≤_}
+use lib.ListN.{length}
+use Prim.Native.Nat.{_≤_}
 use native.Mathlib.Omega.{arith}
-use mathlib.Core.Path.{_≡_, refl, sym, ap, _∙_}
+use mathlib.Core.Path.{_≡_, refl, sym, _∙_}
 use borrow.Author.Needs.{needs}
 use Rattle.system.proofs.reader.read_numbers.Statement.{statement}
 use Rattle.system.proofs.reader.read_numbers.Tie as tie
-use Rattle.system.proofs.reader.read_numbers.Reads as reads
-use Rattle.system.proofs.reader.read_numbers.Lts as lts
-use Rattle.system.proofs.reader.check.Reads as check-reads
 
 abbrev Inv-loop : tie.InvT-loop
 Inv-loop book at n high otherwise i₀ left₀ i left = (i ≤ length book) × ((f : Fault) → numberOf f ≡ otherwise → sectionOf (times left (number book f 0 high) i) ≡ sectionOf (times n (number book f 0 high) at))
@@ -57,7 +55,7 @@ loop-again c = let l = c .before .before .before .loop in
 returns-2 : tie.Need-returns-2 Inv-loop μ-loop
 returns-2 c = let l = c .before .loop in
     let a = c .before .before .before .args in
-    (λ f e. sym (times-none (number (a .book .now) f 0 (a .high)) (l .left) (l .i) (omega arith)) ∙ l .inv .1 f e, omega arith)
+    (λ f e. sym (times-end (number (a .book .now) f 0 (a .high)) (l .left) (l .i) (omega arith)) ∙ l .inv .1 f e, omega arith)
 
 pub read-numbers-spec : {M : Type 1} → statement M
 read-numbers-spec =

@@ -1,13 +1,11 @@
+-- A rule: its left side decides, and then its right side.
 use Rattle.system.proofs.SectionSteps.{rule-refused, rule-right}
 use Rattle.system.specs.Answers.{signatureOf}
 use native.Mathlib.Omega.{arith}
-use mathlib.Core.Path.{_≡_, refl, sym, ap, _∙_}
+use mathlib.Core.Path.{sym}
 use borrow.Author.Needs.{needs}
 use Rattle.system.proofs.reader.read_rule.Statement.{statement}
 use Rattle.system.proofs.reader.read_rule.Tie as tie
-use Rattle.system.proofs.reader.read_rule.Reads as reads
-use Rattle.system.proofs.reader.read_rule.Lts as lts
-use Rattle.system.proofs.reader.read_side.Reads as read-side-reads
 
 -- src/reader.rt:250:9
 read-side-requires : tie.Need-read-side-requires

@@ -1,16 +1,14 @@
-use Rattle.system.proofs.Sections.{times-none, times-next, times-stop}
+-- The loop keeps: the rules still to be read from here answer as all of them do from the start.
+use Rattle.system.proofs.Sections.{times-end, times-next, times-stop}
 use Rattle.system.specs.Answers.{signatureOf, sectionOf}
 use Rattle.system.specs.Reader.{times, readRule}
 use lib.ListN.{length}
-use Prim.Native.Nat.{ℕ, _+_, _-_, _<_, _≤_}
+use Prim.Native.Nat.{_≤_}
 use native.Mathlib.Omega.{arith}
-use mathlib.Core.Path.{_≡_, refl, sym, ap, _∙_}
+use mathlib.Core.Path.{_≡_, refl, sym, _∙_}
 use borrow.Author.Needs.{needs}
 use Rattle.system.proofs.reader.read_rules.Statement.{statement}
 use Rattle.system.proofs.reader.read_rules.Tie as tie
-use Rattle.system.proofs.reader.read_rules.Reads as reads
-use Rattle.system.proofs.reader.read_rules.Lts as lts
-use Rattle.system.proofs.reader.read_rule.Reads as read-rule-reads
 
 abbrev Inv-loop : tie.InvT-loop
 Inv-loop book at n i₀ left₀ i left = (i ≤ length book) × (sectionOf (times left (readRule book (signatureOf book)) i) ≡ sectionOf (times n (readRule book (signatureOf book)) at))
@@ -52,7 +50,7 @@ loop-again c = let l = c .before .before .before .before .loop in
 returns-2 : tie.Need-returns-2 Inv-loop μ-loop
 returns-2 c = let l = c .before .loop in
     let a = c .before .before .before .args in
-    (sym (times-none (readRule (a .book .now) (signatureOf (a .book .now))) (l .left) (l .i) (omega arith)) ∙ l .inv .1, omega arith)
+    (sym (times-end (readRule (a .book .now) (signatureOf (a .book .now))) (l .left) (l .i) (omega arith)) ∙ l .inv .1, omega arith)
 
 pub read-rules-spec : {M : Type 1} → statement M
 read-rules-spec =

@@ -1,20 +1,19 @@
+-- A side: its length decides, and then its words.
 use Rattle.system.proofs.SectionSteps.{side-refused, side-words}
-use Rattle.system.specs.Answers.{signatureOf, sideOf}
+use Rattle.system.specs.Answers.{signatureOf, sideOf, Inside}
 use Rattle.system.specs.Reader.{readWords}
 use Rattle.system.specs.Fault.{range}
-use lib.ListN.{length, getD}
 use mathlib.Core.Bool.{true}
-use Prim.Native.Nat.{ℕ, _+_, _<_, _≤_}
+use Prim.Native.Nat.{_+_}
 use native.Mathlib.Omega.{arith}
-use mathlib.Core.Path.{_≡_, refl, sym, ap, _∙_}
+use mathlib.Core.Path.{refl, sym, ap, _∙_}
 use borrow.Author.Needs.{needs}
 use Rattle.system.proofs.reader.read_side.Statement.{statement}
 use Rattle.system.proofs.reader.read_side.Tie as tie
-use Rattle.system.proofs.reader.read_side.Reads as reads
-use Rattle.system.proofs.reader.read_side.Lts as lts
-use Rattle.system.proofs.reader.check.Reads as check-reads
-use Rattle.system.proofs.reader.read_words.Reads as read-words-reads
-use Rattle.system.proofs.words.wide.Reads as wide-reads
+
+-- the length is in its range
+size : (c : tie.Else1) → Inside (c .before .before .before .args .book .now) (c .before .before .before .args .at) 1 64
+size c = c .before .check .ensures .1 (c .if1 .left)
 
 -- src/reader.rt:233:9
 check-requires : tie.Need-check-requires
@@ -27,15 +26,15 @@ returns c = let a = c .before .before .before .args in
 
 -- src/reader.rt:241:22
 add-read-words : tie.Need-add-read-words
-add-read-words c = let n = c .before .check .ensures .1 (c .if1 .left) in let h = n .here in omega arith
+add-read-words c = let h = size c .here in omega arith
 
 -- src/reader.rt:241:35
 mul-wide : tie.Need-mul-wide
-mul-wide c = let n = c .before .check .ensures .1 (c .if1 .left) in let h = n .here in search needs
+mul-wide c = let h = size c .here in search needs
 
 -- src/reader.rt:241:35
 shared-slice-read-wide : tie.Need-shared-slice-read-wide
-shared-slice-read-wide c = let n = c .before .before .check .ensures .1 (c .before .if1 .left) in let h = n .here in omega arith
+shared-slice-read-wide c = size (c .before) .here
 
 -- src/reader.rt:241:30
 wide-requires : tie.Need-wide-requires
@@ -43,17 +42,18 @@ wide-requires c κs = search needs
 
 -- src/reader.rt:241:5
 read-words-requires : tie.Need-read-words-requires
-read-words-requires c κs = let n = c .before .before .before .check .ensures .1 (c .before .before .if1 .left) in let h = n .here in let b = n .below in let w = c .wide .ensures in
+read-words-requires c κs = let h = size (c .before .before) .here in
+    let b = size (c .before .before) .below in
+    let w = c .wide .ensures in
     omega arith
 
 -- src/reader.rt:228:1
 returns-2 : tie.Need-returns-2
 returns-2 c = let a = c .before .before .before .before .before .before .args in
-    let n = c .before .before .before .before .check .ensures .1 (c .before .before .before .if1 .left) in
     let w = c .before .wide .ensures .0 in (
       c .read-words .ensures .0
           ∙ ap (λ k. sideOf (readWords (a .book .now) (signatureOf (a .book .now)) (a .hand) true k 1 (a .known) (a .at + 1))) w
-          ∙ sym (side-words (a .book .now) (signatureOf (a .book .now)) (a .hand) (a .known) (a .at) n),
+          ∙ sym (side-words (a .book .now) (signatureOf (a .book .now)) (a .hand) (a .known) (a .at) (size (c .before .before .before))),
       c .read-words .ensures .1,
     )
 

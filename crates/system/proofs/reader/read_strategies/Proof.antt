@@ -1,20 +1,15 @@
-use Rattle.system.proofs.Sections.{each-none, each-next, each-stop}
+-- The loop keeps: the strategies of the symbols from k on answer as those of all symbols do from the start.
+use Rattle.system.proofs.Sections.{each-end, each-next, each-stop}
 use Rattle.system.proofs.BookWords.{signature-room, signature-word}
 use Rattle.system.specs.Answers.{signatureOf, sectionOf}
 use Rattle.system.specs.Reader.{each, readStrategy}
-use Rattle.system.specs.Signature.{arity}
-use lib.ListN.{length, getD, drop}
-use Prim.Native.Nat.{ℕ, _+_, _-_, _<_, _≤_}
+use lib.ListN.{length, drop}
+use Prim.Native.Nat.{_-_, _<_, _≤_}
 use native.Mathlib.Omega.{arith}
 use mathlib.Core.Path.{_≡_, refl, sym, ap, _∙_}
 use borrow.Author.Needs.{needs}
 use Rattle.system.proofs.reader.read_strategies.Statement.{statement}
 use Rattle.system.proofs.reader.read_strategies.Tie as tie
-use Rattle.system.proofs.reader.read_strategies.Reads as reads
-use Rattle.system.proofs.reader.read_strategies.Lts as lts
-use Rattle.system.proofs.reader.read_strategy.Reads as read-strategy-reads
-use Rattle.system.proofs.words.symbols.Reads as symbols-reads
-use Rattle.system.proofs.words.wide.Reads as wide-reads
 
 abbrev Inv-loop : tie.InvT-loop
 Inv-loop book at n i₀ k₀ i k = (k ≤ n) × (n ≡ length (signatureOf book)) × (i ≤ length book) ×
@@ -90,7 +85,7 @@ loop-again c = let l = c .before .before .before .before .before .before .loop i
 returns-2 : tie.Need-returns-2 Inv-loop μ-loop
 returns-2 c = let l = c .before .loop in
     let a = c .before .before .before .before .args in
-    (sym (each-none (readStrategy (a .book .now)) (signatureOf (a .book .now)) (l .k) (l .i) (omega arith)) ∙ l .inv .3, omega arith)
+    (sym (each-end (readStrategy (a .book .now)) (signatureOf (a .book .now)) (l .k) (l .i) (omega arith)) ∙ l .inv .3, omega arith)
 
 pub read-strategies-spec : {M : Type 1} → statement M
 read-strategies-spec =

@@ -1,19 +1,18 @@
+-- A strategy: its length decides, and then its entries.
 use Rattle.system.proofs.SectionSteps.{strategy-refused, strategy-entries}
-use Rattle.system.specs.Answers.{sectionOf}
+use Rattle.system.specs.Answers.{sectionOf, Inside}
 use Rattle.system.specs.Reader.{times, number}
 use Rattle.system.specs.Fault.{range, entry}
-use lib.ListN.{length, getD}
-use Prim.Native.Nat.{ℕ, _+_, _<_, _≤_}
+use Prim.Native.Nat.{_+_}
 use native.Mathlib.Omega.{arith}
-use mathlib.Core.Path.{_≡_, refl, sym, ap, _∙_}
+use mathlib.Core.Path.{refl, sym, ap, _∙_}
 use borrow.Author.Needs.{needs}
 use Rattle.system.proofs.reader.read_strategy.Statement.{statement}
 use Rattle.system.proofs.reader.read_strategy.Tie as tie
-use Rattle.system.proofs.reader.read_strategy.Reads as reads
-use Rattle.system.proofs.reader.read_strategy.Lts as lts
-use Rattle.system.proofs.reader.check.Reads as check-reads
-use Rattle.system.proofs.reader.read_numbers.Reads as read-numbers-reads
-use Rattle.system.proofs.words.wide.Reads as wide-reads
+
+-- the length is in its range
+size : (c : tie.Else1) → Inside (c .before .before .before .args .book .now) (c .before .before .before .args .at) 0 16
+size c = c .before .check .ensures .1 (c .if1 .left)
 
 -- src/reader.rt:90:9
 check-requires : tie.Need-check-requires
@@ -26,15 +25,15 @@ returns c = let a = c .before .before .before .args in
 
 -- src/reader.rt:97:24
 add-read-numbers : tie.Need-add-read-numbers
-add-read-numbers c = let n = c .before .check .ensures .1 (c .if1 .left) in let h = n .here in omega arith
+add-read-numbers c = let h = size c .here in omega arith
 
 -- src/reader.rt:97:37
 mul-wide : tie.Need-mul-wide
-mul-wide c = let n = c .before .check .ensures .1 (c .if1 .left) in let h = n .here in search needs
+mul-wide c = let h = size c .here in search needs
 
 -- src/reader.rt:97:37
 shared-slice-read-wide : tie.Need-shared-slice-read-wide
-shared-slice-read-wide c = let n = c .before .before .check .ensures .1 (c .before .if1 .left) in let h = n .here in omega arith
+shared-slice-read-wide c = size (c .before) .here
 
 -- src/reader.rt:97:32
 wide-requires : tie.Need-wide-requires
@@ -42,17 +41,17 @@ wide-requires c κs = search needs
 
 -- src/reader.rt:97:5
 read-numbers-requires : tie.Need-read-numbers-requires
-read-numbers-requires c κs = let n = c .before .before .before .check .ensures .1 (c .before .before .if1 .left) in let h = n .here in let w = c .wide .ensures in
+read-numbers-requires c κs = let h = size (c .before .before) .here in
+    let w = c .wide .ensures in
     omega arith
 
 -- src/reader.rt:85:1
 returns-2 : tie.Need-returns-2
 returns-2 c = let a = c .before .before .before .before .before .before .args in
-    let n = c .before .before .before .before .check .ensures .1 (c .before .before .before .if1 .left) in
     let w = c .before .wide .ensures .0 in (
       c .read-numbers .ensures .0 entry refl
           ∙ ap (λ k. sectionOf (times k (number (a .book .now) entry 0 (a .arity)) (a .at + 1))) w
-          ∙ sym (strategy-entries (a .book .now) (a .arity) (a .at) n),
+          ∙ sym (strategy-entries (a .book .now) (a .arity) (a .at) (size (c .before .before .before))),
       c .read-numbers .ensures .1,
     )
 

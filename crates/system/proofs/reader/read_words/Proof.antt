@@ -1,22 +1,17 @@
-use Rattle.system.proofs.SideSteps.{words-missing, words-fault, words-next, words-short, words-done, words-turn, words-start, side-open}
+-- The loop keeps: the words still to be read from here, with what is due and known, answer as the whole side does.
+use Rattle.system.proofs.SideSteps.{words-missing, words-fault, words-short, words-done, words-turn, words-start, side-open}
 use Rattle.system.specs.Answers.{signatureOf, sideOf}
 use Rattle.system.specs.Reader.{readWords}
 use Rattle.system.specs.Signature.{arity}
 use mathlib.Core.Bool.{true}
-use borrow.Author.Tests.{ne-eqb}
 use lib.Dec.{eqb}
 use lib.ListN.{length, getD}
-use Prim.Native.Nat.{ℕ, _+_, _-_, _*_, _<_, _≤_}
+use Prim.Native.Nat.{_+_, _-_, _*_, _≤_}
 use native.Mathlib.Omega.{arith}
-use mathlib.Core.Path.{_≡_, refl, sym, ap, _∙_}
+use mathlib.Core.Path.{_≡_, refl, sym, _∙_}
 use borrow.Author.Needs.{needs}
 use Rattle.system.proofs.reader.read_words.Statement.{statement}
 use Rattle.system.proofs.reader.read_words.Tie as tie
-use Rattle.system.proofs.reader.read_words.Reads as reads
-use Rattle.system.proofs.reader.read_words.Lts as lts
-use Rattle.system.proofs.reader.learn.Reads as learn-reads
-use Rattle.system.proofs.reader.side_fault.Reads as side-fault-reads
-use Rattle.system.proofs.words.arity.Reads as arity-reads
 
 abbrev Inv-loop : tie.InvT-loop
 Inv-loop book at n hand known due₀ seen₀ j₀ due seen j = (j ≤ n) × (at + j ≤ length book) × (due ≤ 1 + 65535 * j) × (seen ≤ known + j) ×

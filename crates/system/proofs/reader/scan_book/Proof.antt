@@ -1,20 +1,42 @@
-use Rattle.system.proofs.ScanSteps.{scan-count, scan-arities, arities, scan-strategies-count, scan-strategies, scan-rules, scan-whole}
+-- The whole book: after each section that was taken an equation says what is still to be read.
+use Prim.Native.Nat.{ℕ, _+_}
+use mathlib.Core.List.{List}
+use Rattle.system.proofs.ScanSteps.{afterFirst, afterArities, afterCount, afterStrategies, scan-refused, number-bad, AfterFirst, AfterArities, AfterCount, AfterStrategies, scan-start, scan-count, scan-arities, scan-strategies-count, scan-strategies, scan-whole}
+use Rattle.system.specs.Answers.{signatureOf}
+use Rattle.system.specs.Reader.{times, each, number, readStrategy, readRules}
 use Rattle.system.specs.Fault.{range}
-use lib.ListN.{length, getD}
-use Prim.Native.Nat.{ℕ, _+_, _<_, _≤_}
 use native.Mathlib.Omega.{arith}
-use mathlib.Core.Path.{_≡_, refl, sym, ap, _∙_}
+use mathlib.Core.Path.{refl, sym, _∙_}
 use borrow.Author.Needs.{needs}
 use Rattle.system.proofs.reader.scan_book.Statement.{statement}
 use Rattle.system.proofs.reader.scan_book.Tie as tie
-use Rattle.system.proofs.reader.scan_book.Reads as reads
-use Rattle.system.proofs.reader.scan_book.Lts as lts
-use Rattle.system.proofs.reader.check.Reads as check-reads
-use Rattle.system.proofs.reader.read_numbers.Reads as read-numbers-reads
-use Rattle.system.proofs.reader.read_strategies.Reads as read-strategies-reads
-use Rattle.system.proofs.reader.read_tail.Reads as read-tail-reads
-use Rattle.system.proofs.reader.refused.Reads as refused-reads
-use Rattle.system.proofs.words.wide.Reads as wide-reads
+
+-- ---- what is still to be read, after each section that was taken
+
+abbrev book : tie.After-wide → List ℕ
+book c = c .before .before .before .before .before .args .book .now
+
+abbrev count : tie.After-wide → ℕ
+count c = c .wide .result
+
+arities-left : (c : tie.After-wide) → AfterFirst (book c) (count c)
+arities-left c = scan-count _ (count c) (c .wide .ensures .0) (c .before .before .before .check .ensures .1 (c .before .before .if1 .left))
+
+count-left : (c : tie.Else2) → AfterArities (book (c .before .before .before)) (count (c .before .before .before))
+count-left c =
+    let w = c .before .before .before in
+    let a = c .before .before .read-numbers in
+    scan-arities _ (count w) (w .wide .ensures .0) (arities-left w) (a .result) (a .ensures .0 range refl) (c .if2 .left)
+
+strategies-left : (c : tie.Else3) → AfterCount (book (c .before .before .before .before .before)) (count (c .before .before .before .before .before))
+strategies-left c = scan-strategies-count _ (count (c .before .before .before .before .before)) (count-left (c .before .before)) (c .before .check2 .ensures .1 (c .if3 .left))
+
+rules-left : (c : tie.Else4) → AfterStrategies (book (c .before .before .before .before .before .before .before .before)) (count (c .before .before .before .before .before .before .before .before)) (c .before .before .read-strategies .result)
+rules-left c =
+    let o = c .before .before .read-strategies in
+    scan-strategies _ (count (c .before .before .before .before .before .before .before .before)) (strategies-left (c .before .before .before)) (o .result) (o .ensures .0) (c .if4 .left)
+
+-- ---- the needs
 
 -- src/reader.rt:326:9
 check-requires : tie.Need-check-requires
@@ -27,7 +49,8 @@ refused-requires c κs = search needs
 -- src/reader.rt:328:9
 returns : tie.Need-returns
 returns c = let ws = c .before .before .before .before .args .book .now in
-    c .refused .ensures ∙ sym (scan-count ws (c .before .before .check .result) (c .before .before .check .ensures .0 range refl) (c .before .if1 .taken))
+    let k = c .before .before .check in
+    c .refused .ensures ∙ sym (number-bad ws range 1 256 0 (afterFirst ws) (scan-start ws) (k .result) (k .ensures .0 range refl) (c .before .if1 .taken))
 
 -- src/reader.rt:330:18
 shared-slice-read-wide : tie.Need-shared-slice-read-wide
@@ -47,13 +70,10 @@ refused-requires-2 c κs = search needs
 
 -- src/reader.rt:333:9
 returns-2 : tie.Need-returns-2
-returns-2 c = let ws = c .before .before .before .before .before .before .before .before .before .args .book .now in
-    let n = c .before .before .before .before .wide .result in
-    let many : n ≡ getD ws 0 0 = c .before .before .before .before .wide .ensures .0 in
-    let some = c .before .before .before .before .before .before .before .check .ensures .1 (c .before .before .before .before .before .before .if1 .left) in
+returns-2 c = let w = c .before .before .before .before in
+    let ws = book w in
     let a = c .before .before .before .read-numbers in
-    let ia = a .ensures .0 range refl in
-    c .refused2 .ensures ∙ sym (scan-arities ws n many some (a .result) ia (c .before .if2 .taken))
+    c .refused2 .ensures ∙ sym (scan-refused ws (times (count w) (number ws range 0 8) 1) (afterArities ws (count w)) (arities-left w) (a .result) (a .ensures .0 range refl) (c .before .if2 .taken))
 
 -- src/reader.rt:335:25
 add-check : tie.Need-add-check
@@ -73,14 +93,10 @@ refused-requires-3 c κs = search needs
 
 -- src/reader.rt:337:9
 returns-3 : tie.Need-returns-3
-returns-3 c = let ws = c .before .before .before .before .before .before .before .before .before .before .before .args .book .now in
-    let n = c .before .before .before .before .before .before .wide .result in
-    let many : n ≡ getD ws 0 0 = c .before .before .before .before .before .before .wide .ensures .0 in
-    let some = c .before .before .before .before .before .before .before .before .before .check .ensures .1 (c .before .before .before .before .before .before .before .before .if1 .left) in
-    let a = c .before .before .before .before .before .read-numbers in
-    let ia = a .ensures .0 range refl in
-    let good = c .before .before .before .if2 .left in
-    c .refused3 .ensures ∙ sym (scan-strategies-count ws n many some (a .result) ia good (c .before .before .check2 .result) (c .before .before .check2 .ensures .0 range refl) (c .before .if3 .taken))
+returns-3 c = let ws = book (c .before .before .before .before .before .before) in
+    let n = count (c .before .before .before .before .before .before) in
+    let k = c .before .before .check2 in
+    c .refused3 .ensures ∙ sym (number-bad ws range n n (n + 1) (afterCount ws (signatureOf ws)) (count-left (c .before .before .before) .0) (k .result) (k .ensures .0 range refl) (c .before .if3 .taken))
 
 -- src/reader.rt:339:35
 add-read-strategies : tie.Need-add-read-strategies
@@ -96,16 +112,10 @@ refused-requires-4 c κs = search needs
 
 -- src/reader.rt:341:9
 returns-4 : tie.Need-returns-4
-returns-4 c = let ws = c .before .before .before .before .before .before .before .before .before .before .before .before .before .before .args .book .now in
-    let n = c .before .before .before .before .before .before .before .before .before .wide .result in
-    let many : n ≡ getD ws 0 0 = c .before .before .before .before .before .before .before .before .before .wide .ensures .0 in
-    let some = c .before .before .before .before .before .before .before .before .before .before .before .before .check .ensures .1 (c .before .before .before .before .before .before .before .before .before .before .before .if1 .left) in
-    let a = c .before .before .before .before .before .before .before .before .read-numbers in
-    let ia = a .ensures .0 range refl in
-    let good = c .before .before .before .before .before .before .if2 .left in
-    let same = c .before .before .before .before .before .check2 .ensures .1 (c .before .before .before .before .if3 .left) in
+returns-4 c = let ws = book (c .before .before .before .before .before .before .before .before .before) in
+    let n = count (c .before .before .before .before .before .before .before .before .before) in
     let o = c .before .before .before .read-strategies in
-    c .refused4 .ensures ∙ sym (scan-strategies ws n many some (a .result) ia good same (o .result) (o .ensures .0) (c .before .if4 .taken))
+    c .refused4 .ensures ∙ sym (scan-refused ws (each (readStrategy ws) (signatureOf ws) (n + 2)) (afterStrategies ws (signatureOf ws)) (strategies-left (c .before .before .before .before)) (o .result) (o .ensures .0) (c .before .if4 .taken))
 
 -- src/reader.rt:343:9
 read-tail-requires : tie.Need-read-tail-requires
@@ -117,33 +127,16 @@ refused-requires-5 c κs = search needs
 
 -- src/reader.rt:345:9
 returns-5 : tie.Need-returns-5
-returns-5 c = let ws = c .before .before .before .before .before .before .before .before .before .before .before .before .before .before .before .before .before .args .book .now in
-    let n = c .before .before .before .before .before .before .before .before .before .before .before .before .wide .result in
-    let many : n ≡ getD ws 0 0 = c .before .before .before .before .before .before .before .before .before .before .before .before .wide .ensures .0 in
-    let some = c .before .before .before .before .before .before .before .before .before .before .before .before .before .before .before .check .ensures .1 (c .before .before .before .before .before .before .before .before .before .before .before .before .before .before .if1 .left) in
-    let a = c .before .before .before .before .before .before .before .before .before .before .before .read-numbers in
-    let ia = a .ensures .0 range refl in
-    let good = c .before .before .before .before .before .before .before .before .before .if2 .left in
-    let same = c .before .before .before .before .before .before .before .before .check2 .ensures .1 (c .before .before .before .before .before .before .before .if3 .left) in
-    let o = c .before .before .before .before .before .before .read-strategies in
-    let fine = c .before .before .before .before .if4 .left in
+returns-5 c = let ws = book (c .before .before .before .before .before .before .before .before .before .before .before .before) in
+    let o = c .before .before .before .before .before .before .read-strategies .result in
     let t = c .before .before .before .read-tail in
-    c .refused5 .ensures ∙ sym (scan-rules ws n many some (a .result) ia good same (o .result) (o .ensures .0) fine (t .result) (t .ensures .0) (c .before .if5 .taken))
+    c .refused5 .ensures ∙ sym (scan-refused ws (readRules ws (signatureOf ws) (o .place)) _ (rules-left (c .before .before .before .before) .rest) (t .result) (t .ensures .0) (c .before .if5 .taken))
 
 -- src/reader.rt:323:1
 returns-6 : tie.Need-returns-6
-returns-6 c = let ws = c .before .before .before .before .before .before .before .before .before .before .before .before .before .before .before .before .args .book .now in
-    let n = c .before .before .before .before .before .before .before .before .before .before .before .wide .result in
-    let many : n ≡ getD ws 0 0 = c .before .before .before .before .before .before .before .before .before .before .before .wide .ensures .0 in
-    let some = c .before .before .before .before .before .before .before .before .before .before .before .before .before .before .check .ensures .1 (c .before .before .before .before .before .before .before .before .before .before .before .before .before .if1 .left) in
-    let a = c .before .before .before .before .before .before .before .before .before .before .read-numbers in
-    let ia = a .ensures .0 range refl in
-    let good = c .before .before .before .before .before .before .before .before .if2 .left in
-    let same = c .before .before .before .before .before .before .before .check2 .ensures .1 (c .before .before .before .before .before .before .if3 .left) in
-    let o = c .before .before .before .before .before .read-strategies in
-    let fine = c .before .before .before .if4 .left in
+returns-6 c = let o = c .before .before .before .before .before .read-strategies .result in
     let t = c .before .before .read-tail in
-    sym (scan-whole ws n many some (a .result) ia good same (o .result) (o .ensures .0) fine (t .result) (t .ensures .0) (c .if5 .left))
+    sym (scan-whole _ (count (c .before .before .before .before .before .before .before .before .before .before .before)) (count-left (c .before .before .before .before .before .before .before .before)) o (rules-left (c .before .before .before)) (t .result) (t .ensures .0) (c .if5 .left))
 
 pub scan-book-spec : {M : Type 1} → statement M
 scan-book-spec =

@@ -1,17 +1,13 @@
-use Rattle.system.proofs.SideSteps.{side-complete, side-symbol, side-low, side-high, side-variable}
+-- The checks of one word of a side, in their order: one law for each way out.
+use Rattle.system.proofs.SideWords.{side-complete, side-symbol, side-low, side-high, side-variable}
 use Rattle.system.specs.Answers.{signatureOf, numberOr0}
 use Rattle.system.specs.Reader.{variableFault}
-use Prim.Native.Nat.{ℕ, _-_}
+use Prim.Native.Nat.{_-_}
 use native.Mathlib.Omega.{arith}
-use mathlib.Core.Path.{_≡_, refl, sym, ap, _∙_}
+use mathlib.Core.Path.{sym, ap, _∙_}
 use borrow.Author.Needs.{needs}
 use Rattle.system.proofs.reader.side_fault.Statement.{statement}
 use Rattle.system.proofs.reader.side_fault.Tie as tie
-use Rattle.system.proofs.reader.side_fault.Reads as reads
-use Rattle.system.proofs.reader.side_fault.Lts as lts
-use Rattle.system.proofs.reader.variable_fault.Reads as variable-fault-reads
-use Rattle.system.proofs.words.is_symbol.Reads as is-symbol-reads
-use Rattle.system.proofs.words.wide.Reads as wide-reads
 
 -- src/reader.rt:149:9
 returns : tie.Need-returns

@@ -1,12 +1,10 @@
-use Rattle.system.proofs.SideSteps.{variable-head, variable-next, variable-skips, variable-known, variable-unbound}
+-- The checks of a variable: one law for each way out.
+use Rattle.system.proofs.SideWords.{variable-head, variable-next, variable-skips, variable-known, variable-unbound}
 use Rattle.system.specs.Answers.{numberOr0}
-use native.Mathlib.Omega.{arith}
-use mathlib.Core.Path.{_≡_, refl, sym, ap, _∙_}
+use mathlib.Core.Path.{sym, ap}
 use borrow.Author.Needs.{needs}
 use Rattle.system.proofs.reader.variable_fault.Statement.{statement}
 use Rattle.system.proofs.reader.variable_fault.Tie as tie
-use Rattle.system.proofs.reader.variable_fault.Reads as reads
-use Rattle.system.proofs.reader.variable_fault.Lts as lts
 
 -- src/reader.rt:127:16
 enum-told : tie.Need-enum-told

@@ -1,19 +1,16 @@
+-- The loop keeps: the check of the words from i on, with what is due, answers as that of the whole term.
 use Rattle.system.proofs.TermSteps.{break-complete, break-long, break-unknown, break-next, break-short, break-none}
 use Rattle.system.specs.Answers.{signatureOf, brokenAt}
 use Rattle.system.specs.TermCheck.{termFault}
 use Rattle.system.specs.Signature.{arity}
 use borrow.Author.Tests.{not-true, not-false}
-use lib.ListN.{length, getD, drop}
-use Prim.Native.Nat.{ℕ, _+_, _-_, _*_, _<_, _≤_}
+use lib.ListN.{length, drop}
+use Prim.Native.Nat.{_+_, _-_, _*_, _≤_}
 use native.Mathlib.Omega.{arith}
 use mathlib.Core.Path.{_≡_, refl, sym, ap, _∙_}
 use borrow.Author.Needs.{needs}
 use Rattle.system.proofs.terms.first_break.Statement.{statement}
 use Rattle.system.proofs.terms.first_break.Tie as tie
-use Rattle.system.proofs.terms.first_break.Reads as reads
-use Rattle.system.proofs.terms.first_break.Lts as lts
-use Rattle.system.proofs.words.arity.Reads as arity-reads
-use Rattle.system.proofs.words.is_symbol.Reads as is-symbol-reads
 
 abbrev Inv-loop : tie.InvT-loop
 Inv-loop book term due₀ i₀ due i = (i ≤ length term) × (i ≤ 4096) × (due ≤ 1 + 65535 * i) × (termFault (signatureOf book) due (drop i term) i ≡ termFault (signatureOf book) 1 term 0)
@@ -35,7 +32,7 @@ returns c = let l = c .before .before .loop in
 returns-2 : tie.Need-returns-2 Inv-loop μ-loop
 returns-2 c = let l = c .before .before .before .loop in
     let a = c .before .before .before .before .before .before .args in
-    ap (brokenAt (a .term .now)) (sym (break-long (signatureOf (a .book .now)) (a .term .now) (l .due) (l .i) (omega arith) (c .if2 .taken)) ∙ l .inv .3)
+    ap (brokenAt (a .term .now)) (sym (break-long (signatureOf (a .book .now)) (a .term .now) (l .due) (l .i) (omega arith) (omega arith)) ∙ l .inv .3)
 
 -- src/terms.rt:31:17
 mul-w : tie.Need-mul-w Inv-loop μ-loop
@@ -53,7 +50,7 @@ is-symbol-requires c κs = search needs
 returns-3 : tie.Need-returns-3 Inv-loop μ-loop
 returns-3 c = let l = c .before .before .before .before .before .before .loop in
     let a = c .before .before .before .before .before .before .before .before .before .args in
-    ap (brokenAt (a .term .now)) (sym (break-unknown (signatureOf (a .book .now)) (a .term .now) (l .due) (l .i) (omega arith) (omega arith) (sym (c .before .is-symbol .ensures) ∙ not-true _ (c .if3 .taken))) ∙ l .inv .3)
+    ap (brokenAt (a .term .now)) (sym (break-unknown (signatureOf (a .book .now)) (a .term .now) (l .due) (l .i) (omega arith) (sym (c .before .is-symbol .ensures) ∙ not-true _ (c .if3 .taken))) ∙ l .inv .3)
 
 -- src/terms.rt:38:15
 sub-due : tie.Need-sub-due Inv-loop μ-loop

@@ -1,17 +1,15 @@
-use Rattle.system.proofs.BookWords.{signature-room, signature-arity, arity-none}
+-- The arity of symbol i stands at index i + 1; what is no symbol takes no arguments.
+use Rattle.system.proofs.BookWords.{signature-room, signature-arity}
+use Rattle.system.proofs.Signatures.{arity-none}
 use Rattle.system.specs.Answers.{signatureOf}
 use Rattle.system.specs.Signature.{arity}
-use lib.ListN.{length, getD}
-use Prim.Native.Nat.{ℕ, _+_, _<_, _≤_}
+use lib.ListN.{length}
+use Prim.Native.Nat.{_<_}
 use native.Mathlib.Omega.{arith}
-use mathlib.Core.Path.{_≡_, refl, sym, ap, _∙_}
+use mathlib.Core.Path.{sym, ap, _∙_}
 use borrow.Author.Needs.{needs}
 use Rattle.system.proofs.words.arity.Statement.{statement}
 use Rattle.system.proofs.words.arity.Tie as tie
-use Rattle.system.proofs.words.arity.Reads as reads
-use Rattle.system.proofs.words.arity.Lts as lts
-use Rattle.system.proofs.words.symbols.Reads as symbols-reads
-use Rattle.system.proofs.words.wide.Reads as wide-reads
 
 -- src/words.rt:40:9
 wide-requires : tie.Need-wide-requires

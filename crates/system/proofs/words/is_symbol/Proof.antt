@@ -1,16 +1,11 @@
-use Rattle.system.proofs.BookWords.{symbol-test}
+-- A symbol is a word below the number of symbols.
+use Rattle.system.proofs.Signatures.{symbol-test}
 use Rattle.system.specs.Answers.{signatureOf}
-use lib.ListN.{length}
 use lib.Dec.{ltb}
-use mathlib.Core.Bool.{Bool}
-use mathlib.Core.Path.{_≡_, refl, sym, ap, _∙_}
+use mathlib.Core.Path.{sym, ap, _∙_}
 use borrow.Author.Needs.{needs}
 use Rattle.system.proofs.words.is_symbol.Statement.{statement}
 use Rattle.system.proofs.words.is_symbol.Tie as tie
-use Rattle.system.proofs.words.is_symbol.Reads as reads
-use Rattle.system.proofs.words.is_symbol.Lts as lts
-use Rattle.system.proofs.words.symbols.Reads as symbols-reads
-use Rattle.system.proofs.words.wide.Reads as wide-reads
 
 -- src/words.rt:33:5
 wide-requires : tie.Need-wide-requires

@@ -1,16 +1,14 @@
+-- The loop keeps: the words passed and the span of what is still due make the whole span.
 use Rattle.system.proofs.Spans.{span-word, span-none, span-past, span-rest}
 use Rattle.system.specs.Answers.{signatureOf}
 use Rattle.system.specs.Signature.{arity, span}
-use lib.ListN.{length, getD, drop}
-use Prim.Native.Nat.{ℕ, _+_, _-_, _<_, _≤_}
+use lib.ListN.{length, drop}
+use Prim.Native.Nat.{_+_, _-_, _≤_}
 use native.Mathlib.Omega.{arith}
-use mathlib.Core.Path.{_≡_, refl, sym, ap, _∙_}
+use mathlib.Core.Path.{_≡_}
 use borrow.Author.Needs.{needs}
 use Rattle.system.proofs.words.spans.Statement.{statement}
 use Rattle.system.proofs.words.spans.Tie as tie
-use Rattle.system.proofs.words.spans.Reads as reads
-use Rattle.system.proofs.words.spans.Lts as lts
-use Rattle.system.proofs.words.arity.Reads as arity-reads
 
 abbrev Inv-loop : tie.InvT-loop
 Inv-loop book ws k due₀ i₀ due i = (i ≤ length ws) × (i + span (signatureOf book) (drop i ws) due ≡ span (signatureOf book) ws k)

@@ -1,13 +1,9 @@
+-- As many symbols as the first word says, or as there are words.
 use native.Mathlib.Omega.{arith}
-use mathlib.Core.Path.{_≡_, refl, sym, ap, _∙_}
-use lib.ListN.{length, getD}
 use Rattle.system.proofs.BookWords.{signature-length}
 use borrow.Author.Needs.{needs}
 use Rattle.system.proofs.words.symbols.Statement.{statement}
 use Rattle.system.proofs.words.symbols.Tie as tie
-use Rattle.system.proofs.words.symbols.Reads as reads
-use Rattle.system.proofs.words.symbols.Lts as lts
-use Rattle.system.proofs.words.wide.Reads as wide-reads
 
 -- src/words.rt:19:9
 returns : tie.Need-returns

@@ -1,0 +1,225 @@
+-- What the loop of `machine::advance` keeps, and each way out of a turn of it.
+use Prim.Native.Nat.{ℕ, suc, _+_, _-_, _<_}
+use native.Mathlib.Omega.{arith}
+use mathlib.Core.Path.{_≡_, refl, sym, ap, _∙_, subst, subst₂}
+use mathlib.Core.List.{List, [], _∷_, _++_}
+use lib.ListN.{length, getD, take, drop, length-append}
+use lib.Seq.{take-all, take-suc, length-take-le, append-snoc}
+use Rattle.buffers.proofs.Over.{part-slice}
+use Rattle.system.specs.declared.Shape.{Shape}
+use Rattle.system.specs.System.{System}
+use Rattle.matching.specs.declared.Match.{Match}
+use Rattle.matching.specs.declared.Found.the-variants.{Nothing, First}
+use Rattle.matching.specs.Accepted.{systemOf, Accepted}
+use Rattle.matching.specs.Stretches.{matchOf}
+use Rattle.matching.proofs.Reducts.{match-none, match-some}
+use Rattle.evaluation.specs.declared.machine.Turn.{Turn}
+use Rattle.evaluation.specs.declared.machine.Turn.the-variants.{Tried, Opened, Left, TooDeep}
+use Rattle.evaluation.specs.declared.machine.Stop.the-variants.{Finished, Deep, Ready}
+use Rattle.evaluation.specs.Machine.{strategyAt, position, Next, finished, deep, ready, advance}
+use Rattle.evaluation.specs.Area.{area, termIn, outerIn, countIn, Going, Holds}
+use Rattle.evaluation.specs.Turn.{Turned, turn, Taken}
+use Rattle.evaluation.specs.Arrival.{Arrived}
+use Rattle.evaluation.proofs.Laws.{entry-at}
+use Rattle.evaluation.proofs.Turns.{turns, turns-pop, turns-pass, turns-open}
+use Rattle.evaluation.proofs.Advances.{advance-end, advance-pop, advance-pass, advance-fire, advance-open, advance-too-deep}
+use Rattle.evaluation.proofs.Areas.{held-term, held-outer, held-count}
+use Rattle.evaluation.proofs.TurnSteps.{Entered, over, rules, inside, deeper, entered, Bounds, bounds, spot}
+
+-- where the machine comes to from the state in an area, and the turns that are left until then
+abbrev pub comes : System → List ℕ → ℕ → ℕ → Next
+comes s ws n level = advance s 64 (outerIn ws level ++ countIn ws level ∷ []) (termIn ws n) 0
+
+unfoldable pub turnsIn : System → List ℕ → ℕ → ℕ → ℕ
+turnsIn s ws n level = turns s (termIn ws n) 64 (outerIn ws level ++ countIn ws level ∷ []) 0
+
+-- a state, of the same term, from which the machine comes to the same place
+pub record Advancing (s : System) (ws₀ : List ℕ) (n start : ℕ) (ws positions : List ℕ) (level : ℕ) : Type 0 where
+  pub state : Holds s ws positions n level
+  pub term : termIn ws n ≡ termIn ws₀ n
+  pub same : comes s ws n level ≡ comes s ws₀ n start
+
+pub advancing-start : (s : System) (ws positions : List ℕ) (n start : ℕ) → Holds s ws positions n start → Advancing s ws n start ws positions start
+advancing-start s ws positions n start h = record { state = h; term = refl; same = refl }
+
+-- one turn less is left
+pub record Goes (s : System) (ws₀ : List ℕ) (n start : ℕ) (ws : List ℕ) (level : ℕ) (ws′ positions′ : List ℕ) (level′ : ℕ) : Type 0 where
+  pub on : Advancing s ws₀ n start ws′ positions′ level′
+  pub less : turnsIn s ws′ n level′ < turnsIn s ws n level
+
+module _ (b : List ℕ) (sh : Shape) (acc : Accepted b sh) (ws₀ : List ℕ) (n start : ℕ) (ws positions : List ℕ) (level : ℕ)
+    (v : Advancing (systemOf b) ws₀ n start ws positions level) (r : Turn) (ws′ positions′ : List ℕ)
+    (k : Taken (systemOf b) (termIn ws n) n ws positions (turn (systemOf b) (termIn ws n) (outerIn ws level) (countIn ws level)) r ws′ positions′) where
+  abbrev s : System
+  s = systemOf b
+
+  abbrev t : List ℕ
+  t = termIn ws n
+
+  abbrev outer : List ℕ
+  outer = outerIn ws level
+
+  abbrev c : ℕ
+  c = countIn ws level
+
+  abbrev here : ℕ
+  here = position s t outer 0
+
+  abbrev entries : List ℕ
+  entries = strategyAt s t here
+
+  going : Going s t outer c
+  going = v .state .stored .going
+
+  words : length t ≡ n
+  words = v .state .stored .words
+
+  levels : length outer ≡ level
+  levels = v .state .stored .levels
+
+  enters : Entered s t outer c (turn s t outer c)
+  enters = entered s t outer c
+
+  -- to another state
+  module _ (outer′ : List ℕ) (c′ level′ : ℕ) (is : ws′ ≡ area t (outer′ ++ c′ ∷ [])) (h : Holds s ws′ positions′ n level′) (levels′ : length outer′ ≡ level′) where
+    room′ : level′ < 64
+    room′ = let z = h .stored .going .room in omega (arith, h .stored .levels)
+
+    term′ : termIn ws′ n ≡ t
+    term′ = held-term ws′ t outer′ c′ n level′ is (going .bounded) words levels′ room′
+
+    counts′ : outerIn ws′ level′ ++ countIn ws′ level′ ∷ [] ≡ outer′ ++ c′ ∷ []
+    counts′ =
+        let e₁ = held-outer ws′ t outer′ c′ n level′ is (going .bounded) words levels′ room′ in
+        let e₂ = held-count ws′ t outer′ c′ n level′ is (going .bounded) words levels′ room′ in
+        λ j. e₁ j ++ e₂ j ∷ []
+
+    moved : advance s 64 (outer ++ c ∷ []) t 0 ≡ advance s 64 (outer′ ++ c′ ∷ []) t 0 → turns s t 64 (outer′ ++ c′ ∷ []) 0 < turns s t 64 (outer ++ c ∷ []) 0 →
+        Goes s ws₀ n start ws level ws′ positions′ level′
+    unfolding turnsIn
+    moved e l = record {
+      on = record { state = h; term = term′ ∙ v .term; same = (λ j. advance s 64 (counts′ j) (term′ j) 0) ∙ sym e ∙ v .same };
+      less = subst₂ (λ y z. turns s y 64 z 0 < turns s t 64 (outer ++ c ∷ []) 0) (sym term′) (sym counts′) l;
+    }
+
+  -- ---- a level is left
+  module _ (e : r ≡ Left) where
+    pub goes-left : 0 < level → Goes s ws₀ n start ws level ws′ positions′ (level - 1)
+    goes-left h = go enters k
+      where
+        go : {o : Turned} → Entered s t outer c o → Taken s t n ws positions o r ws′ positions′ → Goes s ws₀ n start ws level ws′ positions′ (level - 1)
+        go (over q) x =
+            let m = level - 1 in
+            let ds = take m outer in
+            let d = getD outer m 0 in
+            let z : level ≡ suc m = omega arith in
+            let y : outer ≡ ds ++ d ∷ [] = sym (take-all (suc m) outer (omega (arith, levels))) ∙ take-suc outer m 0 (omega (arith, levels)) in
+            moved ds d m (x .1 ∙ ap (area t) y) (subst (λ y. Holds s ws′ positions′ n (y - 1)) levels (x .3 (omega (arith, levels)))) (length-take-le m outer (omega (arith, levels)))
+            (advance-pop s t 64 0 outer c (going .room) q ∙ ap (λ y. advance s 64 y t 0) y)
+            (subst (λ y. turns s t 64 y 0 < turns s t 64 (outer ++ c ∷ []) 0) y (turns-pop s t 64 0 outer c (going .room) q))
+        go (rules q f) x = absurd (let z : _≡_ {A = ℕ} 0 1 = cc (x .0) in omega arith)
+        go (inside i q f l) x = absurd (let z : _≡_ {A = ℕ} 0 1 = cc (x .0) in omega arith)
+        go (deeper i q f l) x = absurd (let z : _≡_ {A = ℕ} 0 1 = cc (x .0) in omega arith)
+
+    -- the outermost one: the end
+    pub arrives-end : level ≡ 0 → (m : Match) → Arrived s (termIn ws₀ n) n (comes s ws₀ n start) (record { stop = Finished; level = level; found = m }) ws′ positions′
+    arrives-end h m = go enters k
+      where
+        none-around : outer ≡ []
+        none-around = ap (λ y. outerIn ws y) h
+
+        go : {o : Turned} → Entered s t outer c o → Taken s t n ws positions o r ws′ positions′ →
+            Arrived s (termIn ws₀ n) n (comes s ws₀ n start) (record { stop = Finished; level = level; found = m }) ws′ positions′
+        go (over q) x =
+            let y : comes s ws₀ n start ≡ finished =
+            sym (v .same) ∙ advance-pop s t 64 0 outer c (going .room) q ∙ ap (λ y. advance s 64 y t 0) none-around ∙ advance-end s t 64 0 in
+            subst (λ y. Arrived s (termIn ws₀ n) n y (record { stop = Finished; level = level; found = m }) ws′ positions′) (sym y)
+            (refl, x .1 ∙ (λ j. area (v .term j) (none-around j)))
+        go (rules q f) x = absurd (let z : _≡_ {A = ℕ} 0 1 = cc (x .0) in omega arith)
+        go (inside i q f l) x = absurd (let z : _≡_ {A = ℕ} 0 1 = cc (x .0) in omega arith)
+        go (deeper i q f l) x = absurd (let z : _≡_ {A = ℕ} 0 1 = cc (x .0) in omega arith)
+
+  -- ---- an argument is opened
+  pub goes-opened : r ≡ Opened → Goes s ws₀ n start ws level ws′ positions′ (level + 1)
+  goes-opened e = go enters k
+    where
+      go : {o : Turned} → Entered s t outer c o → Taken s t n ws positions o r ws′ positions′ → Goes s ws₀ n start ws level ws′ positions′ (level + 1)
+      go (inside i q f l) x =
+          let inner = outer ++ suc c ∷ [] in
+          let d : length inner ≡ level + 1 = rw length-append (omega (arith, levels)) in
+          moved inner 0 (level + 1) (x .1) (subst (λ y. Holds s ws′ positions′ n y) d (x .3)) d
+          (advance-open s t 64 0 outer c (going .room) q i f)
+          (rw (append-snoc outer (suc c) (0 ∷ [])) (turns-open s t 64 0 outer c (going .room) (drop (suc c) entries) i (entry-at entries c (suc i) q f)))
+      go (over q) x = absurd (let z : _≡_ {A = ℕ} 0 1 = cc (x .0) in omega arith)
+      go (rules q f) x = absurd (let z : _≡_ {A = ℕ} 0 1 = cc (x .0) in omega arith)
+      go (deeper i q f l) x = absurd (let z : _≡_ {A = ℕ} 0 1 = cc (x .0) in omega arith)
+
+  -- ---- an argument would be opened from level 64
+  pub arrives-deep : r ≡ TooDeep → (m : Match) → Arrived s (termIn ws₀ n) n (comes s ws₀ n start) (record { stop = Deep; level = level; found = m }) ws′ positions′
+  arrives-deep e m = go enters k
+    where
+      go : {o : Turned} → Entered s t outer c o → Taken s t n ws positions o r ws′ positions′ →
+          Arrived s (termIn ws₀ n) n (comes s ws₀ n start) (record { stop = Deep; level = level; found = m }) ws′ positions′
+      go (deeper i q f l) x =
+          let w = bounds b sh acc ws positions n level (v .state) in
+          let g = going .room in
+          let y : comes s ws₀ n start ≡ deep = sym (v .same) ∙ advance-too-deep s t 64 0 outer c (going .room) q i f (omega arith) in
+          subst (λ y. Arrived s (termIn ws₀ n) n y (record { stop = Deep; level = level; found = m }) ws′ positions′) (sym y)
+          (refl, ap length (x .1) ∙ w .total)
+      go (over q) x = absurd (let z : _≡_ {A = ℕ} 0 1 = cc (x .0) in omega arith)
+      go (rules q f) x = absurd (let z : _≡_ {A = ℕ} 0 1 = cc (x .0) in omega arith)
+      go (inside i q f l) x = absurd (let z : _≡_ {A = ℕ} 0 1 = cc (x .0) in omega arith)
+
+  -- ---- the rules are to be tried
+  module _ (e : r ≡ Tried) where
+    record Tries : Type 0 where
+      more : c < length entries
+      entry : getD entries c 0 ≡ 0
+      is : ws′ ≡ area t (outer ++ suc c ∷ [])
+      state : Holds s ws′ positions′ n level
+      same-positions : positions′ ≡ positions
+
+    tries : Tries
+    tries = go enters k
+      where
+        go : {o : Turned} → Entered s t outer c o → Taken s t n ws positions o r ws′ positions′ → Tries
+        go (rules q f) x = record { more = q; entry = f; is = x .1; state = subst (λ y. Holds s ws′ positions′ n y) levels (x .3); same-positions = x .2 }
+        go (over q) x = absurd (let z : _≡_ {A = ℕ} 0 1 = cc (x .0) in omega arith)
+        go (inside i q f l) x = absurd (let z : _≡_ {A = ℕ} 0 1 = cc (x .0) in omega arith)
+        go (deeper i q f l) x = absurd (let z : _≡_ {A = ℕ} 0 1 = cc (x .0) in omega arith)
+
+    pub tried-bounds : Bounds ws′ positions′ n level
+    tried-bounds = bounds b sh acc ws′ positions′ n level (tries .state)
+
+    abbrev p : ℕ
+    p = getD positions′ level 0
+
+    -- the words that they are tried on
+    front : take (n - p) (drop p ws′) ≡ drop here t
+    front =
+        let w = tried-bounds in
+        let z : p + (n - p) ≡ n = omega arith in
+        let y : p ≡ here = ap (λ y. getD y level 0) (tries .same-positions) ∙ spot b sh acc ws positions n level (v .state) in
+        part-slice p (n - p) ws′ ∙ ap (λ y. drop p (take y ws′)) z ∙ (λ j. drop (y j) (term′ outer (suc c) level (tries .is) (tries .state) levels j))
+
+    module _ (m : Match) (found : m ≡ matchOf s (take (n - p) (drop p ws′))) where
+      found-here : m ≡ matchOf s (drop here t)
+      found-here = found ∙ ap (matchOf s) front
+
+      -- none matches
+      pub goes-tried : m .found ≡ Nothing → Goes s ws₀ n start ws level ws′ positions′ level
+      goes-tried f =
+          let x = tries in
+          moved outer (suc c) level (x .is) (x .state) levels
+          (advance-pass s t 64 0 outer c (going .room) (x .more) (x .entry) (match-none b sh acc (drop here t) m found-here f))
+          (turns-pass s t 64 0 outer c (going .room) (drop (suc c) entries) (entry-at entries c 0 (x .more) (x .entry)))
+
+      -- one matches: a rewrite is next
+      pub arrives-ready : (i rhs size : ℕ) → m .found ≡ First i rhs size →
+          Arrived s (termIn ws₀ n) n (comes s ws₀ n start) (record { stop = Ready; level = level; found = m }) ws′ positions′
+      arrives-ready i rhs size f =
+          let x = tries in
+          let q = match-some b sh acc (drop here t) m found-here f in
+          let y : advance s 64 (outer ++ c ∷ []) t 0 ≡ ready outer (suc c) _ = advance-fire s t 64 0 outer c (going .room) (x .more) _ (x .entry) q in
+          subst₂ (λ u z. Arrived s u n z (record { stop = Ready; level = level; found = m }) ws′ positions′) (v .term) (sym y ∙ v .same)
+          (refl, sym levels, found-here, q, x .is, x .state)

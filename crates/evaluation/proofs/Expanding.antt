@@ -1,0 +1,119 @@
+-- What `expansion` is at each of the evaluator's checks, and after a run.
+use Prim.Native.Nat.{ℕ, zero, suc, _+_, _≤_, _<_}
+use native.Mathlib.Omega.{arith}
+use mathlib.Core.Path.{_≡_, refl, sym, ap, _∙_}
+use mathlib.Core.Bool.{Bool, true, false, _&&_}
+use mathlib.Core.List.{List, [], _∷_, _++_}
+use lib.ListN.{length, take, drop, length-append, length-drop}
+use lib.Seq.{take-append-le, drop-at, sets-eq}
+use lib.Dec.{leb}
+use borrow.Author.Tests.{le-leb, lt-leb}
+use Rattle.buffers.specs.Words.{over, zeros}
+use Rattle.buffers.proofs.Pads.{length-zeros}
+use Rattle.system.specs.declared.Answer.{Answer}
+use Rattle.system.specs.declared.Shape.{Shape}
+use Rattle.system.specs.System.{System}
+use Rattle.system.specs.Terms.{Whole, WellFormed}
+use Rattle.system.specs.Reader.{read, ok}
+use Rattle.system.specs.Answers.{shapeOf, termAnswer}
+use Rattle.system.specs.TermCheck.{termFault}
+use Rattle.system.proofs.Accepts.{read-sound}
+use Rattle.system.proofs.Answering.{checked}
+use Rattle.system.proofs.TermChecks.{fault-whole}
+use Rattle.matching.specs.Accepted.{systemOf, Accepted}
+use Rattle.evaluation.specs.declared.run.Ended.{Ended}
+use Rattle.evaluation.specs.Evaluation.{Outcome, settled, stopped, evaluation}
+use Rattle.evaluation.specs.Ended.{Ends}
+use Rattle.evaluation.specs.Expansion.{Expansion, ended, expansion}
+use Rattle.evaluation.proofs.Done.{theorem-done, steps-last}
+
+-- ---- what the check of a term tells
+
+pub record Checks (book term : List ℕ) : Type 0 where
+  pub accepted : read book ≡ ok (systemOf book) (length book)
+  pub whole : Whole (systemOf book .arities) term
+  pub bounded : length term ≤ 4096
+
+pub checks : (book term : List ℕ) → termAnswer book term .number ≡ 0 → Checks book term
+unfolding systemOf
+checks book term e =
+    let c = checked book term e in
+    let s = c .system in
+    let h : systemOf book ≡ s = rw (c .equal) in
+    let z : read book ≡ ok s (length book) = c .equal ∙ ap (ok s) (read-sound book (c .equal) .2) in
+    let f = fault-whole (s .arities) term (rw (c .arities) (c .whole)) in
+    record { accepted = rw h z; whole = rw h (f .0); bounded = f .1 }
+
+module _ (book term : List ℕ) (c : Checks book term) where
+  pub checks-well : WellFormed (systemOf book)
+  checks-well = read-sound book (c .accepted) .0
+
+  pub checks-accepted : (shape : Shape) → shape ≡ shapeOf (read book) → Accepted book shape
+  checks-accepted shape e = record { accepted = c .accepted; shaped = e }
+
+-- ---- the checks of the evaluator
+
+module _ (book term : List ℕ) (limit : ℕ) (out work : List ℕ) where
+  pub cramped-answer : length out < 4096 → expansion book term limit out work ≡ record { numbers = record { number = 10; place = 0; steps = 0 }; answer = out; work = work }
+  unfolding expansion
+  cramped-answer h = rw (lt-leb 4096 (length out) h, expansion)
+
+  pub cramped-work : 4096 ≤ length out → length work < 8192 → expansion book term limit out work ≡ record { numbers = record { number = 10; place = 0; steps = 0 }; answer = out; work = work }
+  unfolding expansion
+  cramped-work h k = rw (le-leb 4096 (length out) h, lt-leb 8192 (length work) k, expansion)
+
+  module _ (room-answer : 4096 ≤ length out) (room-work : 8192 ≤ length work) where
+    pub refuses : (termAnswer book term .number ≡ 0 → ⊥) → expansion book term limit out work ≡ record { numbers = termAnswer book term; answer = out; work = work }
+    unfolding expansion
+    refuses bad = go (termAnswer book term .number) refl
+      where
+        go : (n : ℕ) → termAnswer book term .number ≡ n → expansion book term limit out work ≡ record { numbers = termAnswer book term; answer = out; work = work }
+        go zero e = absurd (bad e)
+        go (suc n) e = rw (le-leb 4096 (length out) room-answer, le-leb 8192 (length work) room-work, e, expansion)
+            (λ i. record { numbers = record { number = e i; place = termAnswer book term .place; steps = termAnswer book term .steps }; answer = out; work = work })
+
+    pub evaluates : termAnswer book term .number ≡ 0 → expansion book term limit out work ≡ ended out work (evaluation (systemOf book) limit term)
+    unfolding expansion
+    evaluates e = rw (le-leb 4096 (length out) room-answer, le-leb 8192 (length work) room-work, e, expansion)
+
+-- ---- after a run
+
+-- what is handed back is no longer than a term may be
+pub size-bounded : (book term : List ℕ) (limit : ℕ) → Checks book term → (e : Ended) (ws : List ℕ) → Ends (evaluation (systemOf book) limit term) e ws → e .size ≤ 4096
+size-bounded book term limit c e ws = go (evaluation (systemOf book) limit term) refl
+  where
+    go : (o : Outcome) → evaluation (systemOf book) limit term ≡ o → Ends o e ws → e .size ≤ 4096
+    go (settled r) q h = let d = theorem-done (systemOf book) (checks-well book term c) limit term r (c .whole) (c .bounded) q in
+        let z = ap (λ y. y .size) (h .0) in
+        omega (arith, steps-last (systemOf book) (d .path))
+    go (stopped n k) q h = let z = ap (λ y. y .size) (h .0) in omega arith
+
+-- the area is lent as the first words of the work buffer; what stands behind it is as it was
+module _ (out work ws : List ℕ) (room : 8192 ≤ length work) (size : length ws ≡ 8192) where
+  pub whole-length : length (ws ++ drop 8192 work) ≡ length work
+  whole-length = rw (length-append, length-drop, size) (omega arith)
+
+  pub front : (n : ℕ) → n ≤ 8192 → take n (ws ++ drop 8192 work) ≡ take n ws
+  front n h = take-append-le n ws (drop 8192 work) (omega arith)
+
+  pub zeroed : over (ws ++ drop 8192 work) 0 (zeros 8192) ≡ over work 0 (zeros 8192)
+  zeroed =
+      let n = length-zeros 8192 in
+      let k : 0 + length (zeros 8192) ≡ 8192 = omega arith in
+      sets-eq (zeros 8192) (ws ++ drop 8192 work) 0 (rw whole-length (omega arith))
+      ∙ rw (k, drop-at ws (drop 8192 work) 8192 size)
+      (sym (sets-eq (zeros 8192) work 0 (omega arith) ∙ rw k))
+
+-- the end: the numbers, the answer buffer and the work buffer
+pub finishes : (o : Outcome) (e : Ended) (out work ws : List ℕ) → 8192 ≤ length work → length ws ≡ 8192 → e .size ≤ 8192 → Ends o e ws →
+    (record { number = e .number; place = e .size; steps = e .steps } ≡ ended out work o .numbers) ×
+    (over out 0 (take (e .size) (ws ++ drop 8192 work)) ≡ ended out work o .answer) ×
+    (over (ws ++ drop 8192 work) 0 (zeros 8192) ≡ ended out work o .work)
+finishes (settled r) e out work ws room size small h =
+    (rw (h .0),
+    ap (over out 0) (front out work ws room size (e .size) small ∙ ap (λ y. take (y .size) ws) (h .0) ∙ h .2),
+    zeroed out work ws room size)
+finishes (stopped n k) e out work ws room size small h =
+    (rw (h .0),
+    ap (λ y. over out 0 (take (y .size) (ws ++ drop 8192 work))) (h .0),
+    zeroed out work ws room size)

@@ -1,0 +1,38 @@
+-- What the evaluator (01: the expander) answers and leaves in the lent buffers, for every input.
+use Prim.Native.Nat.{ℕ, zero, suc}
+use mathlib.Core.Bool.{true, false, _&&_}
+use mathlib.Core.List.{List, []}
+use lib.ListN.{length}
+use lib.Dec.{leb}
+use Rattle.buffers.specs.Words.{over, zeros}
+use Rattle.system.specs.declared.Answer.{Answer}
+use Rattle.system.specs.Answers.{termAnswer}
+use Rattle.matching.specs.Accepted.{systemOf}
+use Rattle.evaluation.specs.Evaluation.{Outcome, settled, stopped, evaluation}
+
+-- the three numbers, the answer buffer and the work buffer
+pub record Expansion : Type 0 where
+  pub numbers : Answer
+  pub answer : List ℕ
+  pub work : List ℕ
+
+-- "On 0 the answer stands in the first words of the answer buffer and the rest is unchanged; otherwise that buffer is unchanged."
+-- "On 11 to 13 and on 0 the first 8,192 words of the expander's work buffer are zero and the rest unchanged"
+abbrev pub ended : List ℕ → List ℕ → Outcome → Expansion
+ended out work (settled r) = record {
+  numbers = record { number = 0; place = length (r .term); steps = r .steps };
+  answer = over out 0 (r .term);
+  work = over work 0 (zeros 8192);
+}
+ended out work (stopped n k) = record { numbers = record { number = n; place = 0; steps = k }; answer = out; work = over work 0 (zeros 8192) }
+
+-- "The expander checks 10, then the book, then the cue"; "every other number touches no buffer"
+unfoldable pub expansion : List ℕ → List ℕ → ℕ → List ℕ → List ℕ → Expansion
+expansion book term limit out work =
+    elim (leb 4096 (length out) && leb 8192 (length work)) [
+      | false ↦ record { numbers = record { number = 10; place = 0; steps = 0 }; answer = out; work = work }
+      | true ↦ elim (termAnswer book term .number) [
+        | zero ↦ ended out work (evaluation (systemOf book) limit term)
+        | suc _ ↦ record { numbers = termAnswer book term; answer = out; work = work }
+      ]
+    ]

@@ -1,0 +1,52 @@
+-- One turn of the machine: the next entry of the innermost level's strategy.
+use Prim.Native.Nat.{ℕ, zero, suc, _-_, _<_}
+use mathlib.Core.Path.{_≡_}
+use mathlib.Core.Bool.{true, false, cond}
+use mathlib.Core.List.{List, [], _∷_, _++_}
+use lib.ListN.{length, getD, set}
+use lib.Dec.{ltb, leb}
+use Rattle.system.specs.System.{System}
+use Rattle.evaluation.specs.Machine.{strategyAt, position}
+use Rattle.evaluation.specs.Area.{area, Holds}
+use Rattle.evaluation.specs.declared.entries.Entry.{Entry}
+use Rattle.evaluation.specs.declared.entries.Entry.the-variants.{End, Rules, Argument}
+use Rattle.evaluation.specs.declared.machine.Turn.{Turn}
+use Rattle.evaluation.specs.declared.machine.Turn.the-variants.{Tried, Opened, Left, TooDeep}
+
+-- what entry c of a strategy asks for: "Entry 0 means try the rules here; entry i means evaluate argument i (from 1)"
+abbrev pub entryFrom : ℕ → Entry
+entryFrom zero = Rules
+entryFrom (suc i) = Argument i
+
+unfoldable pub entryOf : List ℕ → ℕ → Entry
+entryOf es c = elim (ltb c (length es)) [ true ↦ entryFrom (getD es c 0) | false ↦ End ]
+
+-- where a turn leads. The rules are to be tried at the innermost level: the levels around it, and its begun entries, the 0 among them.
+-- An argument is opened: the levels around it. A level is left: those that are still open. Or an argument would be opened from level 64
+pub data Turned : Type 0 where
+  tried : List ℕ → ℕ → Turned
+  opened : List ℕ → Turned
+  left : List ℕ → Turned
+  tooDeep : Turned
+
+-- with the levels `outer` around the innermost one, of which c entries are begun; the innermost level is level 64 where 63 are around it
+unfoldable pub turn : System → List ℕ → List ℕ → ℕ → Turned
+turn s t outer c =
+    elim (entryOf (strategyAt s t (position s t outer 0)) c) [
+      | End ↦ left outer
+      | Rules ↦ tried outer (suc c)
+      | Argument i ↦ cond (leb 63 (length outer)) tooDeep (opened (outer ++ suc c ∷ []))
+    ]
+
+-- what `take_turn` hands back and leaves in the area ws and in the positions, for each place that a turn may lead to
+abbrev pub Taken : System → List ℕ → ℕ → List ℕ → List ℕ → Turned → Turn → List ℕ → List ℕ → Type 0
+Taken s t n ws positions (tried outer c) r ws′ positions′ =
+    (r ≡ Tried) × (ws′ ≡ area t (outer ++ c ∷ [])) × (positions′ ≡ positions) × Holds s ws′ positions′ n (length outer)
+Taken s t n ws positions (opened outer) r ws′ positions′ =
+    (r ≡ Opened) ×
+    (ws′ ≡ area t (outer ++ 0 ∷ [])) ×
+    (positions′ ≡ set positions (length outer) (position s t outer 0)) ×
+    Holds s ws′ positions′ n (length outer)
+Taken s t n ws positions (left outer) r ws′ positions′ =
+    (r ≡ Left) × (ws′ ≡ area t outer) × (positions′ ≡ positions) × (0 < length outer → Holds s ws′ positions′ n (length outer - 1))
+Taken s t n ws positions tooDeep r ws′ positions′ = (r ≡ TooDeep) × (ws′ ≡ ws) × (positions′ ≡ positions)

@@ -1,0 +1,146 @@
+// The machine in an area of lent words: from a state to just before its next rewrite, without recursion.
+ghost use mathlib.Core.List.{[], _∷_, _++_};
+ghost use Rattle.matching.specs.Accepted.{systemOf, Accepted};
+ghost use Rattle.evaluation.specs.Machine.{advance};
+ghost use Rattle.evaluation.specs.Area.{Holds, termIn, outerIn, countIn};
+ghost use Rattle.evaluation.specs.Turn.{turn, Taken};
+ghost use Rattle.evaluation.specs.Arrival.{Arrived};
+use crate::entries::Entry;
+use crate::entries::entry_of;
+use matching::Found;
+use matching::Match;
+use matching::rules::first_rule;
+use system::Shape;
+use system::words::spans;
+use system::words::wide;
+
+// Where the machine came to: its end, an argument that would be opened from level 64, or a rewrite.
+pub enum Stop {
+    Finished,
+    Deep,
+    Ready,
+}
+
+// Where it came to, how many levels stand around the innermost one there, and the rule that matches if a rewrite is next.
+pub struct Advanced {
+    pub stop: Stop,
+    pub level: usize,
+    pub found: Match,
+}
+
+// A turn: the rules are to be tried at the innermost level, an argument was opened, a level was left; or it would be too deep.
+enum Turn {
+    Tried,
+    Opened,
+    Left,
+    TooDeep,
+}
+
+// Takes the next entry of the innermost level's strategy, and counts it as begun. Nothing is changed where it would be too deep.
+fn take_turn(
+    book: &[u16],
+    shape: Shape,
+    area: &mut [u16],
+    positions: &mut [usize],
+    n: usize,
+    level: usize,
+) -> Turn
+    requires { ⌜ Accepted (now book) shape × Holds (systemOf (now book)) (now area) (now positions) n level ⌝ }
+    ensures { λ r. ⌜ Taken (systemOf (now (book .entry))) (termIn (now (area .entry)) n) n (now (area .entry)) (now (positions .entry)) (turn (systemOf (now (book .entry))) (termIn (now (area .entry)) n) (outerIn (now (area .entry)) level) (countIn (now (area .entry)) level)) r (now (area .exit)) (now (positions .exit)) ⌝ }
+{
+    let p = positions[level];
+    let c = area[4096 + level];
+    let begun = c + 1;
+    let e = entry_of(book, shape, area[p], wide(c));
+    match e {
+        Entry::End => {
+            area[4096 + level] = 0;
+            return Turn::Left;
+        }
+        Entry::Rules => {
+            area[4096 + level] = begun;
+            return Turn::Tried;
+        }
+        Entry::Argument(i) => {
+            if 63 <= level {
+                return Turn::TooDeep;
+            }
+            let a = p + 1;
+            let q = a + spans(book, &area[a..n], i);
+            area[4096 + level] = begun;
+            positions[level + 1] = q;
+            return Turn::Opened;
+        }
+    }
+}
+
+// Goes on without rewriting: to the end, to just before the next rewrite, or to where an argument would be opened from level 64.
+pub fn advance(
+    book: &[u16],
+    shape: Shape,
+    area: &mut [u16],
+    positions: &mut [usize],
+    n: usize,
+    start: usize,
+) -> Advanced
+    requires { ⌜ Accepted (now book) shape × Holds (systemOf (now book)) (now area) (now positions) n start ⌝ }
+    ensures { λ r. ⌜ Arrived (systemOf (now (book .entry))) (termIn (now (area .entry)) n) n (advance (systemOf (now (book .entry))) 64 (outerIn (now (area .entry)) start ++ countIn (now (area .entry)) start ∷ []) (termIn (now (area .entry)) n) 0) r (now (area .exit)) (now (positions .exit)) ⌝ }
+{
+    let mut level = start;
+    loop {
+        let t = take_turn(book, shape, area, positions, n, level);
+        match t {
+            Turn::Tried => {
+                let p = positions[level];
+                let m = first_rule(book, shape, &area[p..n]);
+                let found = m.found;
+                match found {
+                    Found::Nothing => {
+                        continue;
+                    }
+                    Found::First {
+                        number: _,
+                        rhs: _,
+                        size: _,
+                    } => {
+                        return Advanced {
+                            stop: Stop::Ready,
+                            level,
+                            found: m,
+                        };
+                    }
+                }
+            }
+            Turn::Opened => {
+                level += 1;
+                continue;
+            }
+            Turn::Left => {
+                if level == 0 {
+                    return Advanced {
+                        stop: Stop::Finished,
+                        level,
+                        found: nothing(),
+                    };
+                }
+                level -= 1;
+                continue;
+            }
+            Turn::TooDeep => {
+                return Advanced {
+                    stop: Stop::Deep,
+                    level,
+                    found: nothing(),
+                };
+            }
+        }
+    }
+}
+
+fn nothing() -> Match {
+    Match {
+        found: Found::Nothing,
+        starts: [0; 16],
+        lengths: [0; 16],
+    }
+}

@@ -1,0 +1,73 @@
+// Advancing and rewriting in turn.
+ghost use mathlib.Core.Path.{_≡_};
+ghost use Prim.Native.Nat.{_≤_};
+ghost use lib.ListN.{length};
+ghost use Rattle.system.specs.Terms.{Whole};
+ghost use Rattle.matching.specs.Accepted.{systemOf, Accepted};
+ghost use Rattle.evaluation.specs.Evaluation.{evaluation};
+ghost use Rattle.evaluation.specs.Ended.{Ends};
+use crate::machine::Stop;
+use crate::machine::advance;
+use crate::reducts::rewrite;
+use system::Shape;
+
+// How a run ended: 0, 11, 12 or 13; how many words the term has, on 0; and the steps taken.
+pub struct Ended {
+    pub number: u32,
+    pub size: usize,
+    pub steps: u32,
+}
+
+// Evaluates a term in an area of 8,192 words.
+pub fn run(book: &[u16], shape: Shape, term: &[u16], limit: u32, area: &mut [u16]) -> Ended
+    requires { ⌜ Accepted (now book) shape × Whole (systemOf (now book) .arities) (now term) × (length (now term) ≤ 4096) × (length (now area) ≡ 8192) ⌝ }
+    ensures { λ r. ⌜ Ends (evaluation (systemOf (now (book .entry))) limit (now (term .entry))) r (now (area .exit)) ⌝ }
+{
+    buffers::clear(area, 0, 8192);
+    buffers::copy_in(area, 0, term);
+    let mut positions = [0usize; 64];
+    let mut n = term.len();
+    let mut level = 0;
+    let mut steps: u32 = 0;
+    loop {
+        let a = advance(book, shape, area, &mut positions, n, level);
+        let stop = a.stop;
+        match stop {
+            Stop::Finished => {
+                return Ended {
+                    number: 0,
+                    size: n,
+                    steps,
+                };
+            }
+            Stop::Deep => {
+                return Ended {
+                    number: 13,
+                    size: 0,
+                    steps,
+                };
+            }
+            Stop::Ready => {
+                if limit <= steps {
+                    return Ended {
+                        number: 11,
+                        size: 0,
+                        steps,
+                    };
+                }
+                level = a.level;
+                let m = a.found;
+                let k = rewrite(book, shape, area, n, level, positions[level], m);
+                if k == 0 {
+                    return Ended {
+                        number: 12,
+                        size: 0,
+                        steps,
+                    };
+                }
+                n = k;
+                steps += 1;
+            }
+        }
+    }
+}

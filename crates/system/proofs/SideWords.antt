@@ -1,0 +1,156 @@
+-- One word of a side: what its check answers in each case, and so what a word is that passes.
+use Prim.Native.Nat.{ℕ, zero, suc, _+_, _-_, _≤_, _<_}
+use native.Mathlib.Omega.{arith}
+use native.Mathlib.Decide.{decLt, ℕ-discrete}
+use mathlib.Core.Path.{_≡_, refl, sym, _∙_}
+use mathlib.Core.Logic.{_⊎_, inl, inr}
+use mathlib.Core.Bool.{Bool, true, false}
+use mathlib.Core.Option.{none, some}
+use borrow.Author.Tests.{lt-ltb, le-ltb, le-leb, lt-leb, eq-eqb, ne-eqb}
+use Rattle.system.specs.declared.reader.Hand.{Hand}
+use Rattle.system.specs.declared.reader.Hand.the-variants.{Left, Right}
+use Rattle.system.specs.Signature.{Signature, Symbol, isSymbol, variable, variables}
+use Rattle.system.specs.Fault.{Fault, unknown, unbalanced, variableHead, unbound}
+use Rattle.system.specs.Reader.{variableFault, sideFault, learn}
+
+-- ---- a variable
+
+module _ (hand : Hand) (first : Bool) (known k : ℕ) where
+  pub variable-head : hand ≡ Left → first ≡ true → variableFault hand first known k ≡ some variableHead
+  unfolding variableFault
+  variable-head p q = rw (p, q)
+
+  pub variable-next : hand ≡ Left → first ≡ false → k ≡ known → variableFault hand first known k ≡ none
+  unfolding variableFault
+  variable-next p q e = rw (p, q, eq-eqb k known e)
+
+  pub variable-skips : hand ≡ Left → first ≡ false → (k ≡ known → ⊥) → variableFault hand first known k ≡ some unbound
+  unfolding variableFault
+  variable-skips p q e = rw (p, q, ne-eqb k known e)
+
+  pub variable-known : hand ≡ Right → k < known → variableFault hand first known k ≡ none
+  unfolding variableFault
+  variable-known p h = rw (p, lt-ltb k known h)
+
+  pub variable-unbound : hand ≡ Right → known ≤ k → variableFault hand first known k ≡ some unbound
+  unfolding variableFault
+  variable-unbound p h = rw (p, le-ltb k known h)
+
+-- how many variables are known afterwards
+module _ (hand : Hand) (known w : ℕ) where
+  pub learn-variable : hand ≡ Left → variable ≤ w → learn hand known w ≡ suc known
+  unfolding learn
+  learn-variable p h = rw (p, le-leb variable w h)
+
+  pub learn-right : hand ≡ Right → learn hand known w ≡ known
+  unfolding learn
+  learn-right p = rw p
+
+pub learn-symbol : (hand : Hand) (known w : ℕ) → w < variable → learn hand known w ≡ known
+unfolding learn
+learn-symbol Left known w h = rw (lt-leb variable w h)
+learn-symbol Right known w h = refl
+
+-- ---- a word
+
+module _ (g : Signature) (hand : Hand) (first : Bool) (due known w : ℕ) where
+  pub side-complete : due ≡ 0 → sideFault g hand first due known w ≡ some unbalanced
+  unfolding sideFault
+  side-complete e = rw e
+
+  module _ (open-due : 0 < due) where
+    pub side-symbol : Symbol g w → sideFault g hand first due known w ≡ none
+    unfolding sideFault
+    side-symbol e = go due open-due
+      where
+        go : (d : ℕ) → 0 < d → sideFault g hand first d known w ≡ none
+        go zero h = absurd (omega arith)
+        go (suc d) h = rw (e, sideFault)
+
+    pub side-low : isSymbol g w ≡ false → w < variable → sideFault g hand first due known w ≡ some unknown
+    unfolding sideFault
+    side-low e l = go due open-due
+      where
+        go : (d : ℕ) → 0 < d → sideFault g hand first d known w ≡ some unknown
+        go zero h = absurd (omega arith)
+        go (suc d) h = rw (e, sideFault) (rw (lt-leb variable w l))
+
+    pub side-high : isSymbol g w ≡ false → variable + variables ≤ w → sideFault g hand first due known w ≡ some unknown
+    unfolding sideFault
+    side-high e l = go due open-due
+      where
+        go : (d : ℕ) → 0 < d → sideFault g hand first d known w ≡ some unknown
+        go zero h = absurd (omega arith)
+        go (suc d) h = rw (e, sideFault) (rw (le-leb variable w (omega arith), le-ltb w (variable + variables) l))
+
+    pub side-variable : isSymbol g w ≡ false → variable ≤ w → w < variable + variables → sideFault g hand first due known w ≡ variableFault hand first known (w - variable)
+    unfolding sideFault
+    side-variable e l u = go due open-due
+      where
+        go : (d : ℕ) → 0 < d → sideFault g hand first d known w ≡ variableFault hand first known (w - variable)
+        go zero h = absurd (omega arith)
+        go (suc d) h = rw (e, sideFault) (rw (le-leb variable w l, lt-ltb w (variable + variables) u))
+
+-- ---- a word that passes
+
+refused : {f : Fault} → some f ≡ none → ⊥
+refused n = let z : _≡_ {A = ℕ} 0 1 = cc in omega arith
+
+-- a variable that may stand there
+pub record Variable (h : Hand) (start : Bool) (known w : ℕ) : Type 0 where
+  pub low : variable ≤ w
+  pub high : w < variable + variables
+  pub passes : variableFault h start known (w - variable) ≡ none
+
+module _ (g : Signature) (h : Hand) (start : Bool) (due known w : ℕ) where
+  pub variable-passes : 0 < due → Variable h start known w → sideFault g h start due known w ≡ none
+  variable-passes o v = go (isSymbol g w) refl
+    where
+      go : (b : Bool) → isSymbol g w ≡ b → sideFault g h start due known w ≡ none
+      go true e = side-symbol g h start due known w o e
+      go false e = side-variable g h start due known w o e (v .low) (v .high) ∙ v .passes
+
+  module _ (e : sideFault g h start due known w ≡ none) where
+    -- it completes a subterm that was due
+    pub passes-due : 0 < due
+    passes-due =
+        elim (decLt 0 due) [
+          | yes l ↦ l
+          | no l ↦ absurd (refused (sym (side-complete g h start due known w (omega arith)) ∙ e))
+        ]
+
+    pub passes-word : Symbol g w ⊎ Variable h start known w
+    passes-word = go (isSymbol g w) refl
+      where
+        go : (b : Bool) → isSymbol g w ≡ b → Symbol g w ⊎ Variable h start known w
+        go true s = inl s
+        go false s =
+            elim (decLt w variable) [
+              | yes l ↦ absurd (refused (sym (side-low g h start due known w passes-due s l) ∙ e))
+              | no l ↦ elim (decLt w (variable + variables)) [
+                | yes u ↦ inr (record { low = omega arith; high = u; passes = sym (side-variable g h start due known w passes-due s (omega arith) u) ∙ e })
+                | no u ↦ absurd (refused (sym (side-high g h start due known w passes-due s (omega arith)) ∙ e))
+              ]
+            ]
+
+-- what a variable that may stand there is, on each side
+pub left-variable : (start : Bool) (known w : ℕ) → Variable Left start known w → (start ≡ false) × (w ≡ variable + known)
+left-variable true known w v = absurd (refused (sym (variable-head Left true known (w - variable) refl refl) ∙ v .passes))
+left-variable false known w v =
+    elim (ℕ-discrete (w - variable) known) [
+      | yes e ↦ (refl, let l = v .low in omega arith)
+      | no e ↦ absurd (refused (sym (variable-skips Left false known (w - variable) refl refl e) ∙ v .passes))
+    ]
+
+pub variable-left : (known w : ℕ) → known < variables → w ≡ variable + known → Variable Left false known w
+variable-left known w l e = record { low = omega arith; high = omega arith; passes = variable-next Left false known (w - variable) refl refl (omega arith) }
+
+pub right-variable : (start : Bool) (known w : ℕ) → Variable Right start known w → w < variable + known
+right-variable start known w v =
+    elim (decLt (w - variable) known) [
+      | yes e ↦ (let l = v .low in omega arith)
+      | no e ↦ absurd (refused (sym (variable-unbound Right start known (w - variable) refl (omega arith)) ∙ v .passes))
+    ]
+
+pub variable-right : (start : Bool) (known w : ℕ) → known ≤ variables → variable ≤ w → w < variable + known → Variable Right start known w
+variable-right start known w few l u = record { low = l; high = omega arith; passes = variable-known Right start known (w - variable) refl (omega arith) }
