@@ -17,7 +17,7 @@ module _ (t counts : List ℕ) (small : length t ≤ 4096) where
   unfolding area
   area-length h = rw (length-append, length-pad 4096 t small, length-pad 4096 counts h)
 
-  area-term : (n : ℕ) → length t ≡ n → termIn (area t counts) n ≡ t
+  pub area-term : (n : ℕ) → length t ≡ n → termIn (area t counts) n ≡ t
   unfolding area
   area-term n e = take-pad 4096 t (pad 4096 counts) n e
 

@@ -93,9 +93,10 @@ module _ (book term : List ℕ) (limit : ℕ) (out work : List ℕ) where
   is-done e =
       let h = handed e in
       let n = handed-numbers h in
-      let w = handed-words h in
-      (ap length w ∙ sym (ap (λ y. y .place) n),
-      subst₂ (λ v k. Done (systemOf book) limit term v k) (sym w) (sym (ap (λ y. y .steps) n)) (done h))
+      let w = handed-words h in (
+        ap length w ∙ sym (ap (λ y. y .place) n),
+        subst₂ (λ v k. Done (systemOf book) limit term v k) (sym w) (sym (ap (λ y. y .steps) n)) (done h),
+      )
 
   -- and where the checks pass and the evaluation settles, that is what is handed back
   pub is-handed-back : IsHandedBack book term limit out work (expansion book term limit out work .numbers) (expansion book term limit out work .answer)

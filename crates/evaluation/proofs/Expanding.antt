@@ -109,11 +109,13 @@ pub finishes : (o : Outcome) (e : Ended) (out work ws : List ℕ) → 8192 ≤ l
     (record { number = e .number; place = e .size; steps = e .steps } ≡ ended out work o .numbers) ×
     (over out 0 (take (e .size) (ws ++ drop 8192 work)) ≡ ended out work o .answer) ×
     (over (ws ++ drop 8192 work) 0 (zeros 8192) ≡ ended out work o .work)
-finishes (settled r) e out work ws room size small h =
-    (rw (h .0),
-    ap (over out 0) (front out work ws room size (e .size) small ∙ ap (λ y. take (y .size) ws) (h .0) ∙ h .2),
-    zeroed out work ws room size)
-finishes (stopped n k) e out work ws room size small h =
-    (rw (h .0),
-    ap (λ y. over out 0 (take (y .size) (ws ++ drop 8192 work))) (h .0),
-    zeroed out work ws room size)
+finishes (settled r) e out work ws room size small h = (
+  rw (h .0),
+  ap (over out 0) (front out work ws room size (e .size) small ∙ ap (λ y. take (y .size) ws) (h .0) ∙ h .2),
+  zeroed out work ws room size,
+)
+finishes (stopped n k) e out work ws room size small h = (
+  rw (h .0),
+  ap (λ y. over out 0 (take (y .size) (ws ++ drop 8192 work))) (h .0),
+  zeroed out work ws room size,
+)

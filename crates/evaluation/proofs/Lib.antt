@@ -4,6 +4,7 @@ pub mod Walks
 pub mod Done
 pub mod Quiet
 pub mod Found
+pub mod Stops
 -- The machine: its laws, and the invariant and the measure of a loop that runs it
 pub mod Again
 pub mod Laws
@@ -13,18 +14,20 @@ pub mod Loop
 pub mod Turns
 pub mod Weight
 pub mod Advances
--- The machine in an area of words: what the code cites
-pub mod Areas
-pub mod AreaParts
+-- The machine in an area of words: what the code's loops cite
 pub mod Strategies
+pub mod Areas
 pub mod TurnSteps
 pub mod AdvanceSteps
+-- A rewrite in an area of words
 pub mod Stretching
 pub mod Written
 pub mod Replacing
 pub mod Rewrites
+-- A run, and the evaluator
+pub mod Starts
 pub mod Runs
 pub mod Expanding
--- Demand 3, of the evaluator's own answers
-pub mod Stops
+-- Demand 3 of the evaluator's answers, and the starred cases
 pub mod Demand3
+pub mod Cases

@@ -16,20 +16,24 @@ use Rattle.matching.specs.declared.Match.{Match}
 use Rattle.matching.specs.Matching.{Redex, redex}
 use Rattle.matching.specs.Stretches.{matchOf}
 use Rattle.evaluation.specs.declared.machine.Advanced.{Advanced}
+use Rattle.evaluation.specs.declared.run.Ended.{Ended}
 use Rattle.evaluation.specs.declared.machine.Stop.the-variants.{Finished, Deep, Ready}
 use Rattle.evaluation.specs.Evaluation.{Run, Outcome, settled, stopped, rewrite, evaluation}
-use Rattle.evaluation.specs.Rewriting.{root}
 use Rattle.evaluation.specs.Machine.{position, Opened, base, down, resume, Next, finished, deep, ready, advance}
 use Rattle.evaluation.specs.Area.{area, termIn, outerIn, countIn, Going, Positioned, Stored, Holds}
 use Rattle.evaluation.specs.Arrival.{Arrived}
 use Rattle.evaluation.specs.Rewritten.{Rewritten, done, long}
 use Rattle.evaluation.specs.Ended.{Ends}
 use Rattle.evaluation.proofs.Walks.{rewrite-spent, rewrite-long, rewrite-goes}
-use Rattle.evaluation.proofs.Actives.{active-whole}
 use Rattle.evaluation.proofs.Laws.{position-le, resume-evaluation}
-use Rattle.evaluation.proofs.Iterate.{Reached, reached, fires-within}
-use Rattle.evaluation.proofs.Loop.{opened-active, opened-replace, replace-whole}
-use Rattle.evaluation.proofs.AreaParts.{length-area, term-area, outer-area, count-area, stored-area, stored-length, fresh-area}
+use Rattle.evaluation.proofs.Iterate.{Reached, reached}
+use Rattle.evaluation.proofs.Goings.{opened-replace, going-start, going-within, going-fire}
+use Rattle.evaluation.proofs.Areas.{area-length, area-term, held-term, held-outer, held-count, held-length, holds}
+use Rattle.evaluation.proofs.Starts.{fresh-area}
+
+-- an outcome that was put together by a function
+pub ends-as : (o : Outcome) (e e′ : Ended) (ws : List ℕ) → e′ ≡ e → Ends o e ws → Ends o e′ ws
+ends-as o e e′ ws q h = subst (λ y. Ends o y ws) (sym q) h
 
 -- ---- the levels around one of the open levels
 
@@ -45,35 +49,11 @@ module _ (s : System) (t : List ℕ) where
   position-take (suc k) [] p = omega arith
   position-take (suc k) (c ∷ cs) p = position-take k cs (down s t p c)
 
--- ---- a rewrite at the innermost level keeps the levels around it
-
-module _ (s : System) (wf : WellFormed s) (t outer : List ℕ) (c : ℕ) (g : Going s t outer c) (x : Redex) (f : redex s (drop (position s t outer 0) t) ≡ some x) where
-  abbrev here : ℕ
-  here = position s t outer 0
-
-  abbrev t′ : List ℕ
-  t′ = replace (s .arities) t here (x .reduct)
-
-  within : here < length t
-  within = fires-within s wf t here x f
-
-  pub rewritten-whole : Whole (s .arities) t′
-  rewritten-whole =
-      let a = active-whole s wf (g .whole) (opened-active s t root (g .opened)) in
-      replace-whole s wf 0 [] t here (a .before) (a .here) (a .behind) x (a .equal) (a .position) (g .whole) (a .whole) f
-
-  pub rewritten-going : length t′ ≤ 4096 → Going s t′ outer 0
-  rewritten-going h = record {
-    whole = rewritten-whole;
-    bounded = h;
-    room = g .room;
-    opened = opened-replace s t (x .reduct) here (g .opened) (omega arith) within .0;
-    begun = omega arith;
-  }
-
-  pub rewritten-positioned : (positions : List ℕ) → Positioned s t outer positions → Positioned s t′ outer positions
-  rewritten-positioned positions h k l =
-      h k l ∙ sym (opened-replace s t (x .reduct) here (opened-take s t k (g .opened)) (position-take s t k outer 0) within .1)
+-- a rewrite at the innermost level leaves the positions of the levels around it
+pub positions-kept : (s : System) (wf : WellFormed s) (t outer : List ℕ) (c : ℕ) → Going s t outer c → (u positions : List ℕ) →
+    Positioned s t outer positions → Positioned s (replace (s .arities) t (position s t outer 0) u) outer positions
+positions-kept s wf t outer c g u positions h k l =
+    h k l ∙ sym (opened-replace s t u (position s t outer 0) (opened-take s t k (g .opened)) (position-take s t k outer 0) (going-within s wf t outer c g) .1)
 
 -- ---- the head of the loop: the area holds a state, and what is left to do from it is the evaluation asked for
 
@@ -91,26 +71,29 @@ pub record Before (s : System) (limit : ℕ) (t₀ ws positions : List ℕ) (n l
   pub matched : redex s (drop (position s (termIn ws n) (outerIn ws level) 0) (termIn ws n)) ≡ some x
   pub same : rewrite s limit (position s (termIn ws n) (outerIn ws level) 0) (record { term = termIn ws n; steps = steps }) x (λ r′. resume s limit 64 (outerIn ws level ++ 0 ∷ []) 0 r′) ≡ evaluation s limit t₀
 
--- what is known of an area that was made from a state, in the terms of the state
+-- an area that was made from a state
 pub running-area : (s : System) (limit : ℕ) (t₀ t outer : List ℕ) (c n level steps : ℕ) (ws positions : List ℕ) → Going s t outer c → length t ≡ n → length outer ≡ level →
     ws ≡ area t (outer ++ c ∷ []) → length positions ≡ 64 → Positioned s t outer positions → steps ≤ limit →
     resume s limit 64 (outer ++ c ∷ []) 0 (record { term = t; steps = steps }) ≡ evaluation s limit t₀ → Running s limit t₀ ws positions n level steps
 running-area s limit t₀ t outer c n level steps ws positions g en el e slots pos aff same =
-    let et : take n ws ≡ t = rw e (term-area t (outer ++ c ∷ []) n en) in
-    let eo : take level (drop 4096 ws) ≡ outer = rw e (outer-area t outer c level (g .bounded) el) in
-    let ec : getD ws (4096 + level) 0 ≡ c = rw e (count-area t outer c level (g .bounded) el) in
+    let room : level < 64 = (let z = g .room in omega arith) in
     record {
-      holds = record { stored = stored-area s t outer c n level ws g en el e; slots = slots; positioned = rw (et, eo) pos };
+      holds = holds ws t outer c n level e (g .bounded) en el room s g positions slots pos;
       afford = aff;
-      same = rw (et, eo, ec) same;
+      same = rw (held-term ws t outer c n level e (g .bounded) en el room, held-outer ws t outer c n level e (g .bounded) en el room, held-count ws t outer c n level e (g .bounded) en el room) same;
     }
+
+pub stored-length : (s : System) (ws : List ℕ) (n level : ℕ) → Stored s ws n level → length ws ≡ 8192
+stored-length s ws n level h =
+    let g = h .going in
+    held-length ws (termIn ws n) (outerIn ws level) (countIn ws level) n level (h .equal) (g .bounded) (h .words) (h .levels) (let z = g .room in let z′ = h .levels in omega arith)
 
 -- the start
 pub running-start : (s : System) (limit : ℕ) (t₀ ws positions : List ℕ) → Whole (s .arities) t₀ → length t₀ ≤ 4096 → length ws ≡ 8192 → length positions ≡ 64 → getD positions 0 0 ≡ 0 →
     Running s limit t₀ (over (over ws 0 (zeros 8192)) 0 t₀) positions (length t₀) 0 0
 unfolding position
 running-start s limit t₀ ws positions h b l slots z =
-    running-area s limit t₀ t₀ [] 0 (length t₀) 0 0 _ positions (record { whole = h; bounded = b; room = omega arith; opened = base; begun = omega arith })
+    running-area s limit t₀ t₀ [] 0 (length t₀) 0 0 _ positions (going-start s t₀ h b)
     refl refl (fresh-area ws t₀ l b) slots (λ k m. first k m) (omega arith) (resume-evaluation s limit t₀)
   where
     first : (k : ℕ) → k ≤ 0 → getD positions k 0 ≡ position s t₀ (take k []) 0
@@ -139,7 +122,7 @@ module _ (s : System) (wf : WellFormed s) (limit : ℕ) (t₀ ws positions : Lis
     ends-finished h e = go (advance s 64 state (termIn ws n) 0) h (reached s wf limit r 64 state 0)
       where
         go : (x : Next) → Came x → Reached s wf limit r 64 state 0 x → Ends (evaluation s limit t₀) (record { number = 0; size = n; steps = steps }) ws′
-        go finished h k = rw (← v .same, k) ((λ i. record { number = 0; size = sym words i; steps = steps }), rw (h .1) (length-area (termIn ws n) [] bounded (omega arith)), rw (h .1) (term-area (termIn ws n) [] (length (termIn ws n)) refl))
+        go finished h k = rw (← v .same, k) ((λ i. record { number = 0; size = sym words i; steps = steps }), rw (h .1) (area-length (termIn ws n) [] bounded (omega arith)), rw (h .1) (area-term (termIn ws n) [] bounded (length (termIn ws n)) refl))
         go deep h k = absurd (let z : _≡_ {A = ℕ} 0 1 = cc in omega arith)
         go (ready outer c x) h k = absurd (let z : _≡_ {A = ℕ} 0 1 = cc in omega arith)
 
@@ -158,8 +141,9 @@ module _ (s : System) (wf : WellFormed s) (limit : ℕ) (t₀ ws positions : Lis
         go finished h k = absurd (let z : _≡_ {A = ℕ} 0 1 = cc in omega arith)
         go deep h k = absurd (let z : _≡_ {A = ℕ} 0 1 = cc in omega arith)
         go (ready outer c x) h k =
-            let et : take n ws′ ≡ termIn ws n = rw (h .4) (term-area (termIn ws n) (outer ++ c ∷ []) n words) in
-            let eo : take (a .level) (drop 4096 ws′) ≡ outer = rw (h .4) (outer-area (termIn ws n) outer c (a .level) bounded (sym (h .1))) in
+            let room : a .level < 64 = (let g = h .5 .stored .going .room in let l = h .5 .stored .levels in omega arith) in
+            let et = held-term ws′ (termIn ws n) outer c n (a .level) (h .4) bounded words (sym (h .1)) room in
+            let eo = held-outer ws′ (termIn ws n) outer c n (a .level) (h .4) bounded words (sym (h .1)) room in
             record {
               holds = h .5;
               afford = v .afford;
@@ -199,10 +183,13 @@ module _ (s : System) (wf : WellFormed s) (limit : ℕ) (t₀ ws positions : Lis
       abbrev after : List ℕ
       after = replace (s .arities) t p (b .x .reduct)
 
+      stepped : length after ≤ 4096 → Going s after outer 0
+      stepped h = rw ep (going-fire s wf t outer (countIn ws level) g (b .x) (b .matched) (rw (← ep) h))
+
       -- a term has words
       pub not-none : Rewritten s ws n level p (b .x) k ws′ → k ≡ 0 → 4096 < length after
       not-none (long h e f) z = h
-      not-none (done h e f) z = absurd (let y = forest-some (rw (← ep) at (rewritten-whole s wf t outer (countIn ws level) g (b .x) (b .matched))) in omega arith)
+      not-none (done h e f) z = absurd (let y = forest-some (stepped h .whole) in omega arith)
 
       pub ends-long : Rewritten s ws n level p (b .x) k ws′ → length ws′ ≡ length ws → k ≡ 0 → Ends (evaluation s limit t₀) (record { number = 12; size = 0; steps = steps }) ws′
       ends-long h same z =
@@ -213,8 +200,8 @@ module _ (s : System) (wf : WellFormed s) (limit : ℕ) (t₀ ws positions : Lis
       goes-on (long h e f) z = absurd (z e)
       goes-on (done h e f) z =
           running-area s limit t₀ after outer 0 k level (steps + 1) ws′ positions
-          (rw ep (rewritten-going s wf t outer (countIn ws level) g (b .x) (b .matched) (rw (← ep) h)))
+          (stepped h)
           (sym e) (b .holds .stored .levels) f (b .holds .slots)
-          (rw ep (rewritten-positioned s wf t outer (countIn ws level) g (b .x) (b .matched) positions (b .holds .positioned)))
+          (rw ep (positions-kept s wf t outer (countIn ws level) g (b .x .reduct) positions (b .holds .positioned)))
           (omega arith)
           (rw (add-one steps, ep) (sym (rewrite-goes s limit (position s t outer 0) r (b .x) l (rw (← ep) h) (λ r′. resume s limit 64 (outer ++ 0 ∷ []) 0 r′)) ∙ b .same))

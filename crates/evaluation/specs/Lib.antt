@@ -3,6 +3,7 @@ pub mod Evaluation
 pub mod Rewriting
 pub mod Promises
 pub mod Expansion
+pub mod Cases
 -- The evaluation as a machine, and its state in an area of words
 pub mod Machine
 pub mod Turn

@@ -5,6 +5,7 @@ ghost use lib.ListN.{length, take};
 ghost use Rattle.buffers.specs.Words.{over, zeros};
 ghost use Rattle.evaluation.specs.Expansion.{expansion};
 
+pub mod demands;
 mod entries;
 mod machine;
 mod reducts;

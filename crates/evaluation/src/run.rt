@@ -18,6 +18,16 @@ pub struct Ended {
     pub steps: u32,
 }
 
+fn outcome(number: u32, size: usize, steps: u32) -> Ended
+    ensures { λ r. ⌜ r ≡ record { number = number; size = size; steps = steps } ⌝ }
+{
+    Ended {
+        number,
+        size,
+        steps,
+    }
+}
+
 // Evaluates a term in an area of 8,192 words.
 pub fn run(book: &[u16], shape: Shape, term: &[u16], limit: u32, area: &mut [u16]) -> Ended
     requires { ⌜ Accepted (now book) shape × Whole (systemOf (now book) .arities) (now term) × (length (now term) ≤ 4096) × (length (now area) ≡ 8192) ⌝ }
@@ -34,36 +44,20 @@ pub fn run(book: &[u16], shape: Shape, term: &[u16], limit: u32, area: &mut [u16
         let stop = a.stop;
         match stop {
             Stop::Finished => {
-                return Ended {
-                    number: 0,
-                    size: n,
-                    steps,
-                };
+                return outcome(0, n, steps);
             }
             Stop::Deep => {
-                return Ended {
-                    number: 13,
-                    size: 0,
-                    steps,
-                };
+                return outcome(13, 0, steps);
             }
             Stop::Ready => {
                 if limit <= steps {
-                    return Ended {
-                        number: 11,
-                        size: 0,
-                        steps,
-                    };
+                    return outcome(11, 0, steps);
                 }
                 level = a.level;
                 let m = a.found;
                 let k = rewrite(book, shape, area, n, level, positions[level], m);
                 if k == 0 {
-                    return Ended {
-                        number: 12,
-                        size: 0,
-                        steps,
-                    };
+                    return outcome(12, 0, steps);
                 }
                 n = k;
                 steps += 1;

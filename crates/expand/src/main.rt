@@ -73,8 +73,12 @@ fn words(path: &[u8], bytes: &mut [u8], most: usize, ws: &mut [u16]) -> usize {
 }
 
 fn print(n: u64, after: &[u8]) {
-    io::number::print_decimal(STDOUT_FILENO, n);
+    io::print_decimal(STDOUT_FILENO, n);
     io::write_all(STDOUT_FILENO, after);
+}
+
+fn print_word(w: u16) {
+    print(w as u64, b"\n");
 }
 
 // The heading, the three numbers, and on 0 the answer, a word a line.
@@ -91,9 +95,13 @@ fn report(a: Answer, out: &[u16]) {
         if out.len() <= i {
             return;
         }
-        print(out[i] as u64, b"\n");
+        print_word(out[i]);
         i += 1;
     }
+}
+
+fn wide(x: u16) -> u32 {
+    x as u32
 }
 
 fn main() {
@@ -115,6 +123,7 @@ fn main() {
     }
     let mut out = [0u16; 4096];
     let mut work = [0u16; 8192];
-    let a = evaluation::expand(&book[..n], &cue[1..m], cue[0] as u32, &mut out, &mut work);
+    let allowance = wide(cue[0]);
+    let a = evaluation::expand(&book[0..n], &cue[1..m], allowance, &mut out, &mut work);
     report(a, &out);
 }

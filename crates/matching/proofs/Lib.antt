@@ -15,3 +15,5 @@ pub mod Idle
 pub mod SafetyTest
 pub mod SafetySteps
 pub mod Tests
+-- The starred case
+pub mod Cases

@@ -3,3 +3,4 @@ pub mod Matching
 pub mod Rules
 pub mod Stretches
 pub mod Safety
+pub mod Cases

@@ -1,8 +1,8 @@
+use Rattle.evaluation.specs.Evaluation.{evaluation}
 use Rattle.buffers.specs.Words.{over}
 use Rattle.matching.specs.Stretches.{matchOf}
 use Rattle.evaluation.specs.Machine.{position}
 use Rattle.evaluation.specs.Area.{termIn, outerIn}
-use Rattle.evaluation.proofs.AreaParts.{stored-length}
 use Rattle.matching.proofs.Books.{well}
 use Rattle.system.specs.Terms.{WellFormed}
 use lib.ListN.{length, getD, take, drop}
@@ -10,7 +10,7 @@ use native.Mathlib.Omega.{arith}
 use mathlib.Core.Path.{_≡_, refl, sym, ap, _∙_, subst}
 use Prim.Native.Nat.{ℕ, _-_, _≤_, _<_}
 use Rattle.matching.specs.Accepted.{systemOf}
-use Rattle.evaluation.proofs.Runs.{Running, running-start, ends-finished, ends-deep, comes-before, ends-spent, before-room, before-position, ends-long, goes-on, Before}
+use Rattle.evaluation.proofs.Runs.{ends-as, Running, stored-length, running-start, ends-finished, ends-deep, comes-before, ends-spent, before-room, before-position, ends-long, goes-on, Before}
 use borrow.Author.Needs.{needs}
 use Rattle.evaluation.proofs.run.run.Statement.{statement}
 use Rattle.evaluation.proofs.run.run.Tie as tie
@@ -84,45 +84,57 @@ enum-told : tie.Need-enum-told Inv-loop μ-loop
 enum-told c = search needs
 
 -- src/run.rt:37:17
+outcome-requires : tie.Need-outcome-requires Inv-loop μ-loop
+outcome-requires c κs = tt
+
 same-length : tie.Need-same-length Inv-loop μ-loop
-same-length c = c .before .before .before .before .before .advance .kept .1 .1 .0 ∙ area-length (c .before .before .before .before .before .before .before .before)
+same-length c = c .before .before .before .before .before .before .advance .kept .1 .1 .0 ∙ area-length (c .before .before .before .before .before .before .before .before .before)
 
 -- src/run.rt:37:17
 returns : tie.Need-returns Inv-loop μ-loop
-returns c = let a = c .before .before .before .before .before .before .before .before .before .before .before .before .before .before .before .before .before .before .before .before in
-    let l = c .before .before .before .before .before .before .before .before .loop in
-    let d = c .before .before .before .before .before .advance in
-    ends-finished (systemOf (a .args .book .now)) (wf a) (a .args .limit) (a .args .term .now) (l .area) (l .positions) (l .n) (l .level) (l .steps) (l .inv) (d .result) (d .last .1 .1 .0) (d .last .1 .1 .1 .0) (d .ensures) (c .enum-told .given .1)
+returns c = let a = c .before .before .before .before .before .before .before .before .before .before .before .before .before .before .before .before .before .before .before .before .before in
+    let l = c .before .before .before .before .before .before .before .before .before .loop in
+    let d = c .before .before .before .before .before .before .advance in
+    ends-as (evaluation (systemOf (a .args .book .now)) (a .args .limit) (a .args .term .now)) _ (c .outcome .result) (d .last .1 .1 .0) (c .outcome .ensures)
+    (ends-finished (systemOf (a .args .book .now)) (wf a) (a .args .limit) (a .args .term .now) (l .area) (l .positions) (l .n) (l .level) (l .steps) (l .inv) (d .result) (d .last .1 .1 .0) (d .last .1 .1 .1 .0) (d .ensures) (c .before .enum-told .given .1))
 
 -- src/run.rt:44:17
 enum-told-2 : tie.Need-enum-told-2 Inv-loop μ-loop
 enum-told-2 c = search needs
 
 -- src/run.rt:44:17
+outcome-requires-2 : tie.Need-outcome-requires-2 Inv-loop μ-loop
+outcome-requires-2 c κs = tt
+
 same-length-2 : tie.Need-same-length-2 Inv-loop μ-loop
-same-length-2 c = c .before .before .before .before .before .advance .kept .1 .1 .0 ∙ area-length (c .before .before .before .before .before .before .before .before)
+same-length-2 c = c .before .before .before .before .before .before .advance .kept .1 .1 .0 ∙ area-length (c .before .before .before .before .before .before .before .before .before)
 
 -- src/run.rt:44:17
 returns-2 : tie.Need-returns-2 Inv-loop μ-loop
-returns-2 c = let a = c .before .before .before .before .before .before .before .before .before .before .before .before .before .before .before .before .before .before .before .before in
-    let l = c .before .before .before .before .before .before .before .before .loop in
-    let d = c .before .before .before .before .before .advance in
-    ends-deep (systemOf (a .args .book .now)) (wf a) (a .args .limit) (a .args .term .now) (l .area) (l .positions) (l .n) (l .level) (l .steps) (l .inv) (d .result) (d .last .1 .1 .0) (d .last .1 .1 .1 .0) (d .ensures) (c .enum-told2 .given .1)
+returns-2 c = let a = c .before .before .before .before .before .before .before .before .before .before .before .before .before .before .before .before .before .before .before .before .before in
+    let l = c .before .before .before .before .before .before .before .before .before .loop in
+    let d = c .before .before .before .before .before .before .advance in
+    ends-as (evaluation (systemOf (a .args .book .now)) (a .args .limit) (a .args .term .now)) _ (c .outcome2 .result) (d .last .1 .1 .0) (c .outcome2 .ensures)
+    (ends-deep (systemOf (a .args .book .now)) (wf a) (a .args .limit) (a .args .term .now) (l .area) (l .positions) (l .n) (l .level) (l .steps) (l .inv) (d .result) (d .last .1 .1 .0) (d .last .1 .1 .1 .0) (d .ensures) (c .before .enum-told2 .given .1))
 
 -- src/run.rt:51:20
 enum-told-3 : tie.Need-enum-told-3 Inv-loop μ-loop
 enum-told-3 c = search needs
 
 -- src/run.rt:52:21
+outcome-requires-3 : tie.Need-outcome-requires-3 Inv-loop μ-loop
+outcome-requires-3 c κs = tt
+
 same-length-3 : tie.Need-same-length-3 Inv-loop μ-loop
-same-length-3 c = c .before .before .before .before .before .before .advance .kept .1 .1 .0 ∙ area-length (c .before .before .before .before .before .before .before .before .before)
+same-length-3 c = c .before .before .before .before .before .before .before .advance .kept .1 .1 .0 ∙ area-length (c .before .before .before .before .before .before .before .before .before .before)
 
 -- src/run.rt:52:21
 returns-3 : tie.Need-returns-3 Inv-loop μ-loop
-returns-3 c = let a = c .before .before .before .before .before .before .before .before .before .before .before .before .before .before .before .before .before .before .before .before .before in
-    let l = c .before .before .before .before .before .before .before .before .before .loop in
-    let d = c .before .before .before .before .before .before .advance in
-    ends-spent (systemOf (a .args .book .now)) (wf a) (a .args .limit) (a .args .term .now) (d .last .1 .1 .0) (d .last .1 .1 .1 .0) (l .n) (d .result .level) (l .steps) (d .result .found) (before (c .before)) (c .if1 .taken)
+returns-3 c = let a = c .before .before .before .before .before .before .before .before .before .before .before .before .before .before .before .before .before .before .before .before .before .before in
+    let l = c .before .before .before .before .before .before .before .before .before .before .loop in
+    let d = c .before .before .before .before .before .before .before .advance in
+    ends-as (evaluation (systemOf (a .args .book .now)) (a .args .limit) (a .args .term .now)) _ (c .outcome3 .result) (d .last .1 .1 .0) (c .outcome3 .ensures)
+    (ends-spent (systemOf (a .args .book .now)) (wf a) (a .args .limit) (a .args .term .now) (d .last .1 .1 .0) (d .last .1 .1 .1 .0) (l .n) (d .result .level) (l .steps) (d .result .found) (before (c .before .before)) (c .before .if1 .taken))
 
 -- src/run.rt:60:62
 mul-rewrite : tie.Need-mul-rewrite Inv-loop μ-loop
@@ -140,18 +152,22 @@ rewrite-requires c κs = let a = c .before .before .before .before .before .befo
     ((a .pre .0, b .holds .stored), ((p, b .found ∙ ap (λ q. matchOf (systemOf (a .args .book .now)) (drop q (take (c .before .before .before .before .before .before .before .before .before .before .before .loop .n) (c .before .before .before .before .before .before .before .before .advance .last .1 .1 .0)))) (sym p)), (b .x, rw p (b .matched))))
 
 -- src/run.rt:62:21
+outcome-requires-4 : tie.Need-outcome-requires-4 Inv-loop μ-loop
+outcome-requires-4 c κs = tt
+
 same-length-4 : tie.Need-same-length-4 Inv-loop μ-loop
-same-length-4 c = c .before .before .before .rewrite .kept .1 .1 .0 ∙ c .before .before .before .before .before .before .before .before .before .before .before .before .advance .kept .1 .1 .0 ∙ area-length (c .before .before .before .before .before .before .before .before .before .before .before .before .before .before .before)
+same-length-4 c = c .before .before .before .before .rewrite .kept .1 .1 .0 ∙ c .before .before .before .before .before .before .before .before .before .before .before .before .before .advance .kept .1 .1 .0 ∙ area-length (c .before .before .before .before .before .before .before .before .before .before .before .before .before .before .before .before)
 
 -- src/run.rt:62:21
 returns-4 : tie.Need-returns-4 Inv-loop μ-loop
-returns-4 c = let a = c .before .before .before .before .before .before .before .before .before .before .before .before .before .before .before .before .before .before .before .before .before .before .before .before .before .before .before in
-    let l = c .before .before .before .before .before .before .before .before .before .before .before .before .before .before .before .loop in
-    let d = c .before .before .before .before .before .before .before .before .before .before .before .before .advance in
-    let b = before (c .before .before .before .before .before .before .before) in
-    let p = position-is (c .before .before .before .before .before .before .before) in
-    let r = c .before .before .before .rewrite in
-    ends-long (systemOf (a .args .book .now)) (wf a) (a .args .limit) (a .args .term .now) (d .last .1 .1 .0) (d .last .1 .1 .1 .0) (l .n) (d .result .level) (l .steps) (d .result .found) b (c .before .before .before .before .before .before .if1 .left) _ p (r .result) (r .last .1 .1 .0) (r .ensures (b .x) (rw p (b .matched))) (r .kept .1 .1 .0) (c .if2 .taken)
+returns-4 c = let a = c .before .before .before .before .before .before .before .before .before .before .before .before .before .before .before .before .before .before .before .before .before .before .before .before .before .before .before .before in
+    let l = c .before .before .before .before .before .before .before .before .before .before .before .before .before .before .before .before .loop in
+    let d = c .before .before .before .before .before .before .before .before .before .before .before .before .before .advance in
+    let b = before (c .before .before .before .before .before .before .before .before) in
+    let p = position-is (c .before .before .before .before .before .before .before .before) in
+    let r = c .before .before .before .before .rewrite in
+    ends-as (evaluation (systemOf (a .args .book .now)) (a .args .limit) (a .args .term .now)) _ (c .outcome4 .result) (r .last .1 .1 .0) (c .outcome4 .ensures)
+    (ends-long (systemOf (a .args .book .now)) (wf a) (a .args .limit) (a .args .term .now) (d .last .1 .1 .0) (d .last .1 .1 .1 .0) (l .n) (d .result .level) (l .steps) (d .result .found) b (c .before .before .before .before .before .before .before .if1 .left) _ p (r .result) (r .last .1 .1 .0) (r .ensures (b .x) (rw p (b .matched))) (r .kept .1 .1 .0) (c .before .if2 .taken))
 
 -- src/run.rt:69:17
 add-steps : tie.Need-add-steps Inv-loop μ-loop
@@ -183,17 +199,21 @@ run-spec =
     slice-aggregate-advance
     advance-requires
     enum-told
+    outcome-requires
     same-length
     returns
     enum-told-2
+    outcome-requires-2
     same-length-2
     returns-2
     enum-told-3
+    outcome-requires-3
     same-length-3
     returns-3
     mul-rewrite
     array-read-rewrite
     rewrite-requires
+    outcome-requires-4
     same-length-4
     returns-4
     add-steps

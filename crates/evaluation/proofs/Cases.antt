@@ -1,0 +1,20 @@
+-- All starred cases, computed: one fact for the whole table.
+use mathlib.Core.Path.{refl}
+use Rattle.buffers.specs.Words.{zeros}
+use Rattle.system.specs.Signature.{isSymbol, arity, span, argument, replace}
+use Rattle.system.specs.System.{strategy, instance}
+use Rattle.system.specs.Reader.{read, readSystem, readRules, readEnd, readRule, readSide, readWords, readStrategy, number, word, learn, sideFault, variableFault, outside, each, times}
+use Rattle.system.specs.TermCheck.{termFault}
+use Rattle.system.specs.Answers.{termAnswer}
+use Rattle.matching.specs.Accepted.{systemOf}
+use Rattle.matching.specs.Safety.{passes, every, closes, idles, idleTest, isVariable, constructs}
+use Rattle.matching.specs.Cases.{failing, testing, strategyCases}
+use Rattle.matching.specs.Matching.{bind, firstMatch, redex}
+use Rattle.system.specs.Cases.{Hold, bookB, readerCases}
+use Rattle.evaluation.specs.Evaluation.{rewrite, follow, atRoot, evaluate, evaluation}
+use Rattle.evaluation.specs.Expansion.{expansion}
+use Rattle.evaluation.specs.Cases.{expanding, evaluatorCases, starred}
+
+pub starred-cases : Hold starred
+unfolding starred readerCases strategyCases evaluatorCases testing failing passes every closes idles idleTest isVariable constructs expanding bookB zeros expansion evaluation evaluate atRoot follow rewrite systemOf redex firstMatch bind instance span argument replace strategy read readSystem readRules readEnd readRule readSide readWords readStrategy number word learn sideFault variableFault outside each times termFault termAnswer isSymbol arity
+starred-cases = refl

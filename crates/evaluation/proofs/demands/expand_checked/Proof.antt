@@ -1,0 +1,37 @@
+use Rattle.evaluation.proofs.Demand3.{answer-done, answer-handed-back, answer-found}
+use borrow.Author.Needs.{needs}
+use Rattle.evaluation.proofs.demands.expand_checked.Statement.{statement}
+use Rattle.evaluation.proofs.demands.expand_checked.Tie as tie
+use Rattle.evaluation.proofs.demands.expand_checked.Reads as reads
+use Rattle.evaluation.proofs.demands.expand_checked.Lts as lts
+use Rattle.evaluation.proofs.expand.Reads as expand-reads
+use Rattle.matching.proofs.test_strategies.Reads as test-strategies-reads
+
+-- src/demands.rt:28:9
+test-strategies-requires : tie.Need-test-strategies-requires
+test-strategies-requires c κs = search needs
+
+-- src/demands.rt:29:9
+expand-requires : tie.Need-expand-requires
+expand-requires c κs = search needs
+
+-- src/demands.rt:16:1
+same-length : tie.Need-same-length
+same-length c = search needs
+
+-- src/demands.rt:16:1
+same-length-2 : tie.Need-same-length-2
+same-length-2 c = search needs
+
+-- src/demands.rt:16:1
+returns : tie.Need-returns
+returns c = let a = c .before .before .before .before .before .before .before .before .before .before .before .before .args in
+    let t = c .before .before .before .before .before .before .before .test-strategies in
+    let e = c .before .before .before .before .expand in
+    let n = e .ensures .0 in
+    let w = e .ensures .1 .0 in
+    (t .ensures, (answer-done (a .book .now) (a .term .now) (a .limit) (a .out .now) (a .work .now) (t .result) (e .result) (e .last .1 .1 .1 .0) (t .ensures) n w, (answer-handed-back (a .book .now) (a .term .now) (a .limit) (a .out .now) (a .work .now) (t .result) (e .result) (e .last .1 .1 .1 .0) (t .ensures) n w, answer-found (a .book .now) (a .term .now) (a .limit) (a .out .now) (a .work .now) (t .result) (e .result) (e .last .1 .1 .1 .0) (t .ensures) n w)))
+
+pub expand-checked-spec : {M : Type 1} → statement M
+expand-checked-spec =
+    tie.close (tie.spec test-strategies-requires expand-requires same-length same-length-2 returns)

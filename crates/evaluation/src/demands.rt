@@ -1,0 +1,71 @@
+// Demand 3 as contracts: small functions that call the strategy test and the evaluator, and whose contracts are its sentences.
+ghost use lib.ListN.{length};
+ghost use Rattle.system.specs.Reader.{read};
+ghost use Rattle.matching.specs.Safety.{TestedBook};
+ghost use Rattle.evaluation.specs.Promises.{IsDone, IsHandedBack, IsFound, RestsAgain};
+use crate::expand;
+use system::Answer;
+
+// The answers of the strategy test and of the evaluator.
+pub struct Checked {
+    pub test: Answer,
+    pub answer: Answer,
+}
+
+// Tests the book's strategies and expands the term: "done" whether or not the book passed, "found" where it did.
+pub fn expand_checked(
+    book: &[u16],
+    term: &[u16],
+    limit: u32,
+    out: &mut [u16],
+    work: &mut [u16],
+) -> Checked
+    ensures tested { λ r. ⌜ TestedBook (read (now (book .entry))) (r .test) ⌝ }
+    ensures done { λ r. ⌜ IsDone (now (book .entry)) (now (term .entry)) limit (r .answer) (now (out .exit)) ⌝ }
+    ensures handed { λ r. ⌜ IsHandedBack (now (book .entry)) (now (term .entry)) limit (now (out .entry)) (now (work .entry)) (r .answer) (now (out .exit)) ⌝ }
+    ensures found { λ r. ⌜ IsFound (now (book .entry)) (r .test) (r .answer) (now (out .exit)) ⌝ }
+{
+    let test = matching::test_strategies(book);
+    let answer = expand(book, term, limit, out, work);
+    Checked { test, answer }
+}
+
+// The answers of the strategy test and of two expansions.
+pub struct Twice {
+    pub test: Answer,
+    pub first: Answer,
+    pub second: Answer,
+}
+
+// Expands the term, and what is handed back again with step limit 0, in a second pair of buffers. Where nothing is handed back there is
+// no second expansion, and the first answer stands for it.
+pub fn expand_twice(
+    book: &[u16],
+    term: &[u16],
+    limit: u32,
+    out: &mut [u16],
+    work: &mut [u16],
+    again: &mut [u16],
+    spare: &mut [u16],
+) -> Twice
+    ensures tested { λ r. ⌜ TestedBook (read (now (book .entry))) (r .test) ⌝ }
+    ensures found { λ r. ⌜ IsFound (now (book .entry)) (r .test) (r .first) (now (out .exit)) ⌝ }
+    ensures rests { λ r. ⌜ RestsAgain (r .test) (r .first) (now (out .exit)) (now (again .entry)) (now (spare .entry)) (r .second) (now (again .exit)) ⌝ }
+{
+    let test = matching::test_strategies(book);
+    let first = expand(book, term, limit, out, work);
+    if first.number != 0 {
+        return Twice {
+            test,
+            first,
+            second: first,
+        };
+    }
+    let n = first.place;
+    let second = expand(book, &out[0..n], 0, again, spare);
+    Twice {
+        test,
+        first,
+        second,
+    }
+}
