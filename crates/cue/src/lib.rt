@@ -1,0 +1,170 @@
+// The libraries' public operations for C and other languages: include/cue.h declares what stands here. Each function hands its
+// arguments on and its answer back; none asks anything of its caller.
+ghost use mathlib.Core.Path.{_≡_};
+ghost use Rattle.system.specs.Answers.{answerOf, shapeOf, termAnswer, signatureOf};
+ghost use Rattle.system.specs.Reader.{read};
+ghost use Rattle.system.specs.Signature.{span};
+ghost use Rattle.matching.specs.Accepted.{systemOf};
+ghost use Rattle.matching.specs.Stretches.{matchOf};
+ghost use Rattle.matching.specs.Safety.{TestedBook};
+ghost use Rattle.evaluation.specs.Expansion.{expansion};
+ghost use Rattle.cue.specs.Exports.{answerFor, asAnswer, shapeFor, partFor, matchFor};
+use matching::Found;
+use system::Answer;
+
+// Three numbers: one of 01's table, a place, and steps.
+#[repr(C)]
+pub struct CueAnswer {
+    pub number: u32,
+    pub place: usize,
+    pub steps: u32,
+}
+
+// How many symbols and rules a book has, and at which index its first strategy and its first rule start.
+#[repr(C)]
+pub struct CueShape {
+    pub symbols: usize,
+    pub strategies: usize,
+    pub rules: usize,
+    pub first_rule: usize,
+}
+
+// A part of the caller's own words. (A reference cannot be handed to C.)
+#[repr(C)]
+pub struct CuePart {
+    pub start: usize,
+    pub length: usize,
+}
+
+// The first rule that matches, if `found` is 1: its number, where in the book its right side's words start and how many they are, and
+// for each variable where its words start in the subterm and how many they are.
+#[repr(C)]
+pub struct CueMatch {
+    pub found: u32,
+    pub number: usize,
+    pub rhs: usize,
+    pub size: usize,
+    pub starts: [usize; 16],
+    pub lengths: [usize; 16],
+}
+
+fn answer_for(a: Answer) -> CueAnswer
+    ensures { λ r. ⌜ r ≡ answerFor a ⌝ }
+{
+    CueAnswer {
+        number: a.number,
+        place: a.place,
+        steps: a.steps,
+    }
+}
+
+// Reads a book.
+#[no_mangle]
+pub extern "C" fn cue_read(book: &[u16]) -> CueAnswer
+    ensures { λ r. ⌜ r ≡ answerFor (answerOf (read (now (book .entry)))) ⌝ }
+{
+    answer_for(system::read(book))
+}
+
+// The shape of an accepted book; all 0 of a refused one.
+#[no_mangle]
+pub extern "C" fn cue_shape_of(book: &[u16]) -> CueShape
+    ensures { λ r. ⌜ r ≡ shapeFor (shapeOf (read (now (book .entry)))) ⌝ }
+{
+    let s = system::shape_of(book);
+    CueShape {
+        symbols: s.symbols,
+        strategies: s.strategies,
+        rules: s.rules,
+        first_rule: s.first_rule,
+    }
+}
+
+// Checks a term (01: a cue) against a book.
+#[no_mangle]
+pub extern "C" fn cue_check_term(book: &[u16], term: &[u16]) -> CueAnswer
+    ensures { λ r. ⌜ r ≡ answerFor (termAnswer (now (book .entry)) (now (term .entry))) ⌝ }
+{
+    answer_for(system::check_term(book, term))
+}
+
+// Argument i (from 1) of the term's first symbol.
+#[no_mangle]
+pub extern "C" fn cue_argument(book: &[u16], term: &[u16], i: usize) -> CuePart
+    ensures { λ r. ⌜ r ≡ partFor (now (book .entry)) (now (term .entry)) i ⌝ }
+{
+    let part = system::argument(book, term, i);
+    let n = part.len();
+    if n == 0 {
+        return CuePart {
+            start: 0,
+            length: 0,
+        };
+    }
+    let before = system::words::spans(book, &term[1..], i - 1);
+    CuePart {
+        start: 1 + before,
+        length: n,
+    }
+}
+
+// How many words the subterm at the front of ws takes, by the arities that the book's words list.
+#[no_mangle]
+pub extern "C" fn cue_span(book: &[u16], ws: &[u16]) -> usize
+    ensures { λ r. ⌜ r ≡ span (signatureOf (now (book .entry))) (now (ws .entry)) 1 ⌝ }
+{
+    system::words::span(book, ws)
+}
+
+// The first rule of the book that matches the subterm at the front of ws.
+#[no_mangle]
+pub extern "C" fn cue_first_match(book: &[u16], ws: &[u16]) -> CueMatch
+    ensures { λ r. ⌜ r ≡ matchFor (matchOf (systemOf (now (book .entry))) (now (ws .entry))) ⌝ }
+{
+    let m = matching::first_match(book, ws);
+    let starts = m.starts;
+    let lengths = m.lengths;
+    let found = m.found;
+    match found {
+        Found::Nothing => CueMatch {
+            found: 0,
+            number: 0,
+            rhs: 0,
+            size: 0,
+            starts: starts,
+            lengths: lengths,
+        },
+        Found::First { number, rhs, size } => CueMatch {
+            found: 1,
+            number: number,
+            rhs: rhs,
+            size: size,
+            starts: starts,
+            lengths: lengths,
+        },
+    }
+}
+
+// The strategy test (01: the order test).
+#[no_mangle]
+pub extern "C" fn cue_test_strategies(book: &[u16]) -> CueAnswer
+    ensures { λ r. ⌜ TestedBook (read (now (book .entry))) (asAnswer r) ⌝ }
+{
+    answer_for(matching::test_strategies(book))
+}
+
+// Expands a term over a book with at most `limit` steps (01: the allowance).
+#[no_mangle]
+pub extern "C" fn cue_expand(
+    book: &[u16],
+    term: &[u16],
+    limit: u32,
+    out: &mut [u16],
+    work: &mut [u16],
+) -> CueAnswer
+    ensures numbers { λ r. ⌜ r ≡ answerFor (expansion (now (book .entry)) (now (term .entry)) limit (now (out .entry)) (now (work .entry)) .numbers) ⌝ }
+    ensures answer { λ _. ⌜ now (out .exit) ≡ expansion (now (book .entry)) (now (term .entry)) limit (now (out .entry)) (now (work .entry)) .answer ⌝ }
+    ensures zeroed { λ _. ⌜ now (work .exit) ≡ expansion (now (book .entry)) (now (term .entry)) limit (now (out .entry)) (now (work .entry)) .work ⌝ }
+{
+    answer_for(evaluation::expand(book, term, limit, out, work))
+}

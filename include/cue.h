@@ -1,0 +1,146 @@
+/*
+ * The cue expander: show books, the order test, expansion.
+ *
+ * Link with libcue.a (`rt staticlib cue` writes it to target/staticlib/). The archive needs nothing but memcpy, memmove and memset.
+ *
+ * Every slice is a pointer to its first word and the number of its words. A pointer must be valid even where the length is 0 (any
+ * address of a uint16_t will do), and a buffer that is written (`out`, `work`) must not overlap any other slice of the call. Nothing
+ * else is asked of a caller: every other input gets one of the answers below. No function keeps a pointer, uses the heap, or holds
+ * state between calls; each may be called from any thread.
+ *
+ * Names. The show designers' words and the words of the field stand side by side: a book is a rewrite system, a name a symbol, an
+ * order a strategy, an entry of the rules' section a rule, a placeholder a variable, a cue a term, and a part of it a subterm.
+ */
+#ifndef CUE_H
+#define CUE_H
+
+#include <stddef.h>
+#include <stdint.h>
+
+#ifdef __cplusplus
+extern "C" {
+#endif
+
+/* Sizes, in words. */
+#define CUE_TERM_WORDS 4096 /* the most words of a cue, and the least of an answer buffer */
+#define CUE_WORK_WORDS 8192 /* the least words of a work buffer */
+#define CUE_BOOK_WORDS 21251 /* the longest book that can be accepted */
+#define CUE_VARIABLES 16 /* the most placeholders of a rule */
+#define CUE_VARIABLE 32768 /* placeholder k is the word 32768 + k */
+
+/* The numbers of an answer. */
+enum {
+  CUE_TAKEN = 0,     /* accepted */
+  CUE_SHORT = 1,     /* a word that the book needs is missing */
+  CUE_COUNT = 2,     /* a count or length outside its range */
+  CUE_ENTRY = 3,     /* an order entry above the argument count */
+  CUE_STRANGER = 4,  /* a side's word is neither name nor placeholder */
+  CUE_RAGGED = 5,    /* a side is complete too early, or not at its last word */
+  CUE_HEADLESS = 6,  /* a left side starts with a placeholder */
+  CUE_STRAY = 7,     /* a left placeholder is not the next one, or a right one is not in the left */
+  CUE_SURPLUS = 8,   /* words after the last rule */
+  CUE_BROKEN = 9,    /* the cue is not whole */
+  CUE_CRAMPED = 10,  /* answer buffer below 4,096 words, or work buffer below 8,192 */
+  CUE_SPENT = 11,    /* one more step would pass the allowance */
+  CUE_OVERLONG = 12, /* the step would leave the whole cue above 4,096 words */
+  CUE_NESTED = 13,   /* an argument would be opened from level 64 */
+  CUE_UNSETTLED = 14 /* the order test failed */
+};
+
+/* Three numbers: one of the above, a place and the steps. What place and steps are is said at each function; where nothing is said, 0. */
+typedef struct cue_answer {
+  uint32_t number;
+  size_t place;
+  uint32_t steps;
+} cue_answer;
+
+/* Of an accepted book: how many names and rules it has, and the index of the word at which its first order and its first rule start. */
+typedef struct cue_shape {
+  size_t symbols;
+  size_t strategies;
+  size_t rules;
+  size_t first_rule;
+} cue_shape;
+
+/* A part of the caller's own words: the index of its first word, and how many words it has. */
+typedef struct cue_part {
+  size_t start;
+  size_t length;
+} cue_part;
+
+/*
+ * A rule that fits, if found is 1: its number (from 0), the index in the book of its right side's first word, how many words the right
+ * side has, and for each placeholder of the left side the index of the first word, and the number of words, of the argument that it
+ * stands for. Placeholders that the left side does not have are 0 and 0. If found is 0, all is 0.
+ */
+typedef struct cue_match {
+  uint32_t found;
+  size_t number;
+  size_t rhs;
+  size_t size;
+  size_t starts[CUE_VARIABLES];
+  size_t lengths[CUE_VARIABLES];
+} cue_match;
+
+/*
+ * Reads a book. 0: accepted, place is its length. 1 to 8: refused, place is the index of the word that was being read when the first
+ * fault was met (for 1 the book's length).
+ */
+cue_answer cue_read(const uint16_t *book, size_t book_words);
+
+/* The shape of an accepted book; of a refused one all 0. */
+cue_shape cue_shape_of(const uint16_t *book, size_t book_words);
+
+/*
+ * Checks a cue against a book. 0: whole, place is its length. 1 to 8: the book is refused, as cue_read says. 9: place is the index of
+ * the first word that can't stand there, or the cue's length if it ends early; no word can stand at index 4,096.
+ */
+cue_answer cue_check_term(const uint16_t *book, size_t book_words, const uint16_t *term, size_t term_words);
+
+/*
+ * Argument i, from 1, of the cue's first name: where it stands in the caller's own cue. start and length are 0 exactly if book or cue is
+ * refused, or i is not 1 up to the name's argument count.
+ */
+cue_part cue_argument(const uint16_t *book, size_t book_words, const uint16_t *term, size_t term_words, size_t i);
+
+/*
+ * How many words the part at the front of ws takes: its first word with all its arguments. Where ws ends before that, all its words. The
+ * argument counts are those that the book's words list, whether or not the book is accepted; a word that is no name has none.
+ */
+size_t cue_span(const uint16_t *book, size_t book_words, const uint16_t *ws, size_t ws_words);
+
+/*
+ * The lowest-numbered rule of the book that fits the part at the front of ws; words after that part do not count. Nothing is found in a
+ * refused book.
+ */
+cue_match cue_first_match(const uint16_t *book, size_t book_words, const uint16_t *ws, size_t ws_words);
+
+/*
+ * The order test. 0: every name passes, so a cue that cue_expand hands back with 0 has no active place at which a rule fits. 1 to 8: the
+ * book is refused, as cue_read says. 14: place is a name that fails (any of them).
+ */
+cue_answer cue_test_strategies(const uint16_t *book, size_t book_words);
+
+/*
+ * Expands a cue over a book, with at most `limit` steps (the allowance).
+ *
+ *   number    place                        steps            out                                     work
+ *   0         the answer's length, words   taken            the answer in its first words,          the first 8,192 words are
+ *                                                           the rest unchanged                      zero, the rest unchanged
+ *   10        0                            0                unchanged                               unchanged
+ *   1 to 8    as cue_read                  0                unchanged                               unchanged
+ *   9         as cue_check_term            0                unchanged                               unchanged
+ *   11 to 13  0                            completed        unchanged                               the first 8,192 words are
+ *                                                                                                   zero, the rest unchanged
+ *
+ * 10 (out below 4,096 words or work below 8,192) is checked first, then the book, then the cue. Neither buffer needs to be cleared before
+ * the call. The book may fail the order test.
+ */
+cue_answer cue_expand(const uint16_t *book, size_t book_words, const uint16_t *term, size_t term_words, uint32_t limit, uint16_t *out,
+                      size_t out_words, uint16_t *work, size_t work_words);
+
+#ifdef __cplusplus
+}
+#endif
+
+#endif

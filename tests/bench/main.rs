@@ -1,0 +1,259 @@
+//! The product and the second evaluator on the same inputs in one run: how long each takes, steps for each second, and the ratio. Where the
+//! command `maude` is present it evaluates the same systems with its `strat` attributes; all must agree on the answers.
+//!
+//!     bench [SECONDS for each measurement; 0.3 if not said]
+//!
+//! Exit status: 0 all agree; 1 they do not.
+
+#[path = "../second/book.rs"]
+#[allow(dead_code)]
+mod book;
+#[path = "../second/evaluate.rs"]
+#[allow(dead_code)]
+mod evaluate;
+#[path = "../second/product.rs"]
+#[allow(dead_code)]
+mod product;
+mod maude;
+
+use book::{Book, Plant, HOLE};
+use evaluate::{evaluate, End};
+use std::time::{Duration, Instant};
+
+const A: u16 = HOLE;
+const B: u16 = HOLE + 1;
+const C: u16 = HOLE + 2;
+
+struct Work {
+    label: &'static str,
+    book: Vec<u16>,
+    cue: Vec<u16>,
+}
+
+type Names<'a> = &'a [(usize, &'a [usize])];
+
+fn write(names: Names, rules: &[(&[u16], &[u16])]) -> Vec<u16> {
+    let mut w = vec![names.len() as u16];
+    w.extend(names.iter().map(|n| n.0 as u16));
+    w.push(names.len() as u16);
+    for (_, order) in names {
+        w.push(order.len() as u16);
+        w.extend(order.iter().map(|&e| e as u16));
+    }
+    w.push(rules.len() as u16);
+    for (l, r) in rules {
+        w.push(l.len() as u16);
+        w.extend(*l);
+        w.push(r.len() as u16);
+        w.extend(*r);
+    }
+    w
+}
+
+fn nest(name: u16, times: usize, around: &[u16]) -> Vec<u16> {
+    [&vec![name; times][..], around].concat()
+}
+
+/// add(n, m) by moving one successor at a time.
+fn counting(n: usize) -> Work {
+    let (z, s, add) = (0, 1, 2);
+    let book = write(&[(0, &[]), (1, &[]), (2, &[1, 0])], &[(&[add, z, A], &[A]), (&[add, s, A, B], &[add, A, s, B])]);
+    let cue = [vec![add], nest(s, n, &[z]), vec![z]].concat();
+    Work { label: "counting", book, cue }
+}
+
+/// A small cue that takes many steps: a product of small numbers, added up and taken away again.
+fn small(n: usize) -> Work {
+    let (z, s, times, down) = (0, 1, 2, 3);
+    let book = write(
+        &[(0, &[]), (1, &[]), (2, &[1, 0]), (2, &[1, 0])],
+        &[(&[times, z, A], &[z]), (&[times, s, A, B], &[down, B, times, A, B]), (&[down, z, A], &[A]), (&[down, s, A, B], &[down, A, B])],
+    );
+    let cue = [vec![times], nest(s, n, &[z]), nest(s, n, &[z])].concat();
+    Work { label: "counting, small cue", book, cue }
+}
+
+/// The nth look of a chase that holds back its tail.
+fn chase(n: usize) -> Work {
+    let (z, s, then, from, nth) = (0, 1, 2, 3, 4);
+    let book = write(
+        &[(0, &[]), (1, &[]), (2, &[1]), (1, &[0]), (2, &[2, 0])],
+        &[(&[from, A], &[then, A, from, s, A]), (&[nth, z, then, A, B], &[A]), (&[nth, s, A, then, B, C], &[nth, A, C])],
+    );
+    let cue = [vec![nth], nest(s, n, &[z]), vec![from, z]].concat();
+    Work { label: "endless chase", book, cue }
+}
+
+/// Thousands of words with a small redex at each leaf.
+fn wide(depth: usize) -> Work {
+    fn spread(depth: usize, out: &mut Vec<u16>) {
+        if depth == 0 {
+            out.extend([3, 3, 0]);
+            return;
+        }
+        out.push(2);
+        spread(depth - 1, out);
+        spread(depth - 1, out);
+    }
+    let (t, f, not) = (0, 1, 3);
+    let book = write(&[(0, &[]), (0, &[]), (2, &[1, 2]), (1, &[1, 0])], &[(&[not, t], &[f]), (&[not, f], &[t])]);
+    let mut cue = vec![];
+    spread(depth, &mut cue);
+    Work { label: "wide cue", book, cue }
+}
+
+/// d(a) becomes p(a, a), eleven times: 4,095 words.
+fn doubling() -> Work {
+    let book = write(&[(0, &[]), (2, &[]), (1, &[1, 0])], &[(&[2, A], &[1, A, A])]);
+    Work { label: "doubling", book, cue: nest(2, 11, &[0]) }
+}
+
+/// The largest book, 21,251 words, made so that the order test passes it and has to look at everything: 128 names with a rule each, whose
+/// orders end in 15 idle arguments.
+fn largest() -> Vec<u16> {
+    let mut w = vec![256u16];
+    let count = |k: usize| if k < 128 { k % 3 } else { 8 };
+    w.extend((0..256).map(|k| count(k) as u16));
+    w.push(256);
+    for k in 0..256 {
+        w.push(16);
+        w.push(0);
+        w.extend((0..15).map(|i| if count(k) == 0 { 0 } else if k < 128 { 1 + i % count(k) as u16 } else { 1 + i % 7 }));
+    }
+    w.push(128);
+    for k in 128..256 {
+        // seven placeholders, and an argument of 56 words
+        w.push(64);
+        w.push(k);
+        w.extend((0..7).map(|i| HOLE + i));
+        w.extend([1; 55]);
+        w.push(0);
+        w.push(64);
+        w.extend([1; 63]);
+        w.push(HOLE);
+    }
+    assert_eq!(w.len(), 21_251);
+    w
+}
+
+/// Seconds for one call: as many calls as fit in the time given, at least three.
+fn seconds(least: f64, mut call: impl FnMut()) -> f64 {
+    call();
+    let start = Instant::now();
+    let mut n = 0;
+    while n < 3 || start.elapsed() < Duration::from_secs_f64(least) {
+        call();
+        n += 1;
+    }
+    start.elapsed().as_secs_f64() / n as f64
+}
+
+fn time(s: f64) -> String {
+    if s < 1e-3 {
+        format!("{:.1} us", s * 1e6)
+    } else {
+        format!("{:.2} ms", s * 1e3)
+    }
+}
+
+fn rate(steps: u32, s: f64) -> String {
+    if steps == 0 {
+        "-".into()
+    } else {
+        format!("{:.0}", steps as f64 / s)
+    }
+}
+
+fn line(label: &str, words: usize, steps: u32, product: f64, second: f64) {
+    println!(
+        "{label:<22}{words:>7}{steps:>8}{:>12}{:>12}{:>8.2}{:>14}{:>14}",
+        time(product),
+        time(second),
+        product / second,
+        rate(steps, product),
+        rate(steps, second)
+    );
+}
+
+fn expansion(w: &Work, least: f64, agree: &mut bool) {
+    let b: Book = book::read(&w.book).unwrap_or_else(|f| panic!("{}: the book has fault {f:?}", w.label));
+    let c = b.cue(&w.cue).unwrap_or_else(|p| panic!("{}: the cue is broken at {p}", w.label));
+    let (mut out, mut work) = (vec![0; 4096], vec![0; 8192]);
+    let a = product::expand(&w.book, &w.cue, u32::MAX, &mut out, &mut work);
+    let o = evaluate(&b, &c, u32::MAX, Plant::Nothing, false, u64::MAX);
+    let End::Cue(last) = o.end else { panic!("{}: the second evaluator gives no cue", w.label) };
+    let words = last.to_words();
+    if (a.number, a.place, a.steps) != (0, words.len(), o.steps) || out[..a.place] != words[..] {
+        println!("{}: the product answers {a:?}, the second evaluator {} words after {} steps", w.label, words.len(), o.steps);
+        *agree = false;
+        return;
+    }
+    let product = seconds(least, || {
+        product::expand(&w.book, &w.cue, u32::MAX, &mut out, &mut work);
+    });
+    // the same from words to words: reading the book and the cue, writing the answer
+    let second = seconds(least, || {
+        let b = book::read(&w.book).unwrap();
+        let c = b.cue(&w.cue).unwrap();
+        if let End::Cue(c) = evaluate(&b, &c, u32::MAX, Plant::Nothing, false, u64::MAX).end {
+            std::hint::black_box(c.to_words());
+        }
+    });
+    line(w.label, w.cue.len().max(words.len()), o.steps, product, second);
+    match maude::run(w.label, &b, &w.cue) {
+        None => {}
+        Some(Err(e)) => {
+            println!("  maude: {e}");
+            *agree = false;
+        }
+        Some(Ok(m)) => {
+            println!("  maude: {} rewrites in {}, {}", m.rewrites, m.time, if m.words == words { "the same answer" } else { "ANOTHER ANSWER" });
+            *agree &= m.words == words;
+        }
+    }
+}
+
+fn all() -> i32 {
+    let least: f64 = std::env::args().nth(1).and_then(|a| a.parse().ok()).unwrap_or(0.3);
+    let mut agree = true;
+    println!("{:<22}{:>7}{:>8}{:>12}{:>12}{:>8}{:>14}{:>14}", "", "words", "steps", "product", "second", "ratio", "product st/s", "second st/s");
+    for w in [counting(1500), small(40), chase(400), wide(10), doubling()] {
+        expansion(&w, least, &mut agree);
+    }
+    let book = largest();
+    let read = product::read(&book);
+    agree &= (read.number, read.place) == (0, book.len()) && book::read(&book).is_ok();
+    let (p, s) = (
+        seconds(least, || {
+            std::hint::black_box(product::read(&book));
+        }),
+        seconds(least, || {
+            std::hint::black_box(book::read(&book).is_ok());
+        }),
+    );
+    line("reading, largest book", book.len(), 0, p, s);
+    agree &= product::test_strategies(&book).number == 0 && book::read(&book).unwrap().failing(Plant::Nothing).is_empty();
+    let (p, s) = (
+        seconds(least, || {
+            std::hint::black_box(product::test_strategies(&book));
+        }),
+        seconds(least, || {
+            std::hint::black_box(book::read(&book).unwrap().failing(Plant::Nothing));
+        }),
+    );
+    line("order test, largest", book.len(), 0, p, s);
+    println!("(ratio: the product's time by the second evaluator's, which works on shared trees with a heap; both from words to words)");
+    if !maude::present() {
+        println!("(maude is not installed: its runs are skipped)");
+    }
+    if !agree {
+        println!("bench: they do not agree");
+        return 1;
+    }
+    0
+}
+
+fn main() {
+    let t = std::thread::Builder::new().stack_size(1 << 28).spawn(all).unwrap();
+    std::process::exit(t.join().unwrap_or(1));
+}

@@ -1,0 +1,79 @@
+#!/usr/bin/env bash
+# The checks from outside: the C interface and its header, the C example, random books against the second evaluator (which must also find
+# three planted faults), the words tool and the examples. Needs gcc, g++, rustc and python3; everything is written under target/outside.
+#     tests/run.sh [CASES of the random run; 100000 if not said]
+set -euo pipefail
+cd "$(dirname "$0")/.."
+cases=${1:-100000}
+to=target/outside
+mkdir -p "$to"
+
+say() { printf 'outside: %s\n' "$*"; }
+fail() { say "FAILED: $*"; exit 1; }
+# a command whose output is shown only where it fails
+quiet() { "$@" > "$to/log" 2>&1 || { cat "$to/log"; fail "$*"; }; }
+
+# 1. the archive, and its header in C99 and C++
+quiet rt staticlib cue
+archive=target/staticlib/libcue.a
+printf '#include "cue.h"\nint main(void) { return CUE_TAKEN; }\n' | tee "$to/header.c" > "$to/header.cpp"
+quiet gcc -std=c99 -Wall -Wextra -pedantic -Werror -Iinclude -fsyntax-only "$to/header.c"
+quiet g++ -std=c++11 -Wall -Wextra -pedantic -Werror -Iinclude -fsyntax-only "$to/header.cpp"
+nm -g --defined-only "$archive" | awk '$2 == "T" { print $3 }' | sort > "$to/exported"
+grep -oE '\bcue_[a-z_]+\(' include/cue.h | tr -d '(' | sort -u > "$to/declared"
+diff "$to/exported" "$to/declared" || fail "the header does not declare what the archive exports"
+say "the archive exports, and the header declares, $(wc -l < "$to/exported") functions"
+
+# 2. the C example
+quiet gcc -std=c99 -Wall -Wextra -pedantic -Werror -Iinclude examples/c/expand.c "$archive" -o "$to/expand-c"
+"$to/expand-c" > "$to/expand-c.out"
+diff examples/c/stdout "$to/expand-c.out" || fail "the C example prints something else"
+say "the C example prints what the paper prints"
+
+# 3. random books against the second evaluator, and the planted faults
+quiet rustc -O --edition 2021 -D warnings -L target/staticlib tests/second/main.rs -o "$to/second"
+"$to/second" "$cases" || fail "the product and the second evaluator differ, or a number came too seldom"
+for plant in 1 2 3; do
+    status=0
+    "$to/second" --plant "$plant" > "$to/plant-$plant" || status=$?
+    if [ "$status" != 1 ] || ! grep -q 'cut down' "$to/plant-$plant"; then
+        cat "$to/plant-$plant"
+        fail "planted fault $plant was not found"
+    fi
+    say "planted fault $plant was found: $(sed -n 's/^second: DIFFERENCE //p' "$to/plant-$plant")"
+done
+
+# 4. the words tool, there and back, and what it refuses
+for text in examples/*/*.txt; do
+    tools/words pack "$text" "$to/packed"
+    tools/words unpack "$to/packed" "$to/unpacked.txt"
+    tools/words pack "$to/unpacked.txt" "$to/again"
+    cmp "$to/packed" "$to/again" || fail "$text comes back otherwise"
+    sed 's/#.*//' "$text" | tr -s ' \t' '\n' | sed '/^$/d' | diff - "$to/unpacked.txt" || fail "$text comes back with other words"
+done
+for wrong in 65536 -1 1x '2 3 four' 0x10; do
+    echo "$wrong" > "$to/wrong.txt"
+    ! tools/words pack "$to/wrong.txt" "$to/packed" 2> /dev/null || fail "the words tool takes $wrong"
+done
+printf 'abc' > "$to/odd"
+! tools/words unpack "$to/odd" > /dev/null 2>&1 || fail "the words tool takes an odd file"
+say "the words tool goes there and back"
+
+# 5. the examples, by the program
+quiet rt check expand
+for folder in examples/*/; do
+    name=$(basename "$folder")
+    [ -f "$folder/book.txt" ] || continue
+    mkdir -p "$to/$name"
+    tools/words pack "$folder/book.txt" "$to/$name/show.book"
+    tools/words pack "$folder/cue.txt" "$to/$name/show.cue"
+    (cd "$to/$name" && ../../bin/expand > stdout)
+    diff "$folder/stdout" "$to/$name/stdout" || fail "example $name prints something else"
+    say "example $name prints what it should"
+done
+
+# 6. the benchmark builds, and all agree (its times are not looked at here)
+quiet rustc -O --edition 2021 -D warnings -L target/staticlib tests/bench/main.rs -o "$to/bench"
+quiet "$to/bench" 0
+say "the benchmark agrees; tests/bench/run.sh shows its times"
+say "all is well"

@@ -1,0 +1,264 @@
+//! Show books and cues, read into trees, straight from the paper's text (01, "The show book" and "The table of numbers").
+
+use std::rc::Rc;
+
+/// A fault of the table, and the place it is reported at.
+pub type Fault = (u32, usize);
+
+pub const HOLE: u16 = 32768;
+pub const LONGEST: usize = 4096;
+
+/// A side of a rule.
+#[derive(Clone, Debug, PartialEq)]
+pub enum Side {
+    Hole(usize),
+    Named(u16, Vec<Side>),
+}
+
+/// A rule: both sides as trees, and as they were written.
+#[derive(Clone, Debug)]
+pub struct Rule {
+    pub left: Side,
+    pub right: Side,
+    pub left_words: Vec<u16>,
+    pub right_words: Vec<u16>,
+    /// the index in the book of the right side's first word
+    pub right_at: usize,
+}
+
+#[derive(Clone, Debug)]
+pub struct Name {
+    pub arguments: usize,
+    pub order: Vec<usize>,
+}
+
+#[derive(Clone, Debug)]
+pub struct Book {
+    pub names: Vec<Name>,
+    pub rules: Vec<Rule>,
+    /// the indices in the book at which the first order and the first rule start
+    pub orders_at: usize,
+    pub rules_at: usize,
+}
+
+struct Pages<'a> {
+    words: &'a [u16],
+    at: usize,
+}
+
+/// What is known of a side while it is read.
+struct Reading {
+    left: bool,
+    first: bool,
+    /// one index after the side's last word
+    end: usize,
+    /// on the left the placeholders so far, on the right those of the left side
+    holes: usize,
+}
+
+impl Pages<'_> {
+    fn word(&mut self) -> Result<u16, Fault> {
+        let w = *self.words.get(self.at).ok_or((1, self.at))?;
+        self.at += 1;
+        Ok(w)
+    }
+
+    /// A word from `low` to `high`, else `fault` at its index.
+    fn between(&mut self, low: usize, high: usize, fault: u32) -> Result<usize, Fault> {
+        let at = self.at;
+        let w = self.word()? as usize;
+        if w < low || w > high {
+            return Err((fault, at));
+        }
+        Ok(w)
+    }
+
+    fn side(&mut self, names: &[usize], left: bool, holes: usize) -> Result<(Side, Vec<u16>, usize, usize), Fault> {
+        let length = self.between(1, 64, 2)?;
+        let start = self.at;
+        let mut r = Reading { left, first: true, end: start + length, holes };
+        let side = self.tree(names, &mut r)?;
+        if self.at < r.end {
+            // complete too early: 1 is checked before 5
+            let at = self.at;
+            self.word()?;
+            return Err((5, at));
+        }
+        Ok((side, self.words[start..self.at].to_vec(), start, r.holes))
+    }
+
+    fn tree(&mut self, names: &[usize], r: &mut Reading) -> Result<Side, Fault> {
+        if self.at == r.end {
+            return Err((5, self.at));
+        }
+        let at = self.at;
+        let w = self.word()?;
+        let first = std::mem::replace(&mut r.first, false);
+        if (w as usize) < names.len() {
+            let mut arguments = vec![];
+            for _ in 0..names[w as usize] {
+                arguments.push(self.tree(names, r)?);
+            }
+            return Ok(Side::Named(w, arguments));
+        }
+        if !(HOLE..HOLE + 16).contains(&w) {
+            return Err((4, at));
+        }
+        let k = (w - HOLE) as usize;
+        if r.left {
+            if first {
+                return Err((6, at));
+            }
+            if k != r.holes {
+                return Err((7, at));
+            }
+            r.holes += 1;
+        } else if k >= r.holes {
+            return Err((7, at));
+        }
+        Ok(Side::Hole(k))
+    }
+
+    fn book(&mut self) -> Result<Book, Fault> {
+        let s = self.between(1, 256, 2)?;
+        let mut counts = vec![];
+        for _ in 0..s {
+            counts.push(self.between(0, 8, 2)?);
+        }
+        self.between(s, s, 2)?;
+        let orders_at = self.at;
+        let mut names = vec![];
+        for &arguments in &counts {
+            let length = self.between(0, 16, 2)?;
+            let mut order = vec![];
+            for _ in 0..length {
+                order.push(self.between(0, arguments, 3)?);
+            }
+            names.push(Name { arguments, order });
+        }
+        let n = self.between(0, 128, 2)?;
+        let rules_at = self.at;
+        let mut rules = vec![];
+        for _ in 0..n {
+            let (left, left_words, _, holes) = self.side(&counts, true, 0)?;
+            let (right, right_words, right_at, _) = self.side(&counts, false, holes)?;
+            rules.push(Rule { left, right, left_words, right_words, right_at });
+        }
+        if self.at < self.words.len() {
+            return Err((8, self.at));
+        }
+        Ok(Book { names, rules, orders_at, rules_at })
+    }
+}
+
+/// Reads a book.
+pub fn read(words: &[u16]) -> Result<Book, Fault> {
+    Pages { words, at: 0 }.book()
+}
+
+/// A cue: a name with its arguments. Arguments may be shared, which nothing here can tell.
+#[derive(Debug)]
+pub struct Cue {
+    pub name: u16,
+    pub arguments: Vec<Rc<Cue>>,
+    /// how many words it takes
+    pub words: usize,
+}
+
+impl Cue {
+    pub fn new(name: u16, arguments: Vec<Rc<Cue>>) -> Rc<Cue> {
+        let words = 1 + arguments.iter().map(|a| a.words).sum::<usize>();
+        Rc::new(Cue { name, arguments, words })
+    }
+
+    pub fn write(&self, out: &mut Vec<u16>) {
+        out.push(self.name);
+        for a in &self.arguments {
+            a.write(out);
+        }
+    }
+
+    pub fn to_words(&self) -> Vec<u16> {
+        let mut out = vec![];
+        self.write(&mut out);
+        out
+    }
+}
+
+impl Book {
+    fn part(&self, words: &[u16], at: &mut usize) -> Result<Rc<Cue>, usize> {
+        // it ends early; no word can stand at index 4,096; the word is no name
+        if *at == words.len() || *at == LONGEST || words[*at] as usize >= self.names.len() {
+            return Err(*at);
+        }
+        let name = words[*at];
+        *at += 1;
+        let mut arguments = vec![];
+        for _ in 0..self.names[name as usize].arguments {
+            arguments.push(self.part(words, at)?);
+        }
+        Ok(Cue::new(name, arguments))
+    }
+
+    /// Reads a cue: 9's place where it is not whole.
+    pub fn cue(&self, words: &[u16]) -> Result<Rc<Cue>, usize> {
+        let mut at = 0;
+        let cue = self.part(words, &mut at)?;
+        if at < words.len() {
+            return Err(at);
+        }
+        Ok(cue)
+    }
+
+    /// The whole cue at the front of the words, if there is one.
+    pub fn front(&self, words: &[u16]) -> Option<Rc<Cue>> {
+        self.part(words, &mut 0).ok()
+    }
+
+    /// Argument i, from 1, of a cue's first name: where its words start, and the argument.
+    pub fn argument(cue: &Cue, i: usize) -> Option<(usize, &Rc<Cue>)> {
+        if i == 0 || i > cue.arguments.len() {
+            return None;
+        }
+        let before: usize = cue.arguments[..i - 1].iter().map(|a| a.words).sum();
+        Some((1 + before, &cue.arguments[i - 1]))
+    }
+
+    /// The names that fail the order test.
+    pub fn failing(&self, plant: Plant) -> Vec<usize> {
+        (0..self.names.len()).filter(|&f| !self.passes(f, plant)).collect()
+    }
+
+    fn passes(&self, f: usize, plant: Plant) -> bool {
+        let lefts: Vec<&Vec<Side>> = self
+            .rules
+            .iter()
+            .filter_map(|r| match &r.left {
+                Side::Named(g, arguments) if *g as usize == f => Some(arguments),
+                _ => None,
+            })
+            .collect();
+        if lefts.is_empty() {
+            return true;
+        }
+        let order = &self.names[f].order;
+        let zero = if plant == Plant::FirstZero { order.iter().position(|&e| e == 0) } else { order.iter().rposition(|&e| e == 0) };
+        let idle = |i: usize| lefts.iter().all(|l| matches!(l[i - 1], Side::Hole(_)));
+        match zero {
+            None => false,
+            Some(z) => order[z + 1..].iter().all(|&e| e == 0 || idle(e)),
+        }
+    }
+}
+
+/// A fault that is planted here on purpose, to show that the comparison finds it.
+#[derive(Clone, Copy, PartialEq, Debug)]
+pub enum Plant {
+    Nothing,
+    /// goes on with the old name's order after a step
+    OldOrder,
+    /// the order test looks after the first 0, not the last
+    FirstZero,
+    /// 12 is checked before 11
+    OverlongFirst,
+}

@@ -1,0 +1,343 @@
+//! One case: every operation of the product against what the paper's text gives, whole answers and whole buffers.
+
+use crate::book::{self, Book, Cue, Plant};
+use crate::demand3;
+use crate::evaluate::{evaluate, first_fit, End};
+use crate::product::{self, Answer, Match, Part, Shape, VARIABLES};
+use crate::random::{Case, PATIENCE};
+use std::cell::RefCell;
+use std::collections::HashMap;
+use std::rc::Rc;
+
+/// Words before and after each lent buffer, which nobody may touch.
+const MARGIN: usize = 64;
+
+/// What was met, for the statistics.
+#[derive(Clone, Default)]
+pub struct Counts {
+    pub cases: u64,
+    pub read: [u64; 15],
+    pub check: [u64; 15],
+    pub test: [u64; 15],
+    pub expand: [u64; 15],
+    /// answers 0 by steps: 0, 1 to 9, 10 to 99, 100 to 999, more
+    pub steps: [u64; 5],
+    pub most_steps: u32,
+    /// allowance met exactly on 0; one short on 11
+    pub exact: u64,
+    pub one_short: u64,
+    pub arguments: u64,
+    pub matches: u64,
+    pub listed: u64,
+    pub settled: u64,
+    pub too_long: u64,
+}
+
+impl Counts {
+    pub fn add(&mut self, o: &Counts) {
+        self.cases += o.cases;
+        for i in 0..15 {
+            self.read[i] += o.read[i];
+            self.check[i] += o.check[i];
+            self.test[i] += o.test[i];
+            self.expand[i] += o.expand[i];
+        }
+        for i in 0..5 {
+            self.steps[i] += o.steps[i];
+        }
+        self.most_steps = self.most_steps.max(o.most_steps);
+        self.exact += o.exact;
+        self.one_short += o.one_short;
+        self.arguments += o.arguments;
+        self.matches += o.matches;
+        self.listed += o.listed;
+        self.settled += o.settled;
+        self.too_long += o.too_long;
+    }
+}
+
+type Checked = Result<(), String>;
+
+fn same<T: PartialEq + std::fmt::Debug>(what: &str, expected: T, got: T) -> Checked {
+    if expected == got {
+        return Ok(());
+    }
+    Err(format!("{what}: the second evaluator says {expected:?}, the product {got:?}"))
+}
+
+fn answer(number: u32, place: usize, steps: u32) -> Answer {
+    Answer { number, place, steps }
+}
+
+/// What a lent buffer of up to 12,288 words with its margins holds before: one word, or if that is 1 a different one at each place.
+fn dirt(kind: u16) -> Rc<Vec<u16>> {
+    thread_local! {
+        static MADE: RefCell<HashMap<u16, Rc<Vec<u16>>>> = RefCell::default();
+    }
+    let make = || {
+        let word = |i: usize| if kind == 1 { (i as u16).wrapping_mul(40503) ^ 0x5A5A } else { kind };
+        Rc::new((0..12288 + 2 * MARGIN).map(word).collect())
+    };
+    MADE.with(|m| m.borrow_mut().entry(kind).or_insert_with(make).clone())
+}
+
+/// A lent buffer with its margins.
+struct Lent {
+    before: Rc<Vec<u16>>,
+    words: Vec<u16>,
+    length: usize,
+}
+
+impl Lent {
+    fn new(length: usize, kind: u16) -> Lent {
+        let before = dirt(kind);
+        Lent { words: before[..length + 2 * MARGIN].to_vec(), before, length }
+    }
+
+    fn slice(&mut self) -> &mut [u16] {
+        let n = self.length;
+        &mut self.words[MARGIN..MARGIN + n]
+    }
+
+    /// All words are as they were before, margins too, but for the first ones of the buffer.
+    fn check(&self, what: &str, first: &[u16]) -> Checked {
+        let end = MARGIN + first.len();
+        if self.words[..MARGIN] == self.before[..MARGIN] && self.words[MARGIN..end] == *first && self.words[end..] == self.before[end..self.words.len()] {
+            return Ok(());
+        }
+        let expected = |i: usize| if (MARGIN..end).contains(&i) { first[i - MARGIN] } else { self.before[i] };
+        let i = (0..self.words.len()).find(|&i| self.words[i] != expected(i)).unwrap();
+        Err(format!("{what}, word {}: expected {}, found {}", i as isize - MARGIN as isize, expected(i), self.words[i]))
+    }
+}
+
+/// By the argument counts that the words of any book list.
+fn span(book: &[u16], ws: &[u16]) -> usize {
+    let listed = book.get(0).map_or(0, |&s| (s as usize).min(book.len() - 1));
+    fn part(counts: &[u16], ws: &[u16], at: usize) -> usize {
+        let mut end = at + 1;
+        if let Some(&n) = counts.get(ws[at] as usize) {
+            for _ in 0..n {
+                if end == ws.len() {
+                    break;
+                }
+                end = part(counts, ws, end);
+            }
+        }
+        end
+    }
+    if ws.is_empty() {
+        return 0;
+    }
+    part(&book[1.min(book.len())..][..listed], ws, 0)
+}
+
+fn matched(b: &Book, part: &Rc<Cue>) -> Match {
+    let mut m = Match { found: 0, number: 0, rhs: 0, size: 0, starts: [0; VARIABLES], lengths: [0; VARIABLES] };
+    let Some((number, filling)) = first_fit(b, part) else {
+        return m;
+    };
+    let rule = &b.rules[number];
+    m = Match { found: 1, number, rhs: rule.right_at, size: rule.right_words.len(), ..m };
+    // where the placeholders' arguments start: each after the words before it
+    let mut at = 0;
+    for &w in &rule.left_words {
+        if w < book::HOLE {
+            at += 1;
+        } else {
+            let k = (w - book::HOLE) as usize;
+            m.starts[k] = at;
+            m.lengths[k] = filling[k].words;
+            at += filling[k].words;
+        }
+    }
+    m
+}
+
+fn readers(case: &Case, plant: Plant, read: &Result<Book, book::Fault>, n: &mut Counts) -> Checked {
+    let words = &case.book;
+    let r = match read {
+        Ok(_) => answer(0, words.len(), 0),
+        Err((number, place)) => answer(*number, *place, 0),
+    };
+    n.read[r.number as usize] += 1;
+    same("reading the book", r, product::read(words))?;
+    let shape = match read {
+        Ok(b) => Shape { symbols: b.names.len(), strategies: b.orders_at, rules: b.rules.len(), first_rule: b.rules_at },
+        Err(_) => Shape { symbols: 0, strategies: 0, rules: 0, first_rule: 0 },
+    };
+    same("the book's shape", shape, product::shape_of(words))?;
+    let got = product::test_strategies(words);
+    match read {
+        Err(_) => same("the order test", r, got),
+        Ok(b) => {
+            let failing = b.failing(plant);
+            if failing.is_empty() {
+                n.test[0] += 1;
+                return same("the order test", answer(0, 0, 0), got);
+            }
+            n.test[14] += 1;
+            // which of the failing names is free
+            if got.number == 14 && got.steps == 0 && failing.contains(&got.place) {
+                return Ok(());
+            }
+            Err(format!("the order test: the second evaluator says 14 at one of {failing:?}, the product {got:?}"))
+        }
+    }
+}
+
+fn cues(case: &Case, b: &Book, cue: &Result<Rc<Cue>, usize>, n: &mut Counts) -> Checked {
+    let (words, ws) = (&case.book, &case.cue);
+    let c = match cue {
+        Ok(_) => answer(0, ws.len(), 0),
+        Err(place) => answer(9, *place, 0),
+    };
+    n.check[c.number as usize] += 1;
+    same("checking the cue", c, product::check_term(words, ws))?;
+    for i in [0, 1, 2, 3, 4, 5, 6, 7, 8, 9, 300, usize::MAX] {
+        let expected = match cue {
+            Ok(c) => match Book::argument(c, i) {
+                Some((start, a)) => {
+                    n.arguments += 1;
+                    if ws[start..start + a.words] != a.to_words() {
+                        return Err(format!("argument {i} is not where the second evaluator says"));
+                    }
+                    Part { start, length: a.words }
+                }
+                None => Part { start: 0, length: 0 },
+            },
+            Err(_) => Part { start: 0, length: 0 },
+        };
+        same(&format!("argument {i}"), expected, product::argument(words, ws, i))?;
+    }
+    // the rules at the root, and at some places inside, where other words follow the part
+    let mut at = 0;
+    while at < ws.len() {
+        let got = product::first_match(words, &ws[at..]);
+        match b.front(&ws[at..]) {
+            Some(part) => {
+                n.matches += 1;
+                same(&format!("the first rule that fits at {at}"), matched(b, &part), got)?;
+            }
+            None => {
+                // the paper says nothing of words that are no cue; what is handed back still lies inside them
+                if (0..VARIABLES).any(|k| got.starts[k] + got.lengths[k] > ws.len() - at) {
+                    return Err(format!("the match at {at} points outside the words: {got:?}"));
+                }
+            }
+        }
+        at += 1 + at * if ws.len() > 200 { 20 } else { 2 };
+    }
+    Ok(())
+}
+
+fn refused_book(case: &Case, fault: book::Fault, n: &mut Counts) -> Checked {
+    let (words, ws) = (&case.book, &case.cue);
+    n.check[fault.0 as usize] += 1;
+    same("checking the cue over a refused book", answer(fault.0, fault.1, 0), product::check_term(words, ws))?;
+    for i in 0..4 {
+        same("an argument over a refused book", Part { start: 0, length: 0 }, product::argument(words, ws, i))?;
+    }
+    let none = Match { found: 0, number: 0, rhs: 0, size: 0, starts: [0; VARIABLES], lengths: [0; VARIABLES] };
+    same("matching over a refused book", none, product::first_match(words, ws))
+}
+
+/// Runs the product's expander and holds its answer and both buffers to what is expected: on 0 the words, and where the work buffer is
+/// zeroed.
+fn expanded(case: &Case, cue: &[u16], limit: u32, expected: Answer, words: Option<&[u16]>) -> Checked {
+    let mut out = Lent::new(case.out_words, case.dirt);
+    let mut work = Lent::new(case.work_words, case.dirt);
+    let got = product::expand(&case.book, cue, limit, out.slice(), work.slice());
+    same("expanding", expected, got)?;
+    out.check("the answer buffer", words.unwrap_or(&[]))?;
+    let zeroed = [0, 11, 12, 13].contains(&expected.number);
+    work.check("the work buffer", if zeroed { &[0; 8192] } else { &[] })
+}
+
+fn expansion(case: &Case, plant: Plant, read: &Result<Book, book::Fault>, cue: &Result<Rc<Cue>, usize>, n: &mut Counts) -> Checked {
+    let mut refused = |number: u32, place: usize| {
+        n.expand[number as usize] += 1;
+        expanded(case, &case.cue, case.limit, answer(number, place, 0), None)
+    };
+    if case.out_words < 4096 || case.work_words < 8192 {
+        return refused(10, 0);
+    }
+    let b = match read {
+        Ok(b) => b,
+        Err((number, place)) => return refused(*number, *place),
+    };
+    let c = match cue {
+        Ok(c) => c,
+        Err(place) => return refused(9, *place),
+    };
+    let o = evaluate(b, c, case.limit, plant, true, PATIENCE);
+    match o.end {
+        End::TooLong => {
+            n.too_long += 1;
+            Ok(())
+        }
+        End::Stopped(number) => {
+            n.expand[number as usize] += 1;
+            if number == 11 && evaluates_in(b, c, case.limit.saturating_add(1), case.limit) {
+                n.one_short += 1;
+            }
+            expanded(case, &case.cue, case.limit, answer(number, 0, o.steps), None)
+        }
+        End::Cue(last) => {
+            n.expand[0] += 1;
+            n.steps[match o.steps {
+                0 => 0,
+                1..=9 => 1,
+                10..=99 => 2,
+                100..=999 => 3,
+                _ => 4,
+            }] += 1;
+            n.most_steps = n.most_steps.max(o.steps);
+            if o.steps == case.limit {
+                n.exact += 1;
+            }
+            let words = last.to_words();
+            expanded(case, &case.cue, case.limit, answer(0, words.len(), o.steps), Some(&words))?;
+            // demand 3: the list of steps, for every book
+            if o.steps as usize * words.len().max(case.cue.len()) < 400_000 {
+                n.listed += 1;
+                demand3::check_steps(b, &case.cue, &o.trace, &words).map_err(|e| format!("demand 3: {e}"))?;
+            }
+            // demand 3: over a passed book no active place fits, and the cue expands to itself
+            if product::test_strategies(&case.book).number == 0 {
+                n.settled += 1;
+                demand3::check_settled(b, &words).map_err(|e| format!("demand 3: {e}"))?;
+                expanded(case, &words, 0, answer(0, words.len(), 0), Some(&words)).map_err(|e| format!("demand 3, the answer again: {e}"))?;
+            }
+            Ok(())
+        }
+    }
+}
+
+/// Whether the cue takes one step more than the allowance that was spent, and then ends. (Only short evaluations are looked at again.)
+fn evaluates_in(b: &Book, c: &Rc<Cue>, limit: u32, spent: u32) -> bool {
+    if spent > 200 {
+        return false;
+    }
+    let o = evaluate(b, c, limit, Plant::Nothing, false, PATIENCE / 50);
+    matches!(o.end, End::Cue(_))
+}
+
+pub fn compare(case: &Case, plant: Plant, n: &mut Counts) -> Checked {
+    n.cases += 1;
+    let read = book::read(&case.book);
+    readers(case, plant, &read, n)?;
+    same("the span of the cue's words", span(&case.book, &case.cue), product::span(&case.book, &case.cue))?;
+    let cue = match &read {
+        Ok(b) => {
+            let cue = b.cue(&case.cue);
+            cues(case, b, &cue, n)?;
+            cue
+        }
+        Err(fault) => {
+            refused_book(case, *fault, n)?;
+            Err(0)
+        }
+    };
+    expansion(case, plant, &read, &cue, n)
+}

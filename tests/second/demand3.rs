@@ -1,0 +1,122 @@
+//! The words of demand 3 (01), from their own definitions and on words alone: place, part, active, fits, step. Nothing here knows how a
+//! cue is evaluated; a list of steps is only checked.
+
+use crate::book::{Book, HOLE, LONGEST};
+use crate::evaluate::Step;
+
+/// One index after the part at a place: that word with all its arguments.
+fn part_end(book: &Book, cue: &[u16], place: usize) -> usize {
+    let mut end = place + 1;
+    for _ in 0..book.names[cue[place] as usize].arguments {
+        end = part_end(book, cue, end);
+    }
+    end
+}
+
+/// "A place is active if every argument on the way to it stands in the order of the name holding it; index 0 always is."
+fn active_places(book: &Book, cue: &[u16]) -> Vec<bool> {
+    fn walk(book: &Book, cue: &[u16], place: usize, active: bool, all: &mut [bool]) -> usize {
+        all[place] = active;
+        let name = &book.names[cue[place] as usize];
+        let mut at = place + 1;
+        for i in 1..=name.arguments {
+            at = walk(book, cue, at, active && name.order.contains(&i), all);
+        }
+        at
+    }
+    let mut all = vec![false; cue.len()];
+    let end = walk(book, cue, 0, true, &mut all);
+    assert_eq!(end, cue.len(), "the cue is not whole");
+    all
+}
+
+/// "A filling gives each placeholder a whole cue, the same wherever it stands; a side so filled is an instance."
+fn instance(side: &[u16], filling: &[&[u16]]) -> Vec<u16> {
+    let mut words = vec![];
+    for &w in side {
+        if w < HOLE {
+            words.push(w);
+        } else {
+            words.extend_from_slice(filling[(w - HOLE) as usize]);
+        }
+    }
+    words
+}
+
+/// "A rule fits at a place if some instance of its left side is the part there": the filling that makes it so. Each placeholder can only stand
+/// for the part that starts where it is met, so one try decides; the instance is then held against the part.
+fn filling<'a>(book: &Book, left: &[u16], part: &'a [u16]) -> Option<Vec<&'a [u16]>> {
+    let mut found: Vec<&[u16]> = vec![];
+    let mut at = 0;
+    for &w in left {
+        if at == part.len() {
+            return None;
+        }
+        if w < HOLE {
+            at += 1;
+        } else {
+            let end = part_end(book, part, at);
+            found.push(&part[at..end]);
+            at = end;
+        }
+    }
+    (instance(left, &found) == part).then_some(found)
+}
+
+fn fitting<'a>(book: &Book, part: &'a [u16]) -> Option<(usize, Vec<&'a [u16]>)> {
+    book.rules.iter().enumerate().find_map(|(k, r)| {
+        if r.left_words[0] != part[0] {
+            return None;
+        }
+        filling(book, &r.left_words, part).map(|f| (k, f))
+    })
+}
+
+/// "That the list of steps leads from the cue handed in to the cue handed back": each step at an active place, with the first rule that
+/// fits, leaving a whole cue of at most 4,096 words.
+pub fn check_steps(book: &Book, first: &[u16], steps: &[Step], last: &[u16]) -> Result<(), String> {
+    let mut cue = first.to_vec();
+    for (n, step) in steps.iter().enumerate() {
+        let mut place = 0;
+        for &i in &step.way {
+            let name = &book.names[cue[place] as usize];
+            if !name.order.contains(&(i as usize + 1)) {
+                return Err(format!("step {n} is not at an active place"));
+            }
+            place += 1;
+            for _ in 0..i {
+                place = part_end(book, &cue, place);
+            }
+        }
+        let end = part_end(book, &cue, place);
+        match fitting(book, &cue[place..end]) {
+            Some((rule, f)) if rule == step.rule => {
+                let new = instance(&book.rules[rule].right_words, &f);
+                let mut next = cue[..place].to_vec();
+                next.extend(new);
+                next.extend_from_slice(&cue[end..]);
+                cue = next;
+            }
+            other => return Err(format!("step {n} took rule {}, but the first that fits at {place} is {:?}", step.rule, other.map(|o| o.0))),
+        }
+        if cue.len() > LONGEST || part_end(book, &cue, 0) != cue.len() {
+            return Err(format!("step {n} leaves no whole cue of at most 4,096 words"));
+        }
+    }
+    if cue != last {
+        return Err(format!("the {} steps do not lead to the cue handed back", steps.len()));
+    }
+    Ok(())
+}
+
+/// "Passed": no active place of the cue fits a rule.
+pub fn check_settled(book: &Book, cue: &[u16]) -> Result<(), String> {
+    for (place, active) in active_places(book, cue).into_iter().enumerate() {
+        if active {
+            if let Some((rule, _)) = fitting(book, &cue[place..part_end(book, cue, place)]) {
+                return Err(format!("the book passed, but rule {rule} fits at the active place {place} of the cue handed back"));
+            }
+        }
+    }
+    Ok(())
+}

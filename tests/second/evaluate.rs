@@ -1,0 +1,147 @@
+//! Evaluation on trees, recursive, straight from the paper's text (01, "Evaluation").
+
+use crate::book::{Book, Cue, Plant, Side, LONGEST};
+use std::rc::Rc;
+
+/// A step that was taken: the arguments on the way to its place (from 0), and the rule.
+pub struct Step {
+    pub way: Vec<u8>,
+    pub rule: usize,
+}
+
+/// How an evaluation ended: with a cue, with 11, 12 or 13, or given up here because it takes too long to be of use in a test.
+pub enum End {
+    Cue(Rc<Cue>),
+    Stopped(u32),
+    TooLong,
+}
+
+pub struct Outcome {
+    pub end: End,
+    pub steps: u32,
+    pub trace: Vec<Step>,
+}
+
+enum Stop {
+    Number(u32),
+    TooLong,
+}
+
+struct Evaluator<'a> {
+    book: &'a Book,
+    allowance: u32,
+    plant: Plant,
+    /// the words of the whole cue, as it is now
+    whole: usize,
+    steps: u32,
+    way: Vec<u8>,
+    trace: Option<Vec<Step>>,
+    /// what may still be spent before the evaluation is given up
+    patience: u64,
+}
+
+/// Names equal, each placeholder standing for one whole argument.
+fn fits(side: &Side, cue: &Rc<Cue>, filling: &mut Vec<Rc<Cue>>) -> bool {
+    match side {
+        Side::Hole(_) => {
+            filling.push(cue.clone());
+            true
+        }
+        Side::Named(name, arguments) => {
+            *name == cue.name && arguments.iter().zip(&cue.arguments).all(|(s, c)| fits(s, c, filling))
+        }
+    }
+}
+
+fn fill(side: &Side, filling: &[Rc<Cue>]) -> Rc<Cue> {
+    match side {
+        Side::Hole(k) => filling[*k].clone(),
+        Side::Named(name, arguments) => Cue::new(*name, arguments.iter().map(|a| fill(a, filling)).collect()),
+    }
+}
+
+/// The lowest-numbered rule that fits here, with its filling.
+pub fn first_fit(book: &Book, cue: &Rc<Cue>) -> Option<(usize, Vec<Rc<Cue>>)> {
+    book.rules.iter().enumerate().find_map(|(number, rule)| {
+        let mut filling = vec![];
+        fits(&rule.left, cue, &mut filling).then_some((number, filling))
+    })
+}
+
+impl Evaluator<'_> {
+    fn evaluate(&mut self, cue: &Rc<Cue>, level: u32) -> Result<Rc<Cue>, Stop> {
+        let mut cue = cue.clone();
+        'anew: loop {
+            let order = &self.book.names[cue.name as usize].order;
+            for &entry in order {
+                let tried = if entry == 0 { self.book.rules.len() } else { 0 };
+                let cost = (1 + self.whole / 32 + tried / 4) as u64;
+                if self.patience < cost {
+                    return Err(Stop::TooLong);
+                }
+                self.patience -= cost;
+                if entry == 0 {
+                    if let Some(new) = self.step(&cue)? {
+                        cue = new;
+                        if self.plant == Plant::OldOrder {
+                            continue;
+                        }
+                        continue 'anew;
+                    }
+                } else {
+                    if level == 64 {
+                        return Err(Stop::Number(13));
+                    }
+                    let i = entry - 1;
+                    if self.plant == Plant::OldOrder && i >= cue.arguments.len() {
+                        continue;
+                    }
+                    self.way.push(i as u8);
+                    let new = self.evaluate(&cue.arguments[i], level + 1)?;
+                    self.way.pop();
+                    if !Rc::ptr_eq(&new, &cue.arguments[i]) {
+                        let mut arguments = cue.arguments.clone();
+                        arguments[i] = new;
+                        cue = Cue::new(cue.name, arguments);
+                    }
+                }
+            }
+            return Ok(cue);
+        }
+    }
+
+    /// Tries the rules: what the cue becomes by a step, if one fits.
+    fn step(&mut self, cue: &Rc<Cue>) -> Result<Option<Rc<Cue>>, Stop> {
+        let Some((rule, filling)) = first_fit(self.book, cue) else {
+            return Ok(None);
+        };
+        let new = fill(&self.book.rules[rule].right, &filling);
+        let whole = self.whole - cue.words + new.words;
+        let spent = self.steps == self.allowance;
+        let overlong = whole > LONGEST;
+        if spent && !(overlong && self.plant == Plant::OverlongFirst) {
+            return Err(Stop::Number(11));
+        }
+        if overlong {
+            return Err(Stop::Number(12));
+        }
+        self.whole = whole;
+        self.steps += 1;
+        if let Some(trace) = &mut self.trace {
+            trace.push(Step { way: self.way.clone(), rule });
+        }
+        Ok(Some(new))
+    }
+}
+
+/// Evaluates a whole cue at level 1. `patience` bounds the work (entries followed, weighted by the cue's size and the rules tried).
+pub fn evaluate(book: &Book, cue: &Rc<Cue>, allowance: u32, plant: Plant, traced: bool, patience: u64) -> Outcome {
+    let trace = traced.then(Vec::new);
+    let mut e = Evaluator { book, allowance, plant, whole: cue.words, steps: 0, way: vec![], trace, patience };
+    let end = match e.evaluate(cue, 1) {
+        Ok(c) => End::Cue(c),
+        Err(Stop::Number(n)) => End::Stopped(n),
+        Err(Stop::TooLong) => End::TooLong,
+    };
+    Outcome { end, steps: e.steps, trace: e.trace.unwrap_or_default() }
+}

@@ -1,0 +1,206 @@
+//! A second evaluator of show books, written apart from the product, and random cases that hold the product to it through the C interface.
+//!
+//!     second [CASES] [--seed N] [--threads N] [--plant N] [--repeats]
+//!
+//! CASES cases (100,000 if not said), from seed 0 (or --seed) on; one thread for each processor, if not said. --plant 1, 2 or 3 plants a fault
+//! in the second evaluator, which the run must then find. --repeats adds a cue that would take 16^60 visits if nothing were remembered. Exit status: 0 no difference; 1 a difference, printed with its seed and cut down; 2
+//! a number of the table came too seldom, or bad usage.
+
+mod book;
+mod compare;
+mod demand3;
+mod evaluate;
+mod paper;
+mod product;
+mod random;
+mod shrink;
+
+use book::Plant;
+use compare::{compare, Counts};
+use random::Case;
+use std::sync::atomic::{AtomicU64, Ordering};
+use std::time::Instant;
+
+/// A cue may be 4,096 names deep, and all here is recursive.
+const STACK: usize = 1 << 28;
+
+struct Options {
+    cases: u64,
+    first: u64,
+    threads: usize,
+    plant: Plant,
+    repeats: bool,
+}
+
+fn options() -> Option<Options> {
+    let mut o = Options {
+        cases: 100_000,
+        first: 0,
+        threads: std::thread::available_parallelism().map_or(1, |n| n.get()),
+        plant: Plant::Nothing,
+        repeats: false,
+    };
+    let mut args = std::env::args().skip(1);
+    while let Some(a) = args.next() {
+        match a.as_str() {
+            "--seed" => o.first = args.next()?.parse().ok()?,
+            "--repeats" => o.repeats = true,
+            "--threads" => o.threads = args.next()?.parse().ok().filter(|&n| n > 0)?,
+            "--plant" => {
+                o.plant = match args.next()?.as_str() {
+                    "1" => Plant::OldOrder,
+                    "2" => Plant::FirstZero,
+                    "3" => Plant::OverlongFirst,
+                    _ => return None,
+                }
+            }
+            _ => o.cases = a.parse().ok()?,
+        }
+    }
+    Some(o)
+}
+
+fn words(ws: &[u16]) -> String {
+    ws.iter().map(|w| w.to_string()).collect::<Vec<_>>().join(" ")
+}
+
+/// A side in brackets, with placeholders as letters.
+fn show(side: &book::Side) -> String {
+    match side {
+        book::Side::Hole(k) => ((b'a' + *k as u8) as char).to_string(),
+        book::Side::Named(n, arguments) if arguments.is_empty() => n.to_string(),
+        book::Side::Named(n, arguments) => format!("{n}({})", arguments.iter().map(show).collect::<Vec<_>>().join(", ")),
+    }
+}
+
+fn print_case(case: &Case) {
+    println!("  book ({} words): {}", case.book.len(), words(&case.book));
+    if let Ok(b) = book::read(&case.book) {
+        for (k, n) in b.names.iter().enumerate().take(20) {
+            println!("    name {k}: {} arguments, order {:?}", n.arguments, n.order);
+        }
+        for (k, r) in b.rules.iter().enumerate().take(20) {
+            println!("    rule {k}: {} -> {}", show(&r.left), show(&r.right));
+        }
+    }
+    println!("  cue ({} words): {}", case.cue.len(), words(&case.cue));
+    println!("  allowance {}, answer buffer {}, work buffer {}, filled with {}", case.limit, case.out_words, case.work_words, case.dirt);
+}
+
+fn report(seed: u64, plant: Plant) {
+    let case = random::case(seed);
+    let why = compare(&case, plant, &mut Counts::default()).err().unwrap_or("not seen again".into());
+    println!("second: DIFFERENCE at seed {seed}: {why}");
+    let small = shrink::shrink(&case, plant);
+    let why = compare(&small, plant, &mut Counts::default()).err().unwrap_or("not seen again".into());
+    println!("second: cut down, {why}");
+    print_case(&small);
+}
+
+fn row(label: &str, counts: &[u64; 15]) {
+    let all: Vec<String> = counts.iter().map(|c| format!("{c:>7}")).collect();
+    println!("  {label:<12}{}", all.join(""));
+}
+
+fn statistics(n: &Counts) {
+    let numbers: Vec<String> = (0..15).map(|i| format!("{i:>7}")).collect();
+    println!("  {:<12}{}", "number", numbers.join(""));
+    row("reader", &n.read);
+    row("cue check", &n.check);
+    row("order test", &n.test);
+    row("expander", &n.expand);
+    println!(
+        "  answers 0 by steps: none {}, 1 to 9 {}, 10 to 99 {}, 100 to 999 {}, more {}; the most {}",
+        n.steps[0], n.steps[1], n.steps[2], n.steps[3], n.steps[4], n.most_steps
+    );
+    println!("  allowance just enough {}, one short {}; arguments taken out {}, fits {}", n.exact, n.one_short, n.arguments, n.matches);
+    println!("  demand 3: lists of steps checked {}, settled cues checked and expanded again {}; expansions left out as too long {}", n.listed, n.settled, n.too_long);
+}
+
+/// Every number of the table is to come often: at least once in 500 cases.
+fn seldom(n: &Counts) -> Vec<String> {
+    let least = n.cases / 500;
+    let mut all = vec![];
+    for i in 0..15 {
+        let (name, c) = if i == 14 { ("the order test", n.test[14]) } else { ("the expander", n.expand[i]) };
+        if c < least {
+            all.push(format!("{i} of {name} came only {c} times"));
+        }
+        if i <= 8 && n.read[i] < least {
+            all.push(format!("{i} of the reader came only {} times", n.read[i]));
+        }
+    }
+    if n.test[0] < least || n.exact < least || n.one_short < least || n.steps[4] == 0 {
+        all.push("passed books, allowances met by one, or thousands of steps came too seldom".into());
+    }
+    all
+}
+
+/// Runs the cases; the statistics, and the lowest seed that shows a difference.
+fn run(o: &Options) -> (Counts, Option<u64>) {
+    let next = AtomicU64::new(0);
+    let worst = AtomicU64::new(u64::MAX);
+    let mut total = Counts::default();
+    std::thread::scope(|s| {
+        let work = || {
+            let mut n = Counts::default();
+            loop {
+                let k = next.fetch_add(1, Ordering::Relaxed);
+                let seed = o.first.wrapping_add(k);
+                if k >= o.cases || worst.load(Ordering::Relaxed) < seed {
+                    return n;
+                }
+                if compare(&random::case(seed), o.plant, &mut n).is_err() {
+                    worst.fetch_min(seed, Ordering::Relaxed);
+                }
+            }
+        };
+        let all: Vec<_> = (0..o.threads).map(|_| std::thread::Builder::new().stack_size(STACK).spawn_scoped(s, work).unwrap()).collect();
+        for t in all {
+            total.add(&t.join().unwrap());
+        }
+    });
+    let found = worst.load(Ordering::Relaxed);
+    (total, (found != u64::MAX).then_some(found))
+}
+
+fn all() -> i32 {
+    let Some(o) = options() else {
+        eprintln!("second [CASES] [--seed N] [--threads N] [--plant 1|2|3] [--repeats]");
+        return 2;
+    };
+    if o.plant == Plant::Nothing {
+        let mut faults = paper::paper();
+        if o.repeats {
+            faults.extend(paper::repeats());
+        }
+        for f in &faults {
+            println!("second: {f}");
+        }
+        if !faults.is_empty() {
+            return 1;
+        }
+        println!("second: the paper's cases C1 to C15 hold for both");
+    }
+    let start = Instant::now();
+    let (n, found) = run(&o);
+    if let Some(seed) = found {
+        report(seed, o.plant);
+        return 1;
+    }
+    println!("second: {} cases from seed {} on, no difference, {:.1} s", n.cases, o.first, start.elapsed().as_secs_f64());
+    statistics(&n);
+    let few = seldom(&n);
+    if o.cases >= 10_000 && !few.is_empty() {
+        for f in few {
+            println!("second: {f}");
+        }
+        return 2;
+    }
+    0
+}
+
+fn main() {
+    let t = std::thread::Builder::new().stack_size(STACK).spawn(all).unwrap();
+    std::process::exit(t.join().unwrap_or(1));
+}

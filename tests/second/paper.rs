@@ -1,0 +1,121 @@
+//! The paper's own cases (01, "Rehearsal cues"), typed in by hand: what they expect is held against the second evaluator and the product.
+
+use crate::book::{self, Plant};
+use crate::compare::{compare, Counts};
+use crate::evaluate::{evaluate, End};
+use crate::product::{self, Answer};
+use crate::random::Case;
+
+const B: [u16; 39] = [
+    5, 0, 2, 1, 1, 0, 5, 0, 1, 1, 2, 1, 0, 2, 1, 0, 1, 0, 3, 1, 4, 3, 1, 0, 4, 4, 2, 1, 32768, 32769, 1, 32768, 4, 3, 1, 32768, 32769, 1, 32769,
+];
+
+fn changed(at: usize, old: &[u16], new: &[u16]) -> Vec<u16> {
+    assert_eq!(&B[at..at + old.len()], old);
+    [&B[..at], new, &B[at + old.len()..]].concat()
+}
+
+fn nested(name: u16, times: usize, around: u16) -> Vec<u16> {
+    let mut v = vec![name; times];
+    v.push(around);
+    v
+}
+
+struct Check {
+    faults: Vec<String>,
+}
+
+impl Check {
+    fn hold(&mut self, label: &str, expected: (u32, usize, u32), got: (u32, usize, u32)) {
+        if expected != got {
+            self.faults.push(format!("{label}: the paper says {expected:?}, got {got:?}"));
+        }
+    }
+
+    fn reads(&mut self, label: &str, book: &[u16], number: u32, place: usize) {
+        let second = match book::read(book) {
+            Ok(_) => (0, book.len(), 0),
+            Err((n, p)) => (n, p, 0),
+        };
+        self.hold(&format!("{label}, second evaluator"), (number, place, 0), second);
+        let a = product::read(book);
+        self.hold(&format!("{label}, product"), (number, place, 0), (a.number, a.place, a.steps));
+    }
+
+    fn expands(&mut self, label: &str, book: &[u16], cue: &[u16], limit: u32, expected: (u32, usize, u32), words: Option<&[u16]>) {
+        let b = book::read(book).expect(label);
+        let (second, second_words) = match b.cue(cue) {
+            Err(place) => ((9, place, 0), vec![]),
+            Ok(c) => {
+                let o = evaluate(&b, &c, limit, Plant::Nothing, false, u64::MAX);
+                match o.end {
+                    End::Cue(c) => ((0, c.words, o.steps), c.to_words()),
+                    End::Stopped(n) => ((n, 0, o.steps), vec![]),
+                    End::TooLong => panic!("{label}: too long"),
+                }
+            }
+        };
+        self.hold(&format!("{label}, second evaluator"), expected, second);
+        if let Some(w) = words {
+            if w != second_words {
+                self.faults.push(format!("{label}: the second evaluator's answer is {second_words:?}"));
+            }
+        }
+        let case = Case { book: book.to_vec(), cue: cue.to_vec(), limit, out_words: 4096, work_words: 8192, dirt: 1 };
+        if let Err(e) = compare(&case, Plant::Nothing, &mut Counts::default()) {
+            self.faults.push(format!("{label}: {e}"));
+        }
+        let a = product::expand(book, cue, limit, &mut [7; 4096], &mut [7; 8192]);
+        self.hold(&format!("{label}, product"), expected, (a.number, a.place, a.steps));
+    }
+}
+
+/// What is wrong with the paper's cases; nothing, if all is well.
+pub fn paper() -> Vec<String> {
+    let mut t = Check { faults: vec![] };
+    t.reads("C1", &B, 0, 39);
+    t.reads("C2", &B[..38], 1, 38);
+    t.reads("C3", &[&B[..], &[0]].concat(), 8, 39);
+    t.reads("C4", &changed(29, &[32769], &[32768]), 7, 29);
+    t.reads("C5", &[], 1, 0);
+    t.reads("C6", &[0], 2, 0);
+    t.expands("C7", &B, &[4], 1, (0, 3, 1), Some(&[1, 0, 4]));
+    t.expands("C7 with allowance 0", &B, &[4], 0, (11, 0, 0), None);
+    t.expands("C8", &B, &[2, 3, 4], 4, (0, 1, 4), Some(&[0]));
+    t.expands("C9", &B, &[2, 3, 4], 3, (11, 0, 3), None);
+    let head01 = changed(10, &[2, 1, 0], &[2, 0, 1]);
+    if product::test_strategies(&head01) != (Answer { number: 14, place: 2, steps: 0 }) {
+        t.faults.push("C10".into());
+    }
+    t.expands("C11", &head01, &[2, 4], 9, (0, 4, 1), Some(&[2, 1, 0, 4]));
+    t.expands("C12 empty", &B, &[], 9, (9, 0, 0), None);
+    t.expands("C12 cue 2", &B, &[2], 9, (9, 1, 0), None);
+    t.expands("C12 cue 0 0", &B, &[0, 0], 9, (9, 1, 0), None);
+    t.expands("C12 cue 5", &B, &[5], 9, (9, 0, 0), None);
+    let then12 = changed(8, &[1, 1], &[2, 1, 2]);
+    t.expands("C13", &then12, &[4], 64, (13, 0, 64), None);
+    t.expands("C13 with allowance 63", &then12, &[4], 63, (11, 0, 63), None);
+    t.expands("C14", &B, &nested(2, 63, 0), 9, (0, 64, 0), None);
+    t.expands("C14 with 64 heads", &B, &nested(2, 64, 0), 9, (13, 0, 0), None);
+    let doubles = [3, 0, 2, 1, 3, 0, 0, 2, 1, 0, 1, 2, 2, 32768, 3, 1, 32768, 32768];
+    t.expands("C15", &doubles, &nested(2, 11, 0), 99, (0, 4095, 11), None);
+    t.expands("C15 with twelve", &doubles, &nested(2, 12, 0), 99, (12, 0, 11), None);
+    t.faults
+}
+
+/// A name whose order repeats its argument 16 times, nested 60 deep: nothing fits, and the answer must not take 16^60 visits. No second
+/// evaluation could hold this against the product; the answer is known.
+pub fn repeats() -> Vec<String> {
+    let mut t = Check { faults: vec![] };
+    let mut repeats = vec![2, 0, 1, 2, 0, 16];
+    repeats.extend([1; 16]);
+    repeats.push(0);
+    let cue = nested(1, 60, 0);
+    let mut out = [0; 4096];
+    let a = product::expand(&repeats, &cue, 9, &mut out, &mut [0; 8192]);
+    t.hold("repeated entries, product", (0, 61, 0), (a.number, a.place, a.steps));
+    if out[..61] != cue[..] {
+        t.faults.push("repeated entries: the cue is changed".into());
+    }
+    t.faults
+}

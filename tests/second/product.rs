@@ -1,0 +1,109 @@
+//! The product, through its C interface (include/cue.h).
+
+pub const VARIABLES: usize = 16;
+
+#[repr(C)]
+#[derive(Clone, Copy, Debug, PartialEq)]
+pub struct Answer {
+    pub number: u32,
+    pub place: usize,
+    pub steps: u32,
+}
+
+#[repr(C)]
+#[derive(Clone, Copy, Debug, PartialEq)]
+pub struct Shape {
+    pub symbols: usize,
+    pub strategies: usize,
+    pub rules: usize,
+    pub first_rule: usize,
+}
+
+#[repr(C)]
+#[derive(Clone, Copy, Debug, PartialEq)]
+pub struct Part {
+    pub start: usize,
+    pub length: usize,
+}
+
+#[repr(C)]
+#[derive(Clone, Copy, Debug, PartialEq)]
+pub struct Match {
+    pub found: u32,
+    pub number: usize,
+    pub rhs: usize,
+    pub size: usize,
+    pub starts: [usize; VARIABLES],
+    pub lengths: [usize; VARIABLES],
+}
+
+mod c {
+    use super::*;
+    #[link(name = "cue", kind = "static")]
+    extern "C" {
+        pub fn cue_read(book: *const u16, book_words: usize) -> Answer;
+        pub fn cue_shape_of(book: *const u16, book_words: usize) -> Shape;
+        pub fn cue_check_term(book: *const u16, book_words: usize, term: *const u16, term_words: usize) -> Answer;
+        pub fn cue_argument(book: *const u16, book_words: usize, term: *const u16, term_words: usize, i: usize) -> Part;
+        pub fn cue_span(book: *const u16, book_words: usize, ws: *const u16, ws_words: usize) -> usize;
+        pub fn cue_first_match(book: *const u16, book_words: usize, ws: *const u16, ws_words: usize) -> Match;
+        pub fn cue_test_strategies(book: *const u16, book_words: usize) -> Answer;
+        pub fn cue_expand(
+            book: *const u16,
+            book_words: usize,
+            term: *const u16,
+            term_words: usize,
+            limit: u32,
+            out: *mut u16,
+            out_words: usize,
+            work: *mut u16,
+            work_words: usize,
+        ) -> Answer;
+    }
+}
+
+// A slice hands over its pointer, which is valid at length 0 too, and its length.
+
+pub fn read(book: &[u16]) -> Answer {
+    unsafe { c::cue_read(book.as_ptr(), book.len()) }
+}
+
+pub fn shape_of(book: &[u16]) -> Shape {
+    unsafe { c::cue_shape_of(book.as_ptr(), book.len()) }
+}
+
+pub fn check_term(book: &[u16], term: &[u16]) -> Answer {
+    unsafe { c::cue_check_term(book.as_ptr(), book.len(), term.as_ptr(), term.len()) }
+}
+
+pub fn argument(book: &[u16], term: &[u16], i: usize) -> Part {
+    unsafe { c::cue_argument(book.as_ptr(), book.len(), term.as_ptr(), term.len(), i) }
+}
+
+pub fn span(book: &[u16], ws: &[u16]) -> usize {
+    unsafe { c::cue_span(book.as_ptr(), book.len(), ws.as_ptr(), ws.len()) }
+}
+
+pub fn first_match(book: &[u16], ws: &[u16]) -> Match {
+    unsafe { c::cue_first_match(book.as_ptr(), book.len(), ws.as_ptr(), ws.len()) }
+}
+
+pub fn test_strategies(book: &[u16]) -> Answer {
+    unsafe { c::cue_test_strategies(book.as_ptr(), book.len()) }
+}
+
+pub fn expand(book: &[u16], term: &[u16], limit: u32, out: &mut [u16], work: &mut [u16]) -> Answer {
+    unsafe {
+        c::cue_expand(
+            book.as_ptr(),
+            book.len(),
+            term.as_ptr(),
+            term.len(),
+            limit,
+            out.as_mut_ptr(),
+            out.len(),
+            work.as_mut_ptr(),
+            work.len(),
+        )
+    }
+}
