@@ -143,7 +143,7 @@ module _ (book term : List ℕ) (limit : ℕ) (out work : List ℕ) where
 
 -- ---- the same of any answers that the contracts of the two operations give
 
-module _ (book term : List ℕ) (limit : ℕ) (out work : List ℕ) (test r : Answer) (answer : List ℕ) (t : TestedBook (read book) test)
+module _ (book term : List ℕ) (limit : ℕ) (out work : List ℕ) (r : Answer) (answer : List ℕ)
     (numbers : r ≡ expansion book term limit out work .numbers) (words : answer ≡ expansion book term limit out work .answer) where
   pub answer-done : IsDone book term limit r answer
   answer-done = subst₂ (λ y a. IsDone book term limit y a) (sym numbers) (sym words) (is-done book term limit out work)
@@ -151,15 +151,16 @@ module _ (book term : List ℕ) (limit : ℕ) (out work : List ℕ) (test r : An
   pub answer-handed-back : IsHandedBack book term limit out work r answer
   answer-handed-back = subst₂ (λ y a. IsHandedBack book term limit out work y a) (sym numbers) (sym words) (is-handed-back book term limit out work)
 
-  pub answer-found : IsFound book test r answer
-  answer-found = subst₂ (λ y a. IsFound book test y a) (sym numbers) (sym words) (is-found book term limit out work test t)
-
   pub answer-fits : r .number ≡ 0 → r .place ≤ length answer
   answer-fits z = let e = answer-done z .0 in let l = length-take (r .place) answer in omega arith
 
-  -- expanded again
-  pub answer-again : (out′ work′ : List ℕ) (v : List ℕ) (r′ : Answer) (answer′ : List ℕ) → v ≡ handedBack r answer → r′ ≡ expansion book v 0 out′ work′ .numbers → answer′ ≡ expansion book v 0 out′ work′ .answer →
-      RestsAgain test r answer out′ work′ r′ answer′
-  answer-again out′ work′ v r′ answer′ e n w z z′ a b =
-      subst₂ (λ y x. Rests (handedBack r answer) y x) (sym (n ∙ ap (λ y. expansion book y 0 out′ work′ .numbers) e)) (sym (w ∙ ap (λ y. expansion book y 0 out′ work′ .answer) e))
-      (answer-found z z′ .again 0 out′ work′ a b)
+  module _ (test : Answer) (t : TestedBook (read book) test) where
+    pub answer-found : IsFound book test r answer
+    answer-found = subst₂ (λ y a. IsFound book test y a) (sym numbers) (sym words) (is-found book term limit out work test t)
+
+    -- expanded again: v is what was handed back
+    pub answer-again : (out′ work′ v : List ℕ) (r′ : Answer) (answer′ : List ℕ) → v ≡ handedBack r answer → r′ ≡ expansion book v 0 out′ work′ .numbers →
+        answer′ ≡ expansion book v 0 out′ work′ .answer → RestsAgain test r answer out′ work′ r′ answer′
+    answer-again out′ work′ v r′ answer′ e n w z z′ a b =
+        subst₂ (λ y x. Rests (handedBack r answer) y x) (sym (n ∙ ap (λ y. expansion book y 0 out′ work′ .numbers) e)) (sym (w ∙ ap (λ y. expansion book y 0 out′ work′ .answer) e))
+        (answer-found z z′ .again 0 out′ work′ a b)

@@ -1,129 +1,140 @@
-// The program: expands the cue of show.cue over the book of show.book, both files of words, low byte first. The cue file's first word
-// is the allowance.
-use libc::STDOUT_FILENO;
+// The program (01): reads show.book and show.cue, expands the cue over the book, and prints what the evaluator answers.
+ghost use Prim.Native.Nat.{_*_, _≤_, _<_};
+ghost use mathlib.Core.Path.{_≡_};
+ghost use lib.ListN.{length};
+ghost use Rattle.buffers.specs.Words.{over};
+ghost use Rattle.expand.specs.Files.{Held, wordOf, wordsOf};
 use system::Answer;
 
-// The most bytes that each file may have: the longest book, and an allowance with the longest cue.
-const BOOK_BYTES: usize = 42502;
-
-const CUE_BYTES: usize = 8194;
-
-// How a file was found: with so many words, or not to be used.
-enum Loaded {
+// What reading a file gave: why it is refused, or how many bytes it has.
+enum File {
     Missing,
     Long,
     Odd,
-    Words(usize),
+    Bytes(usize),
 }
 
-// Reads a file of at most `most` bytes; `bytes` has room for one more, by which a longer one shows.
-fn load(path: &[u8], bytes: &mut [u8], most: usize) -> Loaded {
-    let file = os::open_read(path);
-    if file < 0 {
-        return Loaded::Missing;
+// Reads a file into a buffer that has room for one byte more than the file may have.
+fn read_file(path: &[u8], bytes: &mut [u8]) -> File
+    ensures { λ r. ⌜ Held r (length (now (bytes .entry))) ⌝ }
+{
+    let fd = os::open_read(path);
+    if fd < 0 {
+        return File::Missing;
     }
-    let n = io::read_full(file, bytes);
-    libc::close(file);
-    if most < n {
-        return Loaded::Long;
+    let n = io::read_full(fd, bytes);
+    libc::close(fd);
+    if bytes.len() <= n {
+        return File::Long;
     }
     if n % 2 != 0 {
-        return Loaded::Odd;
+        return File::Odd;
     }
-    Loaded::Words(n / 2)
+    File::Bytes(n)
 }
 
-// The words of the bytes, low byte first.
-fn decode(bytes: &[u8], ws: &mut [u16]) {
-    let mut i = 0;
-    while i < ws.len() {
-        if bytes.len() - i <= i + 1 {
-            return;
-        }
-        ws[i] = word(bytes[i + i], bytes[i + i + 1]);
-        i += 1;
-    }
-}
-
-fn word(low: u8, high: u8) -> u16 {
+// A word from its two bytes, low byte first.
+fn word(low: u8, high: u8) -> u16
+    ensures { λ r. ⌜ r ≡ wordOf low high ⌝ }
+{
     (low as u16) + 256 * (high as u16)
 }
 
-// Reads a file into `ws` and answers how many words it has; where it can't be used, it prints why and answers one more than there is room for.
-fn words(path: &[u8], bytes: &mut [u8], most: usize, ws: &mut [u16]) -> usize {
-    let loaded = load(path, bytes, most);
-    match loaded {
-        Loaded::Missing => {
-            io::write_all(STDOUT_FILENO, b"missing\n");
-            ws.len() + 1
-        }
-        Loaded::Long => {
-            io::write_all(STDOUT_FILENO, b"long\n");
-            ws.len() + 1
-        }
-        Loaded::Odd => {
-            io::write_all(STDOUT_FILENO, b"odd\n");
-            ws.len() + 1
-        }
-        Loaded::Words(n) => {
-            decode(bytes, ws);
-            n
-        }
+// The words of a file, and how many they are.
+fn load(bytes: &[u8], words: &mut [u16]) -> usize
+    requires { ⌜ length (now bytes) ≤ 2 * length (now words) ⌝ }
+    ensures { λ r. ⌜ (r ≡ length (wordsOf (now (bytes .entry)))) × (now (words .exit) ≡ over (now (words .entry)) 0 (wordsOf (now (bytes .entry)))) ⌝ }
+{
+    let n = bytes.len() / 2;
+    let mut i = 0;
+    while i < n {
+        let at = 2 * i;
+        words[i] = word(bytes[at], bytes[at + 1]);
+        i += 1;
     }
+    n
 }
 
-fn print(n: u64, after: &[u8]) {
-    io::print_decimal(STDOUT_FILENO, n);
-    io::write_all(STDOUT_FILENO, after);
-}
-
-fn print_word(w: u16) {
-    print(w as u64, b"\n");
-}
-
-// The heading, the three numbers, and on 0 the answer, a word a line.
-fn report(a: Answer, out: &[u16]) {
-    io::write_all(STDOUT_FILENO, b"number place steps\n");
-    print(a.number as u64, b" ");
-    print(a.place as u64, b" ");
-    print(a.steps as u64, b"\n");
+// Heading, three numbers, and on 0 the answer, a word a line.
+fn print_answer(a: Answer, answer: &[u16])
+    requires { ⌜ (a .number ≡ 0 → a .place ≤ length (now answer)) ⌝ }
+{
+    printing::heading();
+    printing::numbers(a);
     if a.number != 0 {
         return;
     }
-    let mut i = 0;
-    while i < a.place {
-        if out.len() <= i {
-            return;
-        }
-        print_word(out[i]);
-        i += 1;
-    }
+    let n = a.place;
+    printing::words(&answer[0..n]);
 }
 
 fn wide(x: u16) -> u32 {
     x as u32
 }
 
-fn main() {
-    let mut bytes = [0u8; 42503];
-    let mut book = [0u16; 21251];
-    let n = words(b"show.book", &mut bytes, BOOK_BYTES, &mut book);
-    if 21251 < n {
-        return;
-    }
-    let mut cue_bytes = [0u8; 8195];
-    let mut cue = [0u16; 4097];
-    let m = words(b"show.cue", &mut cue_bytes, CUE_BYTES, &mut cue);
-    if 4097 < m {
-        return;
-    }
-    if m == 0 {
-        io::write_all(STDOUT_FILENO, b"short\n");
-        return;
-    }
+// Expands a cue whose first word is the step limit (01: the allowance), over buffers that are lent.
+fn expand_words(book: &[u16], cue: &[u16], out: &mut [u16], work: &mut [u16])
+    requires { ⌜ 0 < length (now cue) ⌝ }
+{
+    let limit = wide(cue[0]);
+    let a = evaluation::expand(book, &cue[1..], limit, out, work);
+    print_answer(a, out);
+}
+
+// Both files are there, as bytes.
+fn expand_bytes(book: &[u8], cue: &[u8])
+    requires { ⌜ (length (now book) ≤ 42502) × (2 ≤ length (now cue)) × (length (now cue) ≤ 8194) ⌝ }
+{
+    let mut words = [0u16; 21251];
+    let n = load(book, &mut words);
+    let mut term = [0u16; 4097];
+    let m = load(cue, &mut term);
     let mut out = [0u16; 4096];
     let mut work = [0u16; 8192];
-    let allowance = wide(cue[0]);
-    let a = evaluation::expand(&book[0..n], &cue[1..m], allowance, &mut out, &mut work);
-    report(a, &out);
+    expand_words(&words[0..n], &term[0..m], &mut out, &mut work);
+}
+
+// The book is there.
+fn expand_cue(book: &[u8])
+    requires { ⌜ length (now book) ≤ 42502 ⌝ }
+{
+    let mut bytes = [0u8; 8195];
+    let f = read_file(b"show.cue", &mut bytes);
+    match f {
+        File::Missing => {
+            printing::line(b"missing");
+        }
+        File::Long => {
+            printing::line(b"long");
+        }
+        File::Odd => {
+            printing::line(b"odd");
+        }
+        File::Bytes(n) => {
+            if n < 2 {
+                printing::line(b"short");
+                return;
+            }
+            expand_bytes(book, &bytes[0..n]);
+        }
+    }
+}
+
+fn main() {
+    let mut bytes = [0u8; 42503];
+    let f = read_file(b"show.book", &mut bytes);
+    match f {
+        File::Missing => {
+            printing::line(b"missing");
+        }
+        File::Long => {
+            printing::line(b"long");
+        }
+        File::Odd => {
+            printing::line(b"odd");
+        }
+        File::Bytes(n) => {
+            expand_cue(&bytes[0..n]);
+        }
+    }
 }

@@ -33,7 +33,7 @@ returns : tie.Need-returns
 returns c = let a = c .before .before .before .before .before .before .before .before .before .before .before .before .before .before .before .before .args in
     let t = c .before .before .before .before .before .before .before .before .before .test-strategies in
     let e = c .before .before .before .before .before .before .expand in
-    (t .ensures, (answer-found (a .book .now) (a .term .now) (a .limit) (a .out .now) (a .work .now) (t .result) (e .result) (e .last .1 .1 .1 .0) (t .ensures) (e .ensures .0) (e .ensures .1 .0), λ z z′. absurd (c .if1 .taken z′)))
+    (t .ensures, (answer-found (a .book .now) (a .term .now) (a .limit) (a .out .now) (a .work .now) (e .result) (e .last .1 .1 .1 .0) (e .ensures .0) (e .ensures .1 .0) (t .result) (t .ensures), λ z z′. absurd (c .if1 .taken z′)))
 
 -- src/demands.rt:68:31
 sub-expand : tie.Need-sub-expand
@@ -48,7 +48,7 @@ part-expand-end : tie.Need-part-expand-end
 part-expand-end c = let a = c .before .before .before .before .before .before .before .before .before .before .before .before .before .before .before .before .before .args in
     let t = c .before .before .before .before .before .before .before .before .before .before .test-strategies in
     let e = c .before .before .before .before .before .before .before .expand in
-    answer-fits (a .book .now) (a .term .now) (a .limit) (a .out .now) (a .work .now) (t .result) (e .result) (e .last .1 .1 .1 .0) (t .ensures) (e .ensures .0) (e .ensures .1 .0) (c .before .if1 .left)
+    answer-fits (a .book .now) (a .term .now) (a .limit) (a .out .now) (a .work .now) (e .result) (e .last .1 .1 .1 .0) (e .ensures .0) (e .ensures .1 .0) (c .before .if1 .left)
 
 -- src/demands.rt:68:9
 expand-requires-2 : tie.Need-expand-requires-2
@@ -76,7 +76,7 @@ returns-2 c = let a = c .before .before .before .before .before .before .before 
     let t = c .before .before .before .before .before .before .before .before .before .before .before .before .before .before .before .before .before .before .test-strategies in
     let e = c .before .before .before .before .before .before .before .before .before .before .before .before .before .before .before .expand in
     let f = c .before .before .before .before .expand2 in
-    (t .ensures, (answer-found (a .book .now) (a .term .now) (a .limit) (a .out .now) (a .work .now) (t .result) (e .result) (e .last .1 .1 .1 .0) (t .ensures) (e .ensures .0) (e .ensures .1 .0), answer-again (a .book .now) (a .term .now) (a .limit) (a .out .now) (a .work .now) (t .result) (e .result) (e .last .1 .1 .1 .0) (t .ensures) (e .ensures .0) (e .ensures .1 .0) (a .again .now) (a .spare .now) (take (e .result .place - 0) (e .last .1 .1 .1 .0)) (f .result) (f .last .1 .1 .1 .0) (ap (λ n. take n (e .last .1 .1 .1 .0)) (sub-zero (e .result .place))) (f .ensures .0) (f .ensures .1 .0)))
+    (t .ensures, (answer-found (a .book .now) (a .term .now) (a .limit) (a .out .now) (a .work .now) (e .result) (e .last .1 .1 .1 .0) (e .ensures .0) (e .ensures .1 .0) (t .result) (t .ensures), answer-again (a .book .now) (a .term .now) (a .limit) (a .out .now) (a .work .now) (e .result) (e .last .1 .1 .1 .0) (e .ensures .0) (e .ensures .1 .0) (t .result) (t .ensures) (a .again .now) (a .spare .now) (take (e .result .place - 0) (e .last .1 .1 .1 .0)) (f .result) (f .last .1 .1 .1 .0) (ap (λ n. take n (e .last .1 .1 .1 .0)) (sub-zero (e .result .place))) (f .ensures .0) (f .ensures .1 .0)))
 
 pub expand-twice-spec : {M : Type 1} → statement M
 expand-twice-spec =
