@@ -16,6 +16,7 @@ pub mod Weight
 pub mod Advances
 -- The machine in an area of words: what the code's loops cite
 pub mod Strategies
+pub mod Marking
 pub mod Areas
 pub mod TurnSteps
 pub mod AdvanceSteps

@@ -3,13 +3,12 @@ use Prim.Native.Nat.{ℕ, zero, suc, _+_, _-_, _≤_, _<_}
 use native.Mathlib.Omega.{arith}
 use native.Mathlib.Decide.{decLt}
 use mathlib.Core.Path.{_≡_, refl, sym, ap, _∙_}
-use mathlib.Core.List.{List, [], _∷_, _++_}
+use mathlib.Core.List.{List, []}
 use lib.ListN.{length, getD, drop, length-drop, List·getD-eq-default}
 use lib.Seq.{getD-take, getD-drop, length-take-le}
 use borrow.Author.Tests.{lt-ltb, le-ltb}
 use Rattle.system.specs.declared.Shape.{Shape}
 use Rattle.system.specs.System.{System, strategy}
-use Rattle.system.specs.Format.{encodeStrategies, encodeRules}
 use Rattle.system.specs.Answers.{signatureOf}
 use Rattle.system.proofs.Located.{Listed, strategy-at}
 use Rattle.matching.specs.Accepted.{systemOf, Accepted, StrategyAt}
@@ -17,6 +16,7 @@ use Rattle.matching.proofs.Books.{well, sections, signature, symbol-count, stra
 use Rattle.evaluation.specs.declared.entries.Entry.{Entry}
 use Rattle.evaluation.specs.declared.entries.Entry.the-variants.{End, Rules, Argument}
 use Rattle.evaluation.specs.Turn.{entryFrom, entryOf}
+use Rattle.evaluation.specs.Marks.{wordsFrom, Standing}
 
 -- ---- what an entry asks for
 
@@ -65,15 +65,6 @@ module _ (es : List ℕ) (c : ℕ) where
 
 -- ---- where a strategy stands
 
--- the words from the index `at` on: the strategies from symbol k's on, and the rules
-abbrev from : System → ℕ → List ℕ
-from s k = encodeStrategies (drop k (s .strategies)) ++ (length (s .rules) ∷ encodeRules (s .rules))
-
--- the strategy of symbol k stands at the index `at`, and those of the symbols after it follow
-pub record Standing (b : List ℕ) (k at : ℕ) : Type 0 where
-  pub words : drop at b ≡ from (systemOf b) k
-  pub strategy : StrategyAt b k at
-
 module _ (b : List ℕ) (sh : Shape) (acc : Accepted b sh) where
   abbrev s : System
   s = systemOf b
@@ -83,22 +74,24 @@ module _ (b : List ℕ) (sh : Shape) (acc : Accepted b sh) where
       let m : length (s .arities) ≡ length (signatureOf b) = ap length (signature b sh acc) in
       omega (arith, symbol-count b sh acc, well b sh acc .orders)
 
-  listed : (k at : ℕ) → k < sh .symbols → drop at b ≡ from s k → Listed b at (strategy s k) (from s (k + 1))
+  pub symbols-few : sh .symbols ≤ 256
+  symbols-few = let w = well b sh acc in let few = w .names in let same = w .orders in omega (arith, strategy-count)
+
+  listed : (k at : ℕ) → k < sh .symbols → Standing b k at → Listed b at (strategy s k) (wordsFrom s (k + 1))
   unfolding strategy
-  listed k at more e = strategy-at b at k (s .strategies) _ (omega (arith, strategy-count)) e
+  listed k at more so = strategy-at b at k (s .strategies) _ (omega (arith, strategy-count)) (so .words)
 
-  standing : (k at : ℕ) → k < sh .symbols → drop at b ≡ from s k → Standing b k at
-  standing k at more e =
-      let h = listed k at more e in
-      record { words = e; strategy = record { fits = (let z = h .fits in omega (arith, h .counted)); entries = rw (h .counted) (h .words) } }
+  -- the words there are its own
+  pub standing-strategy : (k at : ℕ) → k < sh .symbols → Standing b k at → StrategyAt b k at
+  standing-strategy k at more so =
+      let h = listed k at more so in
+      record { fits = (let z = h .fits in omega (arith, h .counted)); entries = rw (h .counted) (h .words) }
 
-  pub standing-start : 0 < sh .symbols → Standing b 0 (sh .strategies)
-  standing-start h = standing 0 (sh .strategies) h (rw (strategy-index b sh acc) (sections b sh acc .strategies))
+  pub standing-start : Standing b 0 (sh .strategies)
+  standing-start = record { words = rw (strategy-index b sh acc) (sections b sh acc .strategies) }
 
-  pub standing-next : (k at n : ℕ) → Standing b k at → n ≡ getD b at 0 → k + 1 < sh .symbols → Standing b (k + 1) (at + 1 + n)
-  standing-next k at n so q more =
-      let h = listed k at (omega arith) (so .words) in
-      standing (k + 1) (at + 1 + n) more (rw (q, h .counted) (h .rests))
+  pub standing-next : (k at n : ℕ) → k < sh .symbols → Standing b k at → n ≡ getD b at 0 → Standing b (k + 1) (at + 1 + n)
+  standing-next k at n more so q = let h = listed k at more so in record { words = rw (q, h .counted) (h .rests) }
 
   -- what is no symbol has no strategy
   pub entry-none : (w f c : ℕ) → f ≡ w → sh .symbols ≤ f → End ≡ entryOf (strategy s w) c

@@ -11,3 +11,5 @@ pub mod Area
 pub mod Arrival
 pub mod Rewritten
 pub mod Ended
+-- The strategies, and the marks by which they are found
+pub mod Marks

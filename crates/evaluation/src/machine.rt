@@ -5,6 +5,7 @@ ghost use Rattle.evaluation.specs.Machine.{advance};
 ghost use Rattle.evaluation.specs.Area.{Holds, termIn, outerIn, countIn};
 ghost use Rattle.evaluation.specs.Turn.{turn, Taken};
 ghost use Rattle.evaluation.specs.Arrival.{Arrived};
+ghost use Rattle.evaluation.specs.Marks.{Marked};
 use crate::entries::Entry;
 use crate::entries::entry_of;
 use matching::Found;
@@ -40,18 +41,19 @@ enum Turn {
 fn take_turn(
     book: &[u16],
     shape: Shape,
+    marks: &[usize],
     area: &mut [u16],
     positions: &mut [usize],
     n: usize,
     level: usize,
 ) -> Turn
-    requires { ⌜ Accepted (now book) shape × Holds (systemOf (now book)) (now area) (now positions) n level ⌝ }
+    requires { ⌜ Accepted (now book) shape × Marked (now book) shape (now marks) × Holds (systemOf (now book)) (now area) (now positions) n level ⌝ }
     ensures { λ r. ⌜ Taken (systemOf (now (book .entry))) (termIn (now (area .entry)) n) n (now (area .entry)) (now (positions .entry)) (turn (systemOf (now (book .entry))) (termIn (now (area .entry)) n) (outerIn (now (area .entry)) level) (countIn (now (area .entry)) level)) r (now (area .exit)) (now (positions .exit)) ⌝ }
 {
     let p = positions[level];
     let c = area[4096 + level];
     let begun = c + 1;
-    let e = entry_of(book, shape, area[p], wide(c));
+    let e = entry_of(book, shape, marks, area[p], wide(c));
     match e {
         Entry::End => {
             area[4096 + level] = 0;
@@ -78,17 +80,18 @@ fn take_turn(
 pub fn advance(
     book: &[u16],
     shape: Shape,
+    marks: &[usize],
     area: &mut [u16],
     positions: &mut [usize],
     n: usize,
     start: usize,
 ) -> Advanced
-    requires { ⌜ Accepted (now book) shape × Holds (systemOf (now book)) (now area) (now positions) n start ⌝ }
+    requires { ⌜ Accepted (now book) shape × Marked (now book) shape (now marks) × Holds (systemOf (now book)) (now area) (now positions) n start ⌝ }
     ensures { λ r. ⌜ Arrived (systemOf (now (book .entry))) (termIn (now (area .entry)) n) n (advance (systemOf (now (book .entry))) 64 (outerIn (now (area .entry)) start ++ countIn (now (area .entry)) start ∷ []) (termIn (now (area .entry)) n) 0) r (now (area .exit)) (now (positions .exit)) ⌝ }
 {
     let mut level = start;
     loop {
-        let t = take_turn(book, shape, area, positions, n, level);
+        let t = take_turn(book, shape, marks, area, positions, n, level);
         match t {
             Turn::Tried => {
                 let p = positions[level];

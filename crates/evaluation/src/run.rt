@@ -6,6 +6,7 @@ ghost use Rattle.system.specs.Terms.{Whole};
 ghost use Rattle.matching.specs.Accepted.{systemOf, Accepted};
 ghost use Rattle.evaluation.specs.Evaluation.{evaluation};
 ghost use Rattle.evaluation.specs.Ended.{Ends};
+use crate::entries::marks;
 use crate::machine::Stop;
 use crate::machine::advance;
 use crate::reducts::rewrite;
@@ -35,12 +36,13 @@ pub fn run(book: &[u16], shape: Shape, term: &[u16], limit: u32, area: &mut [u16
 {
     buffers::clear(area, 0, 8192);
     buffers::copy_in(area, 0, term);
+    let marks = marks(book, shape);
     let mut positions = [0usize; 64];
     let mut n = term.len();
     let mut level = 0;
     let mut steps: u32 = 0;
     loop {
-        let a = advance(book, shape, area, &mut positions, n, level);
+        let a = advance(book, shape, &marks, area, &mut positions, n, level);
         let stop = a.stop;
         match stop {
             Stop::Finished => {

@@ -9,8 +9,8 @@ wide-requires c κs = search needs
 
 returns : tie.Need-returns
 returns c =
-    let a = c .before .before .before .before .args in
-    entry-none (a .book .now) (a .shape) (c .before .before .before .before .pre) (a .w) (c .before .before .wide .result) (a .c) (c .before .before .wide .ensures .0) (c .if1 .taken)
+    let a = c .before .before .before .before .before .args in
+    entry-none (a .book .now) (a .shape) (c .before .before .before .before .before .pre .0) (a .w) (c .before .before .wide .result) (a .c) (c .before .before .wide .ensures .0) (c .if1 .taken)
 
 strategy-at-requires : tie.Need-strategy-at-requires
 strategy-at-requires c κs = search needs
@@ -26,7 +26,7 @@ wide-requires-2 c κs = search needs
 
 returns-2 : tie.Need-returns-2
 returns-2 c =
-    let a = c .before .before .before .before .before .before .before .before .args in
+    let a = c .before .before .before .before .before .before .before .before .before .args in
     let f = c .before .before .before .before .before .before .wide in
     let k = c .before .before .before .strategy-at in
     let n = c .before .wide2 in
@@ -49,19 +49,19 @@ wide-requires-3 c κs = search needs
 
 returns-3 : tie.Need-returns-3
 returns-3 c =
-    let a = c .before .before .before .before .before .before .before .before .before .before .before .args in
+    let a = c .before .before .before .before .before .before .before .before .before .before .before .before .args in
     let f = c .before .before .before .before .before .before .before .before .before .wide in
     let k = c .before .before .before .before .before .before .strategy-at in
     let n = c .before .before .before .before .wide2 in
     let e = c .before .wide3 in
     entry-zero (a .book .now) (a .w) (f .result) (k .result) (a .c) (n .result) (f .ensures .0) (k .ensures) (n .ensures .0) (c .before .before .before .if2 .left) (e .result) (e .ensures .0) (c .if3 .taken)
 
-sub-t9 : tie.Need-sub-t9
-sub-t9 c = search needs
+sub-t10 : tie.Need-sub-t10
+sub-t10 c = search needs
 
 returns-4 : tie.Need-returns-4
 returns-4 c =
-    let a = c .before .before .before .before .before .before .before .before .before .before .before .args in
+    let a = c .before .before .before .before .before .before .before .before .before .before .before .before .args in
     let f = c .before .before .before .before .before .before .before .before .before .wide in
     let k = c .before .before .before .before .before .before .strategy-at in
     let n = c .before .before .before .before .wide2 in
@@ -85,5 +85,5 @@ entry-of-spec =
     shared-slice-read-wide-2
     wide-requires-3
     returns-3
-    sub-t9
+    sub-t10
     returns-4)

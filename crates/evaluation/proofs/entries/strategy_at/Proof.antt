@@ -1,74 +1,36 @@
--- `entries::strategy_at` meets its contract. The loop's invariant: symbol k's strategy stands at `at`.
-use Prim.Native.Nat.{_-_, _≤_}
+-- `entries::strategy_at` meets its contract: the strategy is found from the last mark before it.
+use Prim.Native.Nat.{_≤_, _/_}
 use native.Mathlib.Omega.{arith}
-use mathlib.Core.Path.{_≡_, subst}
 use borrow.Author.Needs.{needs}
-use Rattle.matching.specs.Accepted.{StrategyAt}
-use Rattle.evaluation.proofs.Strategies.{Standing, standing-start, standing-next}
+use Rattle.evaluation.proofs.Strategies.{symbols-few, standing-strategy}
 use Rattle.evaluation.proofs.entries.strategy_at.Statement.{statement}
 use Rattle.evaluation.proofs.entries.strategy_at.Tie as tie
 
-abbrev Inv-loop : tie.InvT-loop
-Inv-loop book f at₀ k₀ at k = (k ≤ f) × Standing book k at
+few : (c : tie.Start) → c .args .shape .symbols ≤ 256
+few c = symbols-few (c .args .book .now) (c .args .shape) (c .pre .0)
 
-abbrev μ-loop : tie.MeasureT-loop
-μ-loop book f at₀ k₀ at k = f - k
+mul-walk-on : tie.Need-mul-walk-on
+mul-walk-on c = let n = few (c .before .before) in omega arith
 
-loop-holds : tie.Need-loop-holds Inv-loop μ-loop
-loop-holds c =
-    let a = c .before .args in
-    let p = c .before .pre in
-    (omega arith, standing-start (a .book .now) (a .shape) (p .0) (let h = p .1 in omega arith))
+shared-slice-read-walk-on : tie.Need-shared-slice-read-walk-on
+shared-slice-read-walk-on c = let n = few (c .before .before .before) in omega arith
 
-add-at : tie.Need-add-at Inv-loop μ-loop
-add-at c = search needs
+mul-walk-on-2 : tie.Need-mul-walk-on-2
+mul-walk-on-2 c = search needs
 
-mul-wide : tie.Need-mul-wide Inv-loop μ-loop
-mul-wide c = search needs
-
-shared-slice-read-wide : tie.Need-shared-slice-read-wide Inv-loop μ-loop
-shared-slice-read-wide c = search needs
-
-wide-requires : tie.Need-wide-requires Inv-loop μ-loop
-wide-requires c κs = search needs
-
-add-at-2 : tie.Need-add-at-2 Inv-loop μ-loop
-add-at-2 c = search needs
-
-add-k : tie.Need-add-k Inv-loop μ-loop
-add-k c = search needs
-
-loop-less : tie.Need-loop-less Inv-loop μ-loop
-loop-less c = search needs
-
-loop-again : tie.Need-loop-again Inv-loop μ-loop
-loop-again c =
-    let a = c .before .before .before .before .before .args in
-    let p = c .before .before .before .before .before .pre in
-    let l = c .before .before .before .loop in
-    let h = c .before .before .loop-test .taken in
-    (omega arith, standing-next (a .book .now) (a .shape) (p .0) (l .k) (l .at) (c .wide .result) (l .inv .1) (c .wide .ensures .0) (let z = p .1 in omega arith))
-
-returns : tie.Need-returns Inv-loop μ-loop
-returns c =
+walk-on-requires : tie.Need-walk-on-requires
+walk-on-requires c κs =
     let a = c .before .before .before .args in
-    let l = c .before .loop in
-    let e : l .k ≡ a .f = (let i = l .inv .0 in let h = c .loop-test .left in omega arith) in
-    subst (λ y. StrategyAt (a .book .now) y (l .at)) e (l .inv .1 .strategy)
+    let p = c .before .before .before .pre in
+    (p .0, p .1 .standing (a .f / 4) (omega arith), omega arith, p .2)
+
+returns : tie.Need-returns
+returns c =
+    let a = c .before .before .before .before .args in
+    let p = c .before .before .before .before .pre in
+    standing-strategy (a .book .now) (a .shape) (p .0) (a .f) (c .walk-on .result) (p .2) (c .walk-on .ensures)
 
 pub strategy-at-spec : {M : Type 1} → statement M
 strategy-at-spec =
     tie.close
-    (tie.spec
-    Inv-loop
-    μ-loop
-    loop-holds
-    add-at
-    mul-wide
-    shared-slice-read-wide
-    wide-requires
-    add-at-2
-    add-k
-    loop-less
-    loop-again
-    returns)
+    (tie.spec mul-walk-on shared-slice-read-walk-on mul-walk-on-2 walk-on-requires returns)

@@ -11,75 +11,77 @@ use Rattle.evaluation.proofs.machine.advance.Statement.{statement}
 use Rattle.evaluation.proofs.machine.advance.Tie as tie
 
 abbrev Inv-loop : tie.InvT-loop
-Inv-loop book shape area₀ positions₀ n start level₀ area positions level =
+Inv-loop book shape marks area₀ positions₀ n start level₀ area positions level =
     Advancing (systemOf book) area₀ n start area positions level × (length area ≡ length area₀) × (length positions ≡ length positions₀)
 
 abbrev μ-loop : tie.MeasureT-loop
-μ-loop book shape area₀ positions₀ n start level₀ area positions level = turnsIn (systemOf book) area n level
+μ-loop book shape marks area₀ positions₀ n start level₀ area positions level = turnsIn (systemOf book) area n level
 
 loop-holds : tie.Need-loop-holds Inv-loop μ-loop
 loop-holds c =
-    let a = c .before .before .before .args in
-    (advancing-start (systemOf (a .book .now)) (a .area .now) (a .positions .now) (a .n) (a .start) (c .before .before .before .pre .1), refl, refl)
+    let a = c .before .before .before .before .args in
+    (advancing-start (systemOf (a .book .now)) (a .area .now) (a .positions .now) (a .n) (a .start) (c .before .before .before .before .pre .2), refl, refl)
 
 take-turn-requires : tie.Need-take-turn-requires Inv-loop μ-loop
-take-turn-requires c κs = (c .before .before .before .before .before .before .pre .0, c .before .before .loop .inv .0 .state)
+take-turn-requires c κs =
+    let p = c .before .before .before .before .before .before .before .pre in
+    (p .0, p .1, c .before .before .loop .inv .0 .state)
 
 enum-told : tie.Need-enum-told Inv-loop μ-loop
 enum-told c = search needs
 
 mul-p : tie.Need-mul-p Inv-loop μ-loop
 mul-p c =
-    let x = c .before .before .before .before .before .before .before .before .before .before .before .before .before in
+    let x = c .before .before .before .before .before .before .before .before .before .before .before .before .before .before in
     let a = x .args in
     let l = c .before .before .before .before .before .before .before .before .before .loop in
     let k = c .before .before .before .before .before .before .take-turn in
-    let w = tried-bounds (a .book .now) (a .shape) (x .pre .0) (a .area .now) (a .n) (a .start) (l .area) (l .positions) (l .level) (l .inv .0) (k .result) (k .last .1 .1 .0) (k .last .1 .1 .1 .0) (k .ensures) (c .enum-told .given .1) in
+    let w = tried-bounds (a .book .now) (a .shape) (x .pre .0) (a .area .now) (a .n) (a .start) (l .area) (l .positions) (l .level) (l .inv .0) (k .result) (k .last .1 .1 .1 .0) (k .last .1 .1 .1 .1 .0) (k .ensures) (c .enum-told .given .1) in
     omega arith
 
 slice-read-p : tie.Need-slice-read-p Inv-loop μ-loop
 slice-read-p c =
-    let x = c .before .before .before .before .before .before .before .before .before .before .before .before .before .before in
+    let x = c .before .before .before .before .before .before .before .before .before .before .before .before .before .before .before in
     let a = x .args in
     let l = c .before .before .before .before .before .before .before .before .before .before .loop in
     let k = c .before .before .before .before .before .before .before .take-turn in
-    let w = tried-bounds (a .book .now) (a .shape) (x .pre .0) (a .area .now) (a .n) (a .start) (l .area) (l .positions) (l .level) (l .inv .0) (k .result) (k .last .1 .1 .0) (k .last .1 .1 .1 .0) (k .ensures) (c .before .enum-told .given .1) in
+    let w = tried-bounds (a .book .now) (a .shape) (x .pre .0) (a .area .now) (a .n) (a .start) (l .area) (l .positions) (l .level) (l .inv .0) (k .result) (k .last .1 .1 .1 .0) (k .last .1 .1 .1 .1 .0) (k .ensures) (c .before .enum-told .given .1) in
     omega arith
 
 mul-first-rule : tie.Need-mul-first-rule Inv-loop μ-loop
 mul-first-rule c =
-    let x = c .before .before .before .before .before .before .before .before .before .before .before .before .before .before in
+    let x = c .before .before .before .before .before .before .before .before .before .before .before .before .before .before .before in
     let a = x .args in
     let l = c .before .before .before .before .before .before .before .before .before .before .loop in
     let k = c .before .before .before .before .before .before .before .take-turn in
-    let w = tried-bounds (a .book .now) (a .shape) (x .pre .0) (a .area .now) (a .n) (a .start) (l .area) (l .positions) (l .level) (l .inv .0) (k .result) (k .last .1 .1 .0) (k .last .1 .1 .1 .0) (k .ensures) (c .before .enum-told .given .1) in
+    let w = tried-bounds (a .book .now) (a .shape) (x .pre .0) (a .area .now) (a .n) (a .start) (l .area) (l .positions) (l .level) (l .inv .0) (k .result) (k .last .1 .1 .1 .0) (k .last .1 .1 .1 .1 .0) (k .ensures) (c .before .enum-told .given .1) in
     omega arith
 
 sub-first-rule : tie.Need-sub-first-rule Inv-loop μ-loop
 sub-first-rule c =
-    let x = c .before .before .before .before .before .before .before .before .before .before .before .before .before .before in
+    let x = c .before .before .before .before .before .before .before .before .before .before .before .before .before .before .before in
     let a = x .args in
     let l = c .before .before .before .before .before .before .before .before .before .before .loop in
     let k = c .before .before .before .before .before .before .before .take-turn in
-    let w = tried-bounds (a .book .now) (a .shape) (x .pre .0) (a .area .now) (a .n) (a .start) (l .area) (l .positions) (l .level) (l .inv .0) (k .result) (k .last .1 .1 .0) (k .last .1 .1 .1 .0) (k .ensures) (c .before .enum-told .given .1) in
+    let w = tried-bounds (a .book .now) (a .shape) (x .pre .0) (a .area .now) (a .n) (a .start) (l .area) (l .positions) (l .level) (l .inv .0) (k .result) (k .last .1 .1 .1 .0) (k .last .1 .1 .1 .1 .0) (k .ensures) (c .before .enum-told .given .1) in
     omega arith
 
 part-first-rule-start : tie.Need-part-first-rule-start Inv-loop μ-loop
 part-first-rule-start c =
-    let x = c .before .before .before .before .before .before .before .before .before .before .before .before .before .before .before in
+    let x = c .before .before .before .before .before .before .before .before .before .before .before .before .before .before .before .before in
     let a = x .args in
     let l = c .before .before .before .before .before .before .before .before .before .before .before .loop in
     let k = c .before .before .before .before .before .before .before .before .take-turn in
-    let w = tried-bounds (a .book .now) (a .shape) (x .pre .0) (a .area .now) (a .n) (a .start) (l .area) (l .positions) (l .level) (l .inv .0) (k .result) (k .last .1 .1 .0) (k .last .1 .1 .1 .0) (k .ensures) (c .before .before .enum-told .given .1) in
+    let w = tried-bounds (a .book .now) (a .shape) (x .pre .0) (a .area .now) (a .n) (a .start) (l .area) (l .positions) (l .level) (l .inv .0) (k .result) (k .last .1 .1 .1 .0) (k .last .1 .1 .1 .1 .0) (k .ensures) (c .before .before .enum-told .given .1) in
     omega arith
 
 part-first-rule-end : tie.Need-part-first-rule-end Inv-loop μ-loop
 part-first-rule-end c =
-    let x = c .before .before .before .before .before .before .before .before .before .before .before .before .before .before .before in
+    let x = c .before .before .before .before .before .before .before .before .before .before .before .before .before .before .before .before in
     let a = x .args in
     let l = c .before .before .before .before .before .before .before .before .before .before .before .loop in
     let k = c .before .before .before .before .before .before .before .before .take-turn in
-    let w = tried-bounds (a .book .now) (a .shape) (x .pre .0) (a .area .now) (a .n) (a .start) (l .area) (l .positions) (l .level) (l .inv .0) (k .result) (k .last .1 .1 .0) (k .last .1 .1 .1 .0) (k .ensures) (c .before .before .enum-told .given .1) in
+    let w = tried-bounds (a .book .now) (a .shape) (x .pre .0) (a .area .now) (a .n) (a .start) (l .area) (l .positions) (l .level) (l .inv .0) (k .result) (k .last .1 .1 .1 .0) (k .last .1 .1 .1 .1 .0) (k .ensures) (c .before .before .enum-told .given .1) in
     omega arith
 
 first-rule-requires : tie.Need-first-rule-requires Inv-loop μ-loop
@@ -90,56 +92,56 @@ enum-told-2 c = search needs
 
 loop-less : tie.Need-loop-less Inv-loop μ-loop
 loop-less c =
-    let x = c .before .before .before .before .before .before .before .before .before .before .before .before .before .before .before .before .before .before .before in
+    let x = c .before .before .before .before .before .before .before .before .before .before .before .before .before .before .before .before .before .before .before .before in
     let a = x .args in
     let l = c .before .before .before .before .before .before .before .before .before .before .before .before .before .before .before .loop in
     let k = c .before .before .before .before .before .before .before .before .before .before .before .before .take-turn in
     let f = c .before .before .first-rule in
-    goes-tried (a .book .now) (a .shape) (x .pre .0) (a .area .now) (a .n) (a .start) (l .area) (l .positions) (l .level) (l .inv .0) (k .result) (k .last .1 .1 .0) (k .last .1 .1 .1 .0) (k .ensures) (c .before .before .before .before .before .before .enum-told .given .1) (f .result) (f .ensures) (c .enum-told2 .given .1) .less
+    goes-tried (a .book .now) (a .shape) (x .pre .0) (a .area .now) (a .n) (a .start) (l .area) (l .positions) (l .level) (l .inv .0) (k .result) (k .last .1 .1 .1 .0) (k .last .1 .1 .1 .1 .0) (k .ensures) (c .before .before .before .before .before .before .enum-told .given .1) (f .result) (f .ensures) (c .enum-told2 .given .1) .less
 
 loop-again : tie.Need-loop-again Inv-loop μ-loop
 loop-again c =
-    let x = c .before .before .before .before .before .before .before .before .before .before .before .before .before .before .before .before .before .before .before in
+    let x = c .before .before .before .before .before .before .before .before .before .before .before .before .before .before .before .before .before .before .before .before in
     let a = x .args in
     let l = c .before .before .before .before .before .before .before .before .before .before .before .before .before .before .before .loop in
     let k = c .before .before .before .before .before .before .before .before .before .before .before .before .take-turn in
     let f = c .before .before .first-rule in
-    (goes-tried (a .book .now) (a .shape) (x .pre .0) (a .area .now) (a .n) (a .start) (l .area) (l .positions) (l .level) (l .inv .0) (k .result) (k .last .1 .1 .0) (k .last .1 .1 .1 .0) (k .ensures) (c .before .before .before .before .before .before .enum-told .given .1) (f .result) (f .ensures) (c .enum-told2 .given .1) .on, k .kept .1 .1 .0 ∙ l .inv .1, k .kept .1 .1 .1 .0 ∙ l .inv .2)
+    (goes-tried (a .book .now) (a .shape) (x .pre .0) (a .area .now) (a .n) (a .start) (l .area) (l .positions) (l .level) (l .inv .0) (k .result) (k .last .1 .1 .1 .0) (k .last .1 .1 .1 .1 .0) (k .ensures) (c .before .before .before .before .before .before .enum-told .given .1) (f .result) (f .ensures) (c .enum-told2 .given .1) .on, k .kept .1 .1 .1 .0 ∙ l .inv .1, k .kept .1 .1 .1 .1 .0 ∙ l .inv .2)
 
 enum-told-3 : tie.Need-enum-told-3 Inv-loop μ-loop
 enum-told-3 c = search needs
 
 same-length : tie.Need-same-length Inv-loop μ-loop
 same-length c =
-    let x = c .before .before .before .before .before .before .before .before .before .before .before .before .before .before .before .before .before .before .before in
+    let x = c .before .before .before .before .before .before .before .before .before .before .before .before .before .before .before .before .before .before .before .before in
     let a = x .args in
     let l = c .before .before .before .before .before .before .before .before .before .before .before .before .before .before .before .loop in
     let k = c .before .before .before .before .before .before .before .before .before .before .before .before .take-turn in
-    k .kept .1 .1 .0 ∙ l .inv .1
+    k .kept .1 .1 .1 .0 ∙ l .inv .1
 
 same-length-2 : tie.Need-same-length-2 Inv-loop μ-loop
 same-length-2 c =
-    let x = c .before .before .before .before .before .before .before .before .before .before .before .before .before .before .before .before .before .before .before in
+    let x = c .before .before .before .before .before .before .before .before .before .before .before .before .before .before .before .before .before .before .before .before in
     let a = x .args in
     let l = c .before .before .before .before .before .before .before .before .before .before .before .before .before .before .before .loop in
     let k = c .before .before .before .before .before .before .before .before .before .before .before .before .take-turn in
-    k .kept .1 .1 .1 .0 ∙ l .inv .2
+    k .kept .1 .1 .1 .1 .0 ∙ l .inv .2
 
 returns : tie.Need-returns Inv-loop μ-loop
 returns c =
-    let x = c .before .before .before .before .before .before .before .before .before .before .before .before .before .before .before .before .before .before .before in
+    let x = c .before .before .before .before .before .before .before .before .before .before .before .before .before .before .before .before .before .before .before .before in
     let a = x .args in
     let l = c .before .before .before .before .before .before .before .before .before .before .before .before .before .before .before .loop in
     let k = c .before .before .before .before .before .before .before .before .before .before .before .before .take-turn in
     let f = c .before .before .first-rule in
-    arrives-ready (a .book .now) (a .shape) (x .pre .0) (a .area .now) (a .n) (a .start) (l .area) (l .positions) (l .level) (l .inv .0) (k .result) (k .last .1 .1 .0) (k .last .1 .1 .1 .0) (k .ensures) (c .before .before .before .before .before .before .enum-told .given .1) (f .result) (f .ensures) (c .enum-told3 .given .0 .0) (c .enum-told3 .given .0 .1 .0) (c .enum-told3 .given .0 .1 .1 .0) (c .enum-told3 .given .1)
+    arrives-ready (a .book .now) (a .shape) (x .pre .0) (a .area .now) (a .n) (a .start) (l .area) (l .positions) (l .level) (l .inv .0) (k .result) (k .last .1 .1 .1 .0) (k .last .1 .1 .1 .1 .0) (k .ensures) (c .before .before .before .before .before .before .enum-told .given .1) (f .result) (f .ensures) (c .enum-told3 .given .0 .0) (c .enum-told3 .given .0 .1 .0) (c .enum-told3 .given .0 .1 .1 .0) (c .enum-told3 .given .1)
 
 enum-told-4 : tie.Need-enum-told-4 Inv-loop μ-loop
 enum-told-4 c = search needs
 
 add-level : tie.Need-add-level Inv-loop μ-loop
 add-level c =
-    let x = c .before .before .before .before .before .before .before .before .before .before .before .before .before in
+    let x = c .before .before .before .before .before .before .before .before .before .before .before .before .before .before in
     let a = x .args in
     let l = c .before .before .before .before .before .before .before .before .before .loop in
     let k = c .before .before .before .before .before .before .take-turn in
@@ -148,19 +150,19 @@ add-level c =
 
 loop-less-2 : tie.Need-loop-less-2 Inv-loop μ-loop
 loop-less-2 c =
-    let x = c .before .before .before .before .before .before .before .before .before .before .before .before .before in
+    let x = c .before .before .before .before .before .before .before .before .before .before .before .before .before .before in
     let a = x .args in
     let l = c .before .before .before .before .before .before .before .before .before .loop in
     let k = c .before .before .before .before .before .before .take-turn in
-    goes-opened (a .book .now) (a .shape) (x .pre .0) (a .area .now) (a .n) (a .start) (l .area) (l .positions) (l .level) (l .inv .0) (k .result) (k .last .1 .1 .0) (k .last .1 .1 .1 .0) (k .ensures) (c .enum-told4 .given .1) .less
+    goes-opened (a .book .now) (a .shape) (x .pre .0) (a .area .now) (a .n) (a .start) (l .area) (l .positions) (l .level) (l .inv .0) (k .result) (k .last .1 .1 .1 .0) (k .last .1 .1 .1 .1 .0) (k .ensures) (c .enum-told4 .given .1) .less
 
 loop-again-2 : tie.Need-loop-again-2 Inv-loop μ-loop
 loop-again-2 c =
-    let x = c .before .before .before .before .before .before .before .before .before .before .before .before .before in
+    let x = c .before .before .before .before .before .before .before .before .before .before .before .before .before .before in
     let a = x .args in
     let l = c .before .before .before .before .before .before .before .before .before .loop in
     let k = c .before .before .before .before .before .before .take-turn in
-    (goes-opened (a .book .now) (a .shape) (x .pre .0) (a .area .now) (a .n) (a .start) (l .area) (l .positions) (l .level) (l .inv .0) (k .result) (k .last .1 .1 .0) (k .last .1 .1 .1 .0) (k .ensures) (c .enum-told4 .given .1) .on, k .kept .1 .1 .0 ∙ l .inv .1, k .kept .1 .1 .1 .0 ∙ l .inv .2)
+    (goes-opened (a .book .now) (a .shape) (x .pre .0) (a .area .now) (a .n) (a .start) (l .area) (l .positions) (l .level) (l .inv .0) (k .result) (k .last .1 .1 .1 .0) (k .last .1 .1 .1 .1 .0) (k .ensures) (c .enum-told4 .given .1) .on, k .kept .1 .1 .1 .0 ∙ l .inv .1, k .kept .1 .1 .1 .1 .0 ∙ l .inv .2)
 
 enum-told-5 : tie.Need-enum-told-5 Inv-loop μ-loop
 enum-told-5 c = search needs
@@ -170,46 +172,46 @@ nothing-requires c κs = search needs
 
 same-length-3 : tie.Need-same-length-3 Inv-loop μ-loop
 same-length-3 c =
-    let x = c .before .before .before .before .before .before .before .before .before .before .before .before .before .before .before in
+    let x = c .before .before .before .before .before .before .before .before .before .before .before .before .before .before .before .before in
     let a = x .args in
     let l = c .before .before .before .before .before .before .before .before .before .before .before .loop in
     let k = c .before .before .before .before .before .before .before .before .take-turn in
-    k .kept .1 .1 .0 ∙ l .inv .1
+    k .kept .1 .1 .1 .0 ∙ l .inv .1
 
 same-length-4 : tie.Need-same-length-4 Inv-loop μ-loop
 same-length-4 c =
-    let x = c .before .before .before .before .before .before .before .before .before .before .before .before .before .before .before in
+    let x = c .before .before .before .before .before .before .before .before .before .before .before .before .before .before .before .before in
     let a = x .args in
     let l = c .before .before .before .before .before .before .before .before .before .before .before .loop in
     let k = c .before .before .before .before .before .before .before .before .take-turn in
-    k .kept .1 .1 .1 .0 ∙ l .inv .2
+    k .kept .1 .1 .1 .1 .0 ∙ l .inv .2
 
 returns-2 : tie.Need-returns-2 Inv-loop μ-loop
 returns-2 c =
-    let x = c .before .before .before .before .before .before .before .before .before .before .before .before .before .before .before in
+    let x = c .before .before .before .before .before .before .before .before .before .before .before .before .before .before .before .before in
     let a = x .args in
     let l = c .before .before .before .before .before .before .before .before .before .before .before .loop in
     let k = c .before .before .before .before .before .before .before .before .take-turn in
-    arrives-end (a .book .now) (a .shape) (x .pre .0) (a .area .now) (a .n) (a .start) (l .area) (l .positions) (l .level) (l .inv .0) (k .result) (k .last .1 .1 .0) (k .last .1 .1 .1 .0) (k .ensures) (c .before .before .enum-told5 .given .1) (c .before .if1 .taken) (c .nothing .result)
+    arrives-end (a .book .now) (a .shape) (x .pre .0) (a .area .now) (a .n) (a .start) (l .area) (l .positions) (l .level) (l .inv .0) (k .result) (k .last .1 .1 .1 .0) (k .last .1 .1 .1 .1 .0) (k .ensures) (c .before .before .enum-told5 .given .1) (c .before .if1 .taken) (c .nothing .result)
 
 sub-level : tie.Need-sub-level Inv-loop μ-loop
 sub-level c = search needs
 
 loop-less-3 : tie.Need-loop-less-3 Inv-loop μ-loop
 loop-less-3 c =
-    let x = c .before .before .before .before .before .before .before .before .before .before .before .before .before .before in
+    let x = c .before .before .before .before .before .before .before .before .before .before .before .before .before .before .before in
     let a = x .args in
     let l = c .before .before .before .before .before .before .before .before .before .before .loop in
     let k = c .before .before .before .before .before .before .before .take-turn in
-    goes-left (a .book .now) (a .shape) (x .pre .0) (a .area .now) (a .n) (a .start) (l .area) (l .positions) (l .level) (l .inv .0) (k .result) (k .last .1 .1 .0) (k .last .1 .1 .1 .0) (k .ensures) (c .before .enum-told5 .given .1) (omega arith) .less
+    goes-left (a .book .now) (a .shape) (x .pre .0) (a .area .now) (a .n) (a .start) (l .area) (l .positions) (l .level) (l .inv .0) (k .result) (k .last .1 .1 .1 .0) (k .last .1 .1 .1 .1 .0) (k .ensures) (c .before .enum-told5 .given .1) (omega arith) .less
 
 loop-again-3 : tie.Need-loop-again-3 Inv-loop μ-loop
 loop-again-3 c =
-    let x = c .before .before .before .before .before .before .before .before .before .before .before .before .before .before in
+    let x = c .before .before .before .before .before .before .before .before .before .before .before .before .before .before .before in
     let a = x .args in
     let l = c .before .before .before .before .before .before .before .before .before .before .loop in
     let k = c .before .before .before .before .before .before .before .take-turn in
-    (goes-left (a .book .now) (a .shape) (x .pre .0) (a .area .now) (a .n) (a .start) (l .area) (l .positions) (l .level) (l .inv .0) (k .result) (k .last .1 .1 .0) (k .last .1 .1 .1 .0) (k .ensures) (c .before .enum-told5 .given .1) (omega arith) .on, k .kept .1 .1 .0 ∙ l .inv .1, k .kept .1 .1 .1 .0 ∙ l .inv .2)
+    (goes-left (a .book .now) (a .shape) (x .pre .0) (a .area .now) (a .n) (a .start) (l .area) (l .positions) (l .level) (l .inv .0) (k .result) (k .last .1 .1 .1 .0) (k .last .1 .1 .1 .1 .0) (k .ensures) (c .before .enum-told5 .given .1) (omega arith) .on, k .kept .1 .1 .1 .0 ∙ l .inv .1, k .kept .1 .1 .1 .1 .0 ∙ l .inv .2)
 
 enum-told-6 : tie.Need-enum-told-6 Inv-loop μ-loop
 enum-told-6 c = search needs
@@ -219,27 +221,27 @@ nothing-requires-2 c κs = search needs
 
 same-length-5 : tie.Need-same-length-5 Inv-loop μ-loop
 same-length-5 c =
-    let x = c .before .before .before .before .before .before .before .before .before .before .before .before .before .before in
+    let x = c .before .before .before .before .before .before .before .before .before .before .before .before .before .before .before in
     let a = x .args in
     let l = c .before .before .before .before .before .before .before .before .before .before .loop in
     let k = c .before .before .before .before .before .before .before .take-turn in
-    k .kept .1 .1 .0 ∙ l .inv .1
+    k .kept .1 .1 .1 .0 ∙ l .inv .1
 
 same-length-6 : tie.Need-same-length-6 Inv-loop μ-loop
 same-length-6 c =
-    let x = c .before .before .before .before .before .before .before .before .before .before .before .before .before .before in
+    let x = c .before .before .before .before .before .before .before .before .before .before .before .before .before .before .before in
     let a = x .args in
     let l = c .before .before .before .before .before .before .before .before .before .before .loop in
     let k = c .before .before .before .before .before .before .before .take-turn in
-    k .kept .1 .1 .1 .0 ∙ l .inv .2
+    k .kept .1 .1 .1 .1 .0 ∙ l .inv .2
 
 returns-3 : tie.Need-returns-3 Inv-loop μ-loop
 returns-3 c =
-    let x = c .before .before .before .before .before .before .before .before .before .before .before .before .before .before in
+    let x = c .before .before .before .before .before .before .before .before .before .before .before .before .before .before .before in
     let a = x .args in
     let l = c .before .before .before .before .before .before .before .before .before .before .loop in
     let k = c .before .before .before .before .before .before .before .take-turn in
-    arrives-deep (a .book .now) (a .shape) (x .pre .0) (a .area .now) (a .n) (a .start) (l .area) (l .positions) (l .level) (l .inv .0) (k .result) (k .last .1 .1 .0) (k .last .1 .1 .1 .0) (k .ensures) (c .before .enum-told6 .given .1) (c .nothing2 .result)
+    arrives-deep (a .book .now) (a .shape) (x .pre .0) (a .area .now) (a .n) (a .start) (l .area) (l .positions) (l .level) (l .inv .0) (k .result) (k .last .1 .1 .1 .0) (k .last .1 .1 .1 .1 .0) (k .ensures) (c .before .enum-told6 .given .1) (c .nothing2 .result)
 
 pub advance-spec : {M : Type 1} → statement M
 advance-spec =

@@ -6,7 +6,7 @@ use Rattle.evaluation.proofs.machine.take_turn.Statement.{statement}
 use Rattle.evaluation.proofs.machine.take_turn.Tie as tie
 
 within : (c : tie.Start) → let a = c .args in Bounds (a .area .now) (a .positions .now) (a .n) (a .level)
-within c = let a = c .args in bounds (a .book .now) (a .shape) (c .pre .0) (a .area .now) (a .positions .now) (a .n) (a .level) (c .pre .1)
+within c = let a = c .args in bounds (a .book .now) (a .shape) (c .pre .0) (a .area .now) (a .positions .now) (a .n) (a .level) (c .pre .2)
 
 mul-p : tie.Need-mul-p
 mul-p c = search needs
@@ -21,16 +21,16 @@ mul-c : tie.Need-mul-c
 mul-c c = search needs
 
 slice-read-c : tie.Need-slice-read-c
-slice-read-c c = let b = within (c .before .before .before .before .before) in omega arith
+slice-read-c c = let b = within (c .before .before .before .before .before .before) in omega arith
 
 add-begun : tie.Need-add-begun
-add-begun c = let b = within (c .before .before .before .before .before) in omega arith
+add-begun c = let b = within (c .before .before .before .before .before .before) in omega arith
 
 mul-entry-of : tie.Need-mul-entry-of
-mul-entry-of c = let b = within (c .before .before .before .before .before) in omega arith
+mul-entry-of c = let b = within (c .before .before .before .before .before .before) in omega arith
 
 slice-read-entry-of : tie.Need-slice-read-entry-of
-slice-read-entry-of c = let b = within (c .before .before .before .before .before .before) in omega arith
+slice-read-entry-of c = let b = within (c .before .before .before .before .before .before .before) in omega arith
 
 wide-requires : tie.Need-wide-requires
 wide-requires c κs = search needs
@@ -48,18 +48,18 @@ mul-area : tie.Need-mul-area
 mul-area c = search needs
 
 slice-write-area : tie.Need-slice-write-area
-slice-write-area c = let b = within (c .before .before .before .before .before .before .before .before .before .before) in omega arith
+slice-write-area c = let b = within (c .before .before .before .before .before .before .before .before .before .before .before) in omega arith
 
 same-length : tie.Need-same-length
 same-length c = search needs
 
 returns : tie.Need-returns
 returns c =
-    let x = c .before .before .before .before .before .before .before .before .before .before in
+    let x = c .before .before .before .before .before .before .before .before .before .before .before in
     let a = x .args in
     let k = c .before .before .before .wide in
     let e = c .before .before .entry-of in
-    taken-left (a .book .now) (a .shape) (x .pre .0) (a .area .now) (a .positions .now) (a .n) (a .level) (x .pre .1) (k .result) (k .ensures .0) (e .result) (e .ensures) (c .enum-told .given .1)
+    taken-left (a .book .now) (a .shape) (x .pre .0) (a .area .now) (a .positions .now) (a .n) (a .level) (x .pre .2) (k .result) (k .ensures .0) (e .result) (e .ensures) (c .enum-told .given .1)
 
 enum-told-2 : tie.Need-enum-told-2
 enum-told-2 c = search needs
@@ -71,50 +71,50 @@ mul-area-2 : tie.Need-mul-area-2
 mul-area-2 c = search needs
 
 slice-write-area-2 : tie.Need-slice-write-area-2
-slice-write-area-2 c = let b = within (c .before .before .before .before .before .before .before .before .before .before) in omega arith
+slice-write-area-2 c = let b = within (c .before .before .before .before .before .before .before .before .before .before .before) in omega arith
 
 same-length-2 : tie.Need-same-length-2
 same-length-2 c = search needs
 
 returns-2 : tie.Need-returns-2
 returns-2 c =
-    let x = c .before .before .before .before .before .before .before .before .before .before in
+    let x = c .before .before .before .before .before .before .before .before .before .before .before in
     let a = x .args in
     let k = c .before .before .before .wide in
     let e = c .before .before .entry-of in
-    taken-tried (a .book .now) (a .shape) (x .pre .0) (a .area .now) (a .positions .now) (a .n) (a .level) (x .pre .1) (k .result) (k .ensures .0) (e .result) (e .ensures) (c .enum-told2 .given .1)
+    taken-tried (a .book .now) (a .shape) (x .pre .0) (a .area .now) (a .positions .now) (a .n) (a .level) (x .pre .2) (k .result) (k .ensures .0) (e .result) (e .ensures) (c .enum-told2 .given .1)
 
 enum-known-e : tie.Need-enum-known-e
 enum-known-e c = search needs
 
 returns-3 : tie.Need-returns-3
 returns-3 c =
-    let x = c .before .before .before .before .before .before .before .before .before .before .before .before in
+    let x = c .before .before .before .before .before .before .before .before .before .before .before .before .before in
     let a = x .args in
     let k = c .before .before .before .before .before .wide in
     let e = c .before .before .before .before .entry-of in
-    taken-deep (a .book .now) (a .shape) (x .pre .0) (a .area .now) (a .positions .now) (a .n) (a .level) (x .pre .1) (k .result) (k .ensures .0) (e .result) (e .ensures) (c .before .before .e .given .0 .0) (c .before .before .e .given .1) (c .if1 .taken)
+    taken-deep (a .book .now) (a .shape) (x .pre .0) (a .area .now) (a .positions .now) (a .n) (a .level) (x .pre .2) (k .result) (k .ensures .0) (e .result) (e .ensures) (c .before .before .e .given .0 .0) (c .before .before .e .given .1) (c .if1 .taken)
 
 add-a : tie.Need-add-a
-add-a c = let b = within (c .before .before .before .before .before .before .before .before .before .before .before .before) in omega arith
+add-a c = let b = within (c .before .before .before .before .before .before .before .before .before .before .before .before .before) in omega arith
 
 mul-spans : tie.Need-mul-spans
-mul-spans c = let b = within (c .before .before .before .before .before .before .before .before .before .before .before .before) in omega arith
+mul-spans c = let b = within (c .before .before .before .before .before .before .before .before .before .before .before .before .before) in omega arith
 
 sub-spans : tie.Need-sub-spans
-sub-spans c = let b = within (c .before .before .before .before .before .before .before .before .before .before .before .before) in omega arith
+sub-spans c = let b = within (c .before .before .before .before .before .before .before .before .before .before .before .before .before) in omega arith
 
 part-spans-start : tie.Need-part-spans-start
-part-spans-start c = let b = within (c .before .before .before .before .before .before .before .before .before .before .before .before .before) in omega arith
+part-spans-start c = let b = within (c .before .before .before .before .before .before .before .before .before .before .before .before .before .before) in omega arith
 
 part-spans-end : tie.Need-part-spans-end
-part-spans-end c = let b = within (c .before .before .before .before .before .before .before .before .before .before .before .before .before) in omega arith
+part-spans-end c = let b = within (c .before .before .before .before .before .before .before .before .before .before .before .before .before .before) in omega arith
 
 spans-requires : tie.Need-spans-requires
 spans-requires c κs = search needs
 
 add-q : tie.Need-add-q
-add-q c = let b = within (c .before .before .before .before .before .before .before .before .before .before .before .before .before .before .before) in omega arith
+add-q c = let b = within (c .before .before .before .before .before .before .before .before .before .before .before .before .before .before .before .before) in omega arith
 
 add-area-3 : tie.Need-add-area-3
 add-area-3 c = search needs
@@ -123,7 +123,7 @@ mul-area-3 : tie.Need-mul-area-3
 mul-area-3 c = search needs
 
 slice-write-area-3 : tie.Need-slice-write-area-3
-slice-write-area-3 c = let b = within (c .before .before .before .before .before .before .before .before .before .before .before .before .before .before .before) in omega arith
+slice-write-area-3 c = let b = within (c .before .before .before .before .before .before .before .before .before .before .before .before .before .before .before .before) in omega arith
 
 add-positions : tie.Need-add-positions
 add-positions c = search needs
@@ -142,11 +142,11 @@ same-length-4 c = search needs
 
 returns-4 : tie.Need-returns-4
 returns-4 c =
-    let x = c .before .before .before .before .before .before .before .before .before .before .before .before .before .before .before in
+    let x = c .before .before .before .before .before .before .before .before .before .before .before .before .before .before .before .before in
     let a = x .args in
     let k = c .before .before .before .before .before .before .before .before .wide in
     let e = c .before .before .before .before .before .before .before .entry-of in
-    taken-opened (a .book .now) (a .shape) (x .pre .0) (a .area .now) (a .positions .now) (a .n) (a .level) (x .pre .1) (k .result) (k .ensures .0) (e .result) (e .ensures) (c .before .before .before .before .before .e .given .0 .0) (c .before .before .before .before .before .e .given .1) (c .before .before .before .if1 .left) (c .spans .result) (c .spans .ensures .0)
+    taken-opened (a .book .now) (a .shape) (x .pre .0) (a .area .now) (a .positions .now) (a .n) (a .level) (x .pre .2) (k .result) (k .ensures .0) (e .result) (e .ensures) (c .before .before .before .before .before .e .given .0 .0) (c .before .before .before .before .before .e .given .1) (c .before .before .before .if1 .left) (c .spans .result) (c .spans .ensures .0)
 
 pub take-turn-spec : {M : Type 1} → statement M
 take-turn-spec =

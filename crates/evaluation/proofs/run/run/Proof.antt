@@ -22,39 +22,39 @@ use Rattle.evaluation.proofs.machine.advance.Reads as advance-reads
 use Rattle.evaluation.proofs.reducts.rewrite.Reads as rewrite-reads
 
 abbrev Inv-loop : tie.InvT-loop
-Inv-loop book shape term limit area₀ positions₀ n₀ level₀ steps₀ area positions n level steps = Running (systemOf book) limit term area positions n level steps
+Inv-loop book shape term limit area₀ marks positions₀ n₀ level₀ steps₀ area positions n level steps = Running (systemOf book) limit term area positions n level steps
 
 abbrev μ-loop : tie.MeasureT-loop
-μ-loop book shape term limit area₀ positions₀ n₀ level₀ steps₀ area positions n level steps = limit - steps
+μ-loop book shape term limit area₀ marks positions₀ n₀ level₀ steps₀ area positions n level steps = limit - steps
 
 wf : (c : tie.Start Inv-loop μ-loop) → WellFormed (systemOf (c .args .book .now))
 wf c = well (c .args .book .now) (c .args .shape) (c .pre .0)
 
 -- the area has the length that it came with
-area-length : (c : tie.At-loop Inv-loop μ-loop) → length (c .loop .area) ≡ length (c .before .before .before .before .before .before .before .before .before .before .before .before .args .area .now)
-area-length c = stored-length (systemOf (c .before .before .before .before .before .before .before .before .before .before .before .before .args .book .now)) (c .loop .area) (c .loop .n) (c .loop .level) (c .loop .inv .holds .stored) ∙ sym (c .before .before .before .before .before .before .before .before .before .before .before .before .pre .3)
+area-length : (c : tie.At-loop Inv-loop μ-loop) → length (c .loop .area) ≡ length (c .before .before .before .before .before .before .before .before .before .before .before .before .before .args .area .now)
+area-length c = stored-length (systemOf (c .before .before .before .before .before .before .before .before .before .before .before .before .before .args .book .now)) (c .loop .area) (c .loop .n) (c .loop .level) (c .loop .inv .holds .stored) ∙ sym (c .before .before .before .before .before .before .before .before .before .before .before .before .before .pre .3)
 
 -- a rewrite is next
-before : (c : tie.After-enum-told3 Inv-loop μ-loop) → Before (systemOf (c .before .before .before .before .before .before .before .before .before .before .before .before .before .before .before .before .before .before .before .before .args .book .now)) (c .before .before .before .before .before .before .before .before .before .before .before .before .before .before .before .before .before .before .before .before .args .limit) (c .before .before .before .before .before .before .before .before .before .before .before .before .before .before .before .before .before .before .before .before .args .term .now) (c .before .before .before .before .before .advance .last .1 .1 .0) (c .before .before .before .before .before .advance .last .1 .1 .1 .0) (c .before .before .before .before .before .before .before .before .loop .n) (c .before .before .before .before .before .advance .result .level) (c .before .before .before .before .before .before .before .before .loop .steps) (c .before .before .before .before .before .advance .result .found)
+before : (c : tie.After-enum-told3 Inv-loop μ-loop) → Before (systemOf (c .before .before .before .before .before .before .before .before .before .before .before .before .before .before .before .before .before .before .before .before .before .before .args .book .now)) (c .before .before .before .before .before .before .before .before .before .before .before .before .before .before .before .before .before .before .before .before .before .before .args .limit) (c .before .before .before .before .before .before .before .before .before .before .before .before .before .before .before .before .before .before .before .before .before .before .args .term .now) (c .before .before .before .before .before .advance .last .1 .1 .1 .0) (c .before .before .before .before .before .advance .last .1 .1 .1 .1 .0) (c .before .before .before .before .before .before .before .before .before .loop .n) (c .before .before .before .before .before .advance .result .level) (c .before .before .before .before .before .before .before .before .before .loop .steps) (c .before .before .before .before .before .advance .result .found)
 before c =
-    let a = c .before .before .before .before .before .before .before .before .before .before .before .before .before .before .before .before .before .before .before .before in
-    let l = c .before .before .before .before .before .before .before .before .loop in
+    let a = c .before .before .before .before .before .before .before .before .before .before .before .before .before .before .before .before .before .before .before .before .before .before in
+    let l = c .before .before .before .before .before .before .before .before .before .loop in
     let d = c .before .before .before .before .before .advance in
-    comes-before (systemOf (a .args .book .now)) (wf a) (a .args .limit) (a .args .term .now) (l .area) (l .positions) (l .n) (l .level) (l .steps) (l .inv) (d .result) (d .last .1 .1 .0) (d .last .1 .1 .1 .0) (d .ensures) (c .enum-told3 .given .1)
+    comes-before (systemOf (a .args .book .now)) (wf a) (a .args .limit) (a .args .term .now) (l .area) (l .positions) (l .n) (l .level) (l .steps) (l .inv) (d .result) (d .last .1 .1 .1 .0) (d .last .1 .1 .1 .1 .0) (d .ensures) (c .enum-told3 .given .1)
 
 room : (c : tie.After-enum-told3 Inv-loop μ-loop) → c .before .before .before .before .before .advance .result .level < 64
 room c =
-    let a = c .before .before .before .before .before .before .before .before .before .before .before .before .before .before .before .before .before .before .before .before in
-    let l = c .before .before .before .before .before .before .before .before .loop in
+    let a = c .before .before .before .before .before .before .before .before .before .before .before .before .before .before .before .before .before .before .before .before .before .before in
+    let l = c .before .before .before .before .before .before .before .before .before .loop in
     let d = c .before .before .before .before .before .advance in
-    before-room (systemOf (a .args .book .now)) (wf a) (a .args .limit) (a .args .term .now) (d .last .1 .1 .0) (d .last .1 .1 .1 .0) (l .n) (d .result .level) (l .steps) (d .result .found) (before c)
+    before-room (systemOf (a .args .book .now)) (wf a) (a .args .limit) (a .args .term .now) (d .last .1 .1 .1 .0) (d .last .1 .1 .1 .1 .0) (l .n) (d .result .level) (l .steps) (d .result .found) (before c)
 
-position-is : (c : tie.After-enum-told3 Inv-loop μ-loop) → getD (c .before .before .before .before .before .advance .last .1 .1 .1 .0) (c .before .before .before .before .before .advance .result .level) 0 ≡ position (systemOf (c .before .before .before .before .before .before .before .before .before .before .before .before .before .before .before .before .before .before .before .before .args .book .now)) (termIn (c .before .before .before .before .before .advance .last .1 .1 .0) (c .before .before .before .before .before .before .before .before .loop .n)) (outerIn (c .before .before .before .before .before .advance .last .1 .1 .0) (c .before .before .before .before .before .advance .result .level)) 0
+position-is : (c : tie.After-enum-told3 Inv-loop μ-loop) → getD (c .before .before .before .before .before .advance .last .1 .1 .1 .1 .0) (c .before .before .before .before .before .advance .result .level) 0 ≡ position (systemOf (c .before .before .before .before .before .before .before .before .before .before .before .before .before .before .before .before .before .before .before .before .before .before .args .book .now)) (termIn (c .before .before .before .before .before .advance .last .1 .1 .1 .0) (c .before .before .before .before .before .before .before .before .before .loop .n)) (outerIn (c .before .before .before .before .before .advance .last .1 .1 .1 .0) (c .before .before .before .before .before .advance .result .level)) 0
 position-is c =
-    let a = c .before .before .before .before .before .before .before .before .before .before .before .before .before .before .before .before .before .before .before .before in
-    let l = c .before .before .before .before .before .before .before .before .loop in
+    let a = c .before .before .before .before .before .before .before .before .before .before .before .before .before .before .before .before .before .before .before .before .before .before in
+    let l = c .before .before .before .before .before .before .before .before .before .loop in
     let d = c .before .before .before .before .before .advance in
-    before-position (systemOf (a .args .book .now)) (wf a) (a .args .limit) (a .args .term .now) (d .last .1 .1 .0) (d .last .1 .1 .1 .0) (l .n) (d .result .level) (l .steps) (d .result .found) (before c)
+    before-position (systemOf (a .args .book .now)) (wf a) (a .args .limit) (a .args .term .now) (d .last .1 .1 .1 .0) (d .last .1 .1 .1 .1 .0) (l .n) (d .result .level) (l .steps) (d .result .found) (before c)
 
 -- src/run.rt:26:5
 clear-requires : tie.Need-clear-requires Inv-loop μ-loop
@@ -64,20 +64,28 @@ clear-requires c κs = omega arith
 copy-in-requires : tie.Need-copy-in-requires Inv-loop μ-loop
 copy-in-requires c κs = omega (arith, c .before .before .before .clear .kept .0)
 
+marks-requires : tie.Need-marks-requires Inv-loop μ-loop
+marks-requires c κs = c .before .before .before .before .before .before .before .before .before .before .before .pre .0
+
 -- src/run.rt:32:5
 loop-holds : tie.Need-loop-holds Inv-loop μ-loop
-loop-holds c = let a = c .before .before .before .before .before .before .before .before .before .before .before in
+loop-holds c = let a = c .before .before .before .before .before .before .before .before .before .before .before .before in
     subst (λ ws. Running (systemOf (a .args .book .now)) (a .args .limit) (a .args .term .now) ws _ (length (a .args .term .now)) 0 0)
-    (sym (c .before .before .copy-in .ensures ∙ ap (λ ws. over ws 0 (a .args .term .now)) (c .before .before .before .before .before .before .clear .ensures)))
+    (sym (c .before .before .before .copy-in .ensures ∙ ap (λ ws. over ws 0 (a .args .term .now)) (c .before .before .before .before .before .before .before .clear .ensures)))
     (running-start (systemOf (a .args .book .now)) (a .args .limit) (a .args .term .now) (a .args .area .now) _ (a .pre .1) (a .pre .2) (a .pre .3) refl refl)
 
 -- src/run.rt:33:44
 slice-aggregate-advance : tie.Need-slice-aggregate-advance Inv-loop μ-loop
-slice-aggregate-advance c = sym (c .before .before .loop .inv .holds .slots)
+slice-aggregate-advance c = sym (c .before .before .marks .ensures .slots)
+
+slice-aggregate-advance-2 : tie.Need-slice-aggregate-advance-2 Inv-loop μ-loop
+slice-aggregate-advance-2 c = sym (c .before .before .before .loop .inv .holds .slots)
 
 -- src/run.rt:33:13
 advance-requires : tie.Need-advance-requires Inv-loop μ-loop
-advance-requires c κs = (c .before .before .before .before .before .before .before .before .before .before .before .before .before .before .pre .0, c .before .before .loop .inv .holds)
+advance-requires c κs =
+    let p = c .before .before .before .before .before .before .before .before .before .before .before .before .before .before .before .before .pre in
+    (p .0, c .before .before .before .before .marks .ensures, c .before .before .before .loop .inv .holds)
 
 -- src/run.rt:37:17
 enum-told : tie.Need-enum-told Inv-loop μ-loop
@@ -88,15 +96,15 @@ outcome-requires : tie.Need-outcome-requires Inv-loop μ-loop
 outcome-requires c κs = tt
 
 same-length : tie.Need-same-length Inv-loop μ-loop
-same-length c = c .before .before .before .before .before .before .advance .kept .1 .1 .0 ∙ area-length (c .before .before .before .before .before .before .before .before .before)
+same-length c = c .before .before .before .before .before .before .advance .kept .1 .1 .1 .0 ∙ area-length (c .before .before .before .before .before .before .before .before .before .before)
 
 -- src/run.rt:37:17
 returns : tie.Need-returns Inv-loop μ-loop
-returns c = let a = c .before .before .before .before .before .before .before .before .before .before .before .before .before .before .before .before .before .before .before .before .before in
-    let l = c .before .before .before .before .before .before .before .before .before .loop in
+returns c = let a = c .before .before .before .before .before .before .before .before .before .before .before .before .before .before .before .before .before .before .before .before .before .before .before in
+    let l = c .before .before .before .before .before .before .before .before .before .before .loop in
     let d = c .before .before .before .before .before .before .advance in
-    ends-as (evaluation (systemOf (a .args .book .now)) (a .args .limit) (a .args .term .now)) _ (c .outcome .result) (d .last .1 .1 .0) (c .outcome .ensures)
-    (ends-finished (systemOf (a .args .book .now)) (wf a) (a .args .limit) (a .args .term .now) (l .area) (l .positions) (l .n) (l .level) (l .steps) (l .inv) (d .result) (d .last .1 .1 .0) (d .last .1 .1 .1 .0) (d .ensures) (c .before .enum-told .given .1))
+    ends-as (evaluation (systemOf (a .args .book .now)) (a .args .limit) (a .args .term .now)) _ (c .outcome .result) (d .last .1 .1 .1 .0) (c .outcome .ensures)
+    (ends-finished (systemOf (a .args .book .now)) (wf a) (a .args .limit) (a .args .term .now) (l .area) (l .positions) (l .n) (l .level) (l .steps) (l .inv) (d .result) (d .last .1 .1 .1 .0) (d .last .1 .1 .1 .1 .0) (d .ensures) (c .before .enum-told .given .1))
 
 -- src/run.rt:44:17
 enum-told-2 : tie.Need-enum-told-2 Inv-loop μ-loop
@@ -107,15 +115,15 @@ outcome-requires-2 : tie.Need-outcome-requires-2 Inv-loop μ-loop
 outcome-requires-2 c κs = tt
 
 same-length-2 : tie.Need-same-length-2 Inv-loop μ-loop
-same-length-2 c = c .before .before .before .before .before .before .advance .kept .1 .1 .0 ∙ area-length (c .before .before .before .before .before .before .before .before .before)
+same-length-2 c = c .before .before .before .before .before .before .advance .kept .1 .1 .1 .0 ∙ area-length (c .before .before .before .before .before .before .before .before .before .before)
 
 -- src/run.rt:44:17
 returns-2 : tie.Need-returns-2 Inv-loop μ-loop
-returns-2 c = let a = c .before .before .before .before .before .before .before .before .before .before .before .before .before .before .before .before .before .before .before .before .before in
-    let l = c .before .before .before .before .before .before .before .before .before .loop in
+returns-2 c = let a = c .before .before .before .before .before .before .before .before .before .before .before .before .before .before .before .before .before .before .before .before .before .before .before in
+    let l = c .before .before .before .before .before .before .before .before .before .before .loop in
     let d = c .before .before .before .before .before .before .advance in
-    ends-as (evaluation (systemOf (a .args .book .now)) (a .args .limit) (a .args .term .now)) _ (c .outcome2 .result) (d .last .1 .1 .0) (c .outcome2 .ensures)
-    (ends-deep (systemOf (a .args .book .now)) (wf a) (a .args .limit) (a .args .term .now) (l .area) (l .positions) (l .n) (l .level) (l .steps) (l .inv) (d .result) (d .last .1 .1 .0) (d .last .1 .1 .1 .0) (d .ensures) (c .before .enum-told2 .given .1))
+    ends-as (evaluation (systemOf (a .args .book .now)) (a .args .limit) (a .args .term .now)) _ (c .outcome2 .result) (d .last .1 .1 .1 .0) (c .outcome2 .ensures)
+    (ends-deep (systemOf (a .args .book .now)) (wf a) (a .args .limit) (a .args .term .now) (l .area) (l .positions) (l .n) (l .level) (l .steps) (l .inv) (d .result) (d .last .1 .1 .1 .0) (d .last .1 .1 .1 .1 .0) (d .ensures) (c .before .enum-told2 .given .1))
 
 -- src/run.rt:51:20
 enum-told-3 : tie.Need-enum-told-3 Inv-loop μ-loop
@@ -126,15 +134,15 @@ outcome-requires-3 : tie.Need-outcome-requires-3 Inv-loop μ-loop
 outcome-requires-3 c κs = tt
 
 same-length-3 : tie.Need-same-length-3 Inv-loop μ-loop
-same-length-3 c = c .before .before .before .before .before .before .before .advance .kept .1 .1 .0 ∙ area-length (c .before .before .before .before .before .before .before .before .before .before)
+same-length-3 c = c .before .before .before .before .before .before .before .advance .kept .1 .1 .1 .0 ∙ area-length (c .before .before .before .before .before .before .before .before .before .before .before)
 
 -- src/run.rt:52:21
 returns-3 : tie.Need-returns-3 Inv-loop μ-loop
-returns-3 c = let a = c .before .before .before .before .before .before .before .before .before .before .before .before .before .before .before .before .before .before .before .before .before .before in
-    let l = c .before .before .before .before .before .before .before .before .before .before .loop in
+returns-3 c = let a = c .before .before .before .before .before .before .before .before .before .before .before .before .before .before .before .before .before .before .before .before .before .before .before .before in
+    let l = c .before .before .before .before .before .before .before .before .before .before .before .loop in
     let d = c .before .before .before .before .before .before .before .advance in
-    ends-as (evaluation (systemOf (a .args .book .now)) (a .args .limit) (a .args .term .now)) _ (c .outcome3 .result) (d .last .1 .1 .0) (c .outcome3 .ensures)
-    (ends-spent (systemOf (a .args .book .now)) (wf a) (a .args .limit) (a .args .term .now) (d .last .1 .1 .0) (d .last .1 .1 .1 .0) (l .n) (d .result .level) (l .steps) (d .result .found) (before (c .before .before)) (c .before .if1 .taken))
+    ends-as (evaluation (systemOf (a .args .book .now)) (a .args .limit) (a .args .term .now)) _ (c .outcome3 .result) (d .last .1 .1 .1 .0) (c .outcome3 .ensures)
+    (ends-spent (systemOf (a .args .book .now)) (wf a) (a .args .limit) (a .args .term .now) (d .last .1 .1 .1 .0) (d .last .1 .1 .1 .1 .0) (l .n) (d .result .level) (l .steps) (d .result .found) (before (c .before .before)) (c .before .if1 .taken))
 
 -- src/run.rt:60:62
 mul-rewrite : tie.Need-mul-rewrite Inv-loop μ-loop
@@ -146,32 +154,32 @@ array-read-rewrite c = room (c .before .before .before)
 
 -- src/run.rt:60:21
 rewrite-requires : tie.Need-rewrite-requires Inv-loop μ-loop
-rewrite-requires c κs = let a = c .before .before .before .before .before .before .before .before .before .before .before .before .before .before .before .before .before .before .before .before .before .before .before in
+rewrite-requires c κs = let a = c .before .before .before .before .before .before .before .before .before .before .before .before .before .before .before .before .before .before .before .before .before .before .before .before .before in
     let b = before (c .before .before .before) in
     let p = position-is (c .before .before .before) in
-    ((a .pre .0, b .holds .stored), ((p, b .found ∙ ap (λ q. matchOf (systemOf (a .args .book .now)) (drop q (take (c .before .before .before .before .before .before .before .before .before .before .before .loop .n) (c .before .before .before .before .before .before .before .before .advance .last .1 .1 .0)))) (sym p)), (b .x, rw p (b .matched))))
+    ((a .pre .0, b .holds .stored), ((p, b .found ∙ ap (λ q. matchOf (systemOf (a .args .book .now)) (drop q (take (c .before .before .before .before .before .before .before .before .before .before .before .before .loop .n) (c .before .before .before .before .before .before .before .before .advance .last .1 .1 .1 .0)))) (sym p)), (b .x, rw p (b .matched))))
 
 -- src/run.rt:62:21
 outcome-requires-4 : tie.Need-outcome-requires-4 Inv-loop μ-loop
 outcome-requires-4 c κs = tt
 
 same-length-4 : tie.Need-same-length-4 Inv-loop μ-loop
-same-length-4 c = c .before .before .before .before .rewrite .kept .1 .1 .0 ∙ c .before .before .before .before .before .before .before .before .before .before .before .before .before .advance .kept .1 .1 .0 ∙ area-length (c .before .before .before .before .before .before .before .before .before .before .before .before .before .before .before .before)
+same-length-4 c = c .before .before .before .before .rewrite .kept .1 .1 .0 ∙ c .before .before .before .before .before .before .before .before .before .before .before .before .before .advance .kept .1 .1 .1 .0 ∙ area-length (c .before .before .before .before .before .before .before .before .before .before .before .before .before .before .before .before .before)
 
 -- src/run.rt:62:21
 returns-4 : tie.Need-returns-4 Inv-loop μ-loop
-returns-4 c = let a = c .before .before .before .before .before .before .before .before .before .before .before .before .before .before .before .before .before .before .before .before .before .before .before .before .before .before .before .before in
-    let l = c .before .before .before .before .before .before .before .before .before .before .before .before .before .before .before .before .loop in
+returns-4 c = let a = c .before .before .before .before .before .before .before .before .before .before .before .before .before .before .before .before .before .before .before .before .before .before .before .before .before .before .before .before .before .before in
+    let l = c .before .before .before .before .before .before .before .before .before .before .before .before .before .before .before .before .before .loop in
     let d = c .before .before .before .before .before .before .before .before .before .before .before .before .before .advance in
     let b = before (c .before .before .before .before .before .before .before .before) in
     let p = position-is (c .before .before .before .before .before .before .before .before) in
     let r = c .before .before .before .before .rewrite in
     ends-as (evaluation (systemOf (a .args .book .now)) (a .args .limit) (a .args .term .now)) _ (c .outcome4 .result) (r .last .1 .1 .0) (c .outcome4 .ensures)
-    (ends-long (systemOf (a .args .book .now)) (wf a) (a .args .limit) (a .args .term .now) (d .last .1 .1 .0) (d .last .1 .1 .1 .0) (l .n) (d .result .level) (l .steps) (d .result .found) b (c .before .before .before .before .before .before .before .if1 .left) _ p (r .result) (r .last .1 .1 .0) (r .ensures (b .x) (rw p (b .matched))) (r .kept .1 .1 .0) (c .before .if2 .taken))
+    (ends-long (systemOf (a .args .book .now)) (wf a) (a .args .limit) (a .args .term .now) (d .last .1 .1 .1 .0) (d .last .1 .1 .1 .1 .0) (l .n) (d .result .level) (l .steps) (d .result .found) b (c .before .before .before .before .before .before .before .if1 .left) _ p (r .result) (r .last .1 .1 .0) (r .ensures (b .x) (rw p (b .matched))) (r .kept .1 .1 .0) (c .before .if2 .taken))
 
 -- src/run.rt:69:17
 add-steps : tie.Need-add-steps Inv-loop μ-loop
-add-steps c = omega (arith, c .before .before .before .before .before .before .if1 .left, c .before .before .before .before .before .before .before .before .before .before .before .before .before .before .before .before .before .before .before .before .before .before .before .before .before .before .before .fits .limit)
+add-steps c = omega (arith, c .before .before .before .before .before .before .if1 .left, c .before .before .before .before .before .before .before .before .before .before .before .before .before .before .before .before .before .before .before .before .before .before .before .before .before .before .before .before .before .fits .limit)
 
 -- src/run.rt:32:5
 loop-less : tie.Need-loop-less Inv-loop μ-loop
@@ -179,13 +187,13 @@ loop-less c = let l = c .before .before .before .before .before .before .if1 .le
 
 -- src/run.rt:32:5
 loop-again : tie.Need-loop-again Inv-loop μ-loop
-loop-again c = let a = c .before .before .before .before .before .before .before .before .before .before .before .before .before .before .before .before .before .before .before .before .before .before .before .before .before .before .before in
-    let l = c .before .before .before .before .before .before .before .before .before .before .before .before .before .before .before .loop in
+loop-again c = let a = c .before .before .before .before .before .before .before .before .before .before .before .before .before .before .before .before .before .before .before .before .before .before .before .before .before .before .before .before .before in
+    let l = c .before .before .before .before .before .before .before .before .before .before .before .before .before .before .before .before .loop in
     let d = c .before .before .before .before .before .before .before .before .before .before .before .before .advance in
     let b = before (c .before .before .before .before .before .before .before) in
     let p = position-is (c .before .before .before .before .before .before .before) in
     let r = c .before .before .before .rewrite in
-    goes-on (systemOf (a .args .book .now)) (wf a) (a .args .limit) (a .args .term .now) (d .last .1 .1 .0) (d .last .1 .1 .1 .0) (l .n) (d .result .level) (l .steps) (d .result .found) b (c .before .before .before .before .before .before .if1 .left) _ p (r .result) (r .last .1 .1 .0) (r .ensures (b .x) (rw p (b .matched))) (c .if2 .left)
+    goes-on (systemOf (a .args .book .now)) (wf a) (a .args .limit) (a .args .term .now) (d .last .1 .1 .1 .0) (d .last .1 .1 .1 .1 .0) (l .n) (d .result .level) (l .steps) (d .result .found) b (c .before .before .before .before .before .before .if1 .left) _ p (r .result) (r .last .1 .1 .0) (r .ensures (b .x) (rw p (b .matched))) (c .if2 .left)
 
 pub run-spec : {M : Type 1} → statement M
 run-spec =
@@ -195,8 +203,10 @@ run-spec =
     μ-loop
     clear-requires
     copy-in-requires
+    marks-requires
     loop-holds
     slice-aggregate-advance
+    slice-aggregate-advance-2
     advance-requires
     enum-told
     outcome-requires
