@@ -1,5 +1,5 @@
 -- What the loop of `machine::advance` keeps, and each way out of a turn of it.
-use Prim.Native.Nat.{ℕ, suc, _+_, _-_, _<_}
+use Prim.Native.Nat.{ℕ, suc, _+_, _-_, _≤_, _<_}
 use native.Mathlib.Omega.{arith}
 use mathlib.Core.Path.{_≡_, refl, sym, ap, _∙_, subst, subst₂}
 use mathlib.Core.List.{List, [], _∷_, _++_}
@@ -14,17 +14,19 @@ use Rattle.matching.specs.Accepted.{systemOf, Accepted}
 use Rattle.matching.specs.Stretches.{matchOf}
 use Rattle.matching.proofs.Reducts.{match-none, match-some}
 use Rattle.evaluation.specs.declared.machine.Turn.{Turn}
-use Rattle.evaluation.specs.declared.machine.Turn.the-variants.{Tried, Opened, Left, TooDeep}
+use Rattle.evaluation.specs.declared.machine.Turn.the-variants.{Passed, Tried, Opened, Left, TooDeep}
 use Rattle.evaluation.specs.declared.machine.Stop.the-variants.{Finished, Deep, Ready}
-use Rattle.evaluation.specs.Machine.{strategyAt, position, Next, finished, deep, ready, advance}
+use Rattle.evaluation.specs.Machine.{strategyAt, position, Opened as Below, Next, finished, deep, ready, advance}
 use Rattle.evaluation.specs.Area.{area, termIn, outerIn, countIn, Going, Holds}
-use Rattle.evaluation.specs.Turn.{Turned, turn, Taken}
+use Rattle.evaluation.specs.Turn.{Turned, turn, Taken, sinceAt}
 use Rattle.evaluation.specs.Arrival.{Arrived}
 use Rattle.evaluation.proofs.Laws.{entry-at}
+use Rattle.evaluation.proofs.Passing as passing
+use Rattle.evaluation.proofs.Passing.{Passes, passed-start, passed-again, passed-more, passed-open, passed-left}
 use Rattle.evaluation.proofs.Turns.{turns, turns-pop, turns-pass, turns-open}
 use Rattle.evaluation.proofs.Advances.{advance-end, advance-pop, advance-pass, advance-fire, advance-open, advance-too-deep}
 use Rattle.evaluation.proofs.Areas.{held-term, held-outer, held-count}
-use Rattle.evaluation.proofs.TurnSteps.{Entered, over, rules, inside, deeper, entered, Bounds, bounds, spot}
+use Rattle.evaluation.proofs.TurnSteps.{Entered, over, repeated, trying, inside, deeper, entered, Bounds, bounds, spot}
 
 -- where the machine comes to from the state in an area, and the turns that are left until then
 abbrev pub comes : System → List ℕ → ℕ → ℕ → Next
@@ -33,23 +35,30 @@ comes s ws n level = advance s 64 (outerIn ws level ++ countIn ws level ∷ []) 
 unfoldable pub turnsIn : System → List ℕ → ℕ → ℕ → ℕ
 turnsIn s ws n level = turns s (termIn ws n) 64 (outerIn ws level ++ countIn ws level ∷ []) 0
 
--- a state, of the same term, from which the machine comes to the same place
-pub record Advancing (s : System) (ws₀ : List ℕ) (n start : ℕ) (ws positions : List ℕ) (level : ℕ) : Type 0 where
+-- a state, of the same term, from which the machine comes to the same place; and what is known of the entries that were followed
+pub record Advancing (s : System) (ws₀ : List ℕ) (n start : ℕ) (ws positions : List ℕ) (level floor since : ℕ) : Type 0 where
   pub state : Holds s ws positions n level
   pub term : termIn ws n ≡ termIn ws₀ n
   pub same : comes s ws n level ≡ comes s ws₀ n start
+  pub passed : passing.Passed s (termIn ws n) (outerIn ws level) (countIn ws level) floor since
 
-pub advancing-start : (s : System) (ws positions : List ℕ) (n start : ℕ) → Holds s ws positions n start → Advancing s ws n start ws positions start
-advancing-start s ws positions n start h = record { state = h; term = refl; same = refl }
+pub advancing-start : (s : System) (ws positions : List ℕ) (n start since : ℕ) → Holds s ws positions n start → since ≡ countIn ws start →
+    Advancing s ws n start ws positions start start since
+advancing-start s ws positions n start since h q = record {
+  state = h;
+  term = refl;
+  same = refl;
+  passed = rw q (passed-start s (termIn ws n) (outerIn ws start) (countIn ws start) start (sym (h .stored .levels)));
+}
 
 -- one turn less is left
-pub record Goes (s : System) (ws₀ : List ℕ) (n start : ℕ) (ws : List ℕ) (level : ℕ) (ws′ positions′ : List ℕ) (level′ : ℕ) : Type 0 where
-  pub on : Advancing s ws₀ n start ws′ positions′ level′
+pub record Goes (s : System) (ws₀ : List ℕ) (n start : ℕ) (ws : List ℕ) (level : ℕ) (ws′ positions′ : List ℕ) (level′ floor′ since′ : ℕ) : Type 0 where
+  pub on : Advancing s ws₀ n start ws′ positions′ level′ floor′ since′
   pub less : turnsIn s ws′ n level′ < turnsIn s ws n level
 
-module _ (b : List ℕ) (sh : Shape) (acc : Accepted b sh) (ws₀ : List ℕ) (n start : ℕ) (ws positions : List ℕ) (level : ℕ)
-    (v : Advancing (systemOf b) ws₀ n start ws positions level) (r : Turn) (ws′ positions′ : List ℕ)
-    (k : Taken (systemOf b) (termIn ws n) n ws positions (turn (systemOf b) (termIn ws n) (outerIn ws level) (countIn ws level)) r ws′ positions′) where
+module _ (b : List ℕ) (sh : Shape) (acc : Accepted b sh) (ws₀ : List ℕ) (n start : ℕ) (ws positions : List ℕ) (level floor since : ℕ)
+    (v : Advancing (systemOf b) ws₀ n start ws positions level floor since) (f : ℕ) (before : f ≡ sinceAt floor since level) (r : Turn) (ws′ positions′ : List ℕ)
+    (k : Taken (systemOf b) (termIn ws n) n ws positions (turn (systemOf b) (termIn ws n) (outerIn ws level) f (countIn ws level)) r ws′ positions′) where
   abbrev s : System
   s = systemOf b
 
@@ -77,8 +86,8 @@ module _ (b : List ℕ) (sh : Shape) (acc : Accepted b sh) (ws₀ : List ℕ) (n
   levels : length outer ≡ level
   levels = v .state .stored .levels
 
-  enters : Entered s t outer c (turn s t outer c)
-  enters = entered s t outer c
+  enters : Entered s t outer f c (turn s t outer f c)
+  enters = entered s t outer f c
 
   -- to another state
   module _ (outer′ : List ℕ) (c′ level′ : ℕ) (is : ws′ ≡ area t (outer′ ++ c′ ∷ [])) (h : Holds s ws′ positions′ n level′) (levels′ : length outer′ ≡ level′) where
@@ -88,38 +97,96 @@ module _ (b : List ℕ) (sh : Shape) (acc : Accepted b sh) (ws₀ : List ℕ) (n
     term′ : termIn ws′ n ≡ t
     term′ = held-term ws′ t outer′ c′ n level′ is (going .bounded) words levels′ room′
 
-    counts′ : outerIn ws′ level′ ++ countIn ws′ level′ ∷ [] ≡ outer′ ++ c′ ∷ []
-    counts′ =
-        let e₁ = held-outer ws′ t outer′ c′ n level′ is (going .bounded) words levels′ room′ in
-        let e₂ = held-count ws′ t outer′ c′ n level′ is (going .bounded) words levels′ room′ in
-        λ j. e₁ j ++ e₂ j ∷ []
+    outer-is : outerIn ws′ level′ ≡ outer′
+    outer-is = held-outer ws′ t outer′ c′ n level′ is (going .bounded) words levels′ room′
 
-    moved : advance s 64 (outer ++ c ∷ []) t 0 ≡ advance s 64 (outer′ ++ c′ ∷ []) t 0 → turns s t 64 (outer′ ++ c′ ∷ []) 0 < turns s t 64 (outer ++ c ∷ []) 0 →
-        Goes s ws₀ n start ws level ws′ positions′ level′
+    count-is : countIn ws′ level′ ≡ c′
+    count-is = held-count ws′ t outer′ c′ n level′ is (going .bounded) words levels′ room′
+
+    counts′ : outerIn ws′ level′ ++ countIn ws′ level′ ∷ [] ≡ outer′ ++ c′ ∷ []
+    counts′ = λ j. outer-is j ++ count-is j ∷ []
+
+    moved : (floor′ since′ : ℕ) → passing.Passed s t outer′ c′ floor′ since′ →
+        advance s 64 (outer ++ c ∷ []) t 0 ≡ advance s 64 (outer′ ++ c′ ∷ []) t 0 → turns s t 64 (outer′ ++ c′ ∷ []) 0 < turns s t 64 (outer ++ c ∷ []) 0 →
+        Goes s ws₀ n start ws level ws′ positions′ level′ floor′ since′
     unfolding turnsIn
-    moved e l = record {
-      on = record { state = h; term = term′ ∙ v .term; same = (λ j. advance s 64 (counts′ j) (term′ j) 0) ∙ sym e ∙ v .same };
+    moved floor′ since′ w e l = record {
+      on = record {
+        state = h;
+        term = term′ ∙ v .term;
+        same = (λ j. advance s 64 (counts′ j) (term′ j) 0) ∙ sym e ∙ v .same;
+        passed = rw (term′, outer-is, count-is) w;
+      };
       less = subst₂ (λ y z. turns s y 64 z 0 < turns s t 64 (outer ++ c ∷ []) 0) (sym term′) (sym counts′) l;
     }
 
+  -- ---- an entry leads to no rewrite
+  module _ (more : c < length entries) (is : ws′ ≡ area t (outer ++ suc c ∷ [])) (h : Holds s ws′ positions′ n (length outer)) where
+    over-it : Passes s t (63 - length outer) here (getD entries c 0) → Goes s ws₀ n start ws level ws′ positions′ level floor since
+    over-it w =
+        let z : 63 - length outer ≡ 64 - suc (length outer) = omega arith in
+        moved outer (suc c) level is (subst (λ y. Holds s ws′ positions′ n y) levels h) levels floor since (passed-more s t outer c floor since (v .passed) more w)
+        (advance-pass s t 64 0 outer c (going .room) more (subst (λ l. Passes s t l here (getD entries c 0)) z w))
+        (turns-pass s t 64 0 outer c (going .room) (getD entries c 0) (drop (suc c) entries) (entry-at entries c (getD entries c 0) more refl))
+
+  -- it stood before
+  pub goes-passed : r ≡ Passed → Goes s ws₀ n start ws level ws′ positions′ level floor since
+  goes-passed e = go enters k
+    where
+      go : {o : Turned} → Entered s t outer f c o → Taken s t n ws positions o r ws′ positions′ → Goes s ws₀ n start ws level ws′ positions′ level floor since
+      go (repeated q w) x =
+          over-it q (x .1) (x .3) (passed-again s t outer c floor since (v .passed) (rw (before ∙ ap (sinceAt floor since) (sym levels)) at w))
+      go (over q) x = absurd (let z : _≡_ {A = ℕ} 0 1 = cc (x .0) in omega arith)
+      go (trying q w) x = absurd (let z : _≡_ {A = ℕ} 0 1 = cc (x .0) in omega arith)
+      go (inside i q w l) x = absurd (let z : _≡_ {A = ℕ} 0 1 = cc (x .0) in omega arith)
+      go (deeper i q w l) x = absurd (let z : _≡_ {A = ℕ} 0 1 = cc (x .0) in omega arith)
+
   -- ---- a level is left
   module _ (e : r ≡ Left) where
-    pub goes-left : 0 < level → Goes s ws₀ n start ws level ws′ positions′ (level - 1)
-    goes-left h = go enters k
-      where
-        go : {o : Turned} → Entered s t outer c o → Taken s t n ws positions o r ws′ positions′ → Goes s ws₀ n start ws level ws′ positions′ (level - 1)
-        go (over q) x =
-            let m = level - 1 in
-            let ds = take m outer in
-            let d = getD outer m 0 in
-            let z : level ≡ suc m = omega arith in
-            let y : outer ≡ ds ++ d ∷ [] = sym (take-all (suc m) outer (omega (arith, levels))) ∙ take-suc outer m 0 (omega (arith, levels)) in
-            moved ds d m (x .1 ∙ ap (area t) y) (subst (λ y. Holds s ws′ positions′ n (y - 1)) levels (x .3 (omega (arith, levels)))) (length-take-le m outer (omega (arith, levels)))
-            (advance-pop s t 64 0 outer c (going .room) q ∙ ap (λ y. advance s 64 y t 0) y)
-            (subst (λ y. turns s t 64 y 0 < turns s t 64 (outer ++ c ∷ []) 0) y (turns-pop s t 64 0 outer c (going .room) q))
-        go (rules q f) x = absurd (let z : _≡_ {A = ℕ} 0 1 = cc (x .0) in omega arith)
-        go (inside i q f l) x = absurd (let z : _≡_ {A = ℕ} 0 1 = cc (x .0) in omega arith)
-        go (deeper i q f l) x = absurd (let z : _≡_ {A = ℕ} 0 1 = cc (x .0) in omega arith)
+    module _ (h : 0 < level) where
+      -- the levels around the next one, and its count
+      abbrev below : ℕ
+      below = level - 1
+
+      abbrev ds : List ℕ
+      ds = take below outer
+
+      abbrev d : ℕ
+      d = getD outer below 0
+
+      snoc : outer ≡ ds ++ d ∷ []
+      snoc = let z : level ≡ suc below = omega arith in sym (take-all (suc below) outer (omega (arith, levels))) ∙ take-suc outer below 0 (omega (arith, levels))
+
+      depth : length ds ≡ below
+      depth = length-take-le below outer (omega (arith, levels))
+
+      left-to : (floor′ since′ : ℕ) → (length entries ≤ c → ws′ ≡ area t (ds ++ d ∷ []) → passing.Passed s t ds d floor′ since′) →
+          Goes s ws₀ n start ws level ws′ positions′ below floor′ since′
+      left-to floor′ since′ w = go enters k
+        where
+          go : {o : Turned} → Entered s t outer f c o → Taken s t n ws positions o r ws′ positions′ → Goes s ws₀ n start ws level ws′ positions′ below floor′ since′
+          go (over q) x =
+              moved ds d below (x .1 ∙ ap (area t) snoc) (subst (λ y. Holds s ws′ positions′ n (y - 1)) levels (x .3 (omega (arith, levels)))) depth
+              floor′ since′ (w q (x .1 ∙ ap (area t) snoc))
+              (advance-pop s t 64 0 outer c (going .room) q ∙ ap (λ y. advance s 64 y t 0) snoc)
+              (subst (λ y. turns s t 64 y 0 < turns s t 64 (outer ++ c ∷ []) 0) snoc (turns-pop s t 64 0 outer c (going .room) q))
+          go (repeated q w) x = absurd (let z : _≡_ {A = ℕ} 0 1 = cc (x .0) in omega arith)
+          go (trying q w) x = absurd (let z : _≡_ {A = ℕ} 0 1 = cc (x .0) in omega arith)
+          go (inside i q w l) x = absurd (let z : _≡_ {A = ℕ} 0 1 = cc (x .0) in omega arith)
+          go (deeper i q w l) x = absurd (let z : _≡_ {A = ℕ} 0 1 = cc (x .0) in omega arith)
+
+      -- one that was opened in this run of turns
+      pub goes-left : floor ≤ level - 1 → Goes s ws₀ n start ws level ws′ positions′ (level - 1) floor since
+      goes-left l = left-to floor since
+          (λ q _. passed-left s t ds d c floor since (subst (λ y. passing.Passed s t y c floor since) snoc (v .passed)) (subst (Below s t 0) snoc (going .opened))
+          (let z = going .room in omega (arith, depth, levels)) (omega (arith, depth)) (subst (λ y. length (strategyAt s t (position s t y 0)) ≤ c) snoc q))
+
+      -- one that was open before
+      pub goes-down : (since′ : ℕ) → since′ ≡ countIn ws′ (level - 1) → Goes s ws₀ n start ws level ws′ positions′ (level - 1) (level - 1) since′
+      goes-down since′ e′ = left-to below since′
+          (λ q is. subst (λ y. passing.Passed s t ds d below y)
+          (sym (e′ ∙ held-count ws′ t ds d n below is (going .bounded) words depth (let z = going .room in omega (arith, levels))))
+          (passed-start s t ds d below (sym depth)))
 
     -- the outermost one: the end
     pub arrives-end : level ≡ 0 → (m : Match) → Arrived s (termIn ws₀ n) n (comes s ws₀ n start) (record { stop = Finished; level = level; found = m }) ws′ positions′
@@ -128,47 +195,50 @@ module _ (b : List ℕ) (sh : Shape) (acc : Accepted b sh) (ws₀ : List ℕ) (n
         none-around : outer ≡ []
         none-around = ap (λ y. outerIn ws y) h
 
-        go : {o : Turned} → Entered s t outer c o → Taken s t n ws positions o r ws′ positions′ →
+        go : {o : Turned} → Entered s t outer f c o → Taken s t n ws positions o r ws′ positions′ →
             Arrived s (termIn ws₀ n) n (comes s ws₀ n start) (record { stop = Finished; level = level; found = m }) ws′ positions′
         go (over q) x =
             let y : comes s ws₀ n start ≡ finished =
             sym (v .same) ∙ advance-pop s t 64 0 outer c (going .room) q ∙ ap (λ y. advance s 64 y t 0) none-around ∙ advance-end s t 64 0 in
             subst (λ y. Arrived s (termIn ws₀ n) n y (record { stop = Finished; level = level; found = m }) ws′ positions′) (sym y)
             (refl, x .1 ∙ (λ j. area (v .term j) (none-around j)))
-        go (rules q f) x = absurd (let z : _≡_ {A = ℕ} 0 1 = cc (x .0) in omega arith)
-        go (inside i q f l) x = absurd (let z : _≡_ {A = ℕ} 0 1 = cc (x .0) in omega arith)
-        go (deeper i q f l) x = absurd (let z : _≡_ {A = ℕ} 0 1 = cc (x .0) in omega arith)
+        go (repeated q w) x = absurd (let z : _≡_ {A = ℕ} 0 1 = cc (x .0) in omega arith)
+        go (trying q w) x = absurd (let z : _≡_ {A = ℕ} 0 1 = cc (x .0) in omega arith)
+        go (inside i q w l) x = absurd (let z : _≡_ {A = ℕ} 0 1 = cc (x .0) in omega arith)
+        go (deeper i q w l) x = absurd (let z : _≡_ {A = ℕ} 0 1 = cc (x .0) in omega arith)
 
   -- ---- an argument is opened
-  pub goes-opened : r ≡ Opened → Goes s ws₀ n start ws level ws′ positions′ (level + 1)
+  pub goes-opened : r ≡ Opened → Goes s ws₀ n start ws level ws′ positions′ (level + 1) floor since
   goes-opened e = go enters k
     where
-      go : {o : Turned} → Entered s t outer c o → Taken s t n ws positions o r ws′ positions′ → Goes s ws₀ n start ws level ws′ positions′ (level + 1)
-      go (inside i q f l) x =
+      go : {o : Turned} → Entered s t outer f c o → Taken s t n ws positions o r ws′ positions′ → Goes s ws₀ n start ws level ws′ positions′ (level + 1) floor since
+      go (inside i q w l) x =
           let inner = outer ++ suc c ∷ [] in
           let d : length inner ≡ level + 1 = rw length-append (omega (arith, levels)) in
-          moved inner 0 (level + 1) (x .1) (subst (λ y. Holds s ws′ positions′ n y) d (x .3)) d
-          (advance-open s t 64 0 outer c (going .room) q i f)
-          (rw (append-snoc outer (suc c) (0 ∷ [])) (turns-open s t 64 0 outer c (going .room) (drop (suc c) entries) i (entry-at entries c (suc i) q f)))
+          moved inner 0 (level + 1) (x .1) (subst (λ y. Holds s ws′ positions′ n y) d (x .3)) d floor since (passed-open s t outer c floor since (v .passed))
+          (advance-open s t 64 0 outer c (going .room) q i w)
+          (rw (append-snoc outer (suc c) (0 ∷ [])) (turns-open s t 64 0 outer c (going .room) (drop (suc c) entries) i (entry-at entries c (suc i) q w)))
       go (over q) x = absurd (let z : _≡_ {A = ℕ} 0 1 = cc (x .0) in omega arith)
-      go (rules q f) x = absurd (let z : _≡_ {A = ℕ} 0 1 = cc (x .0) in omega arith)
-      go (deeper i q f l) x = absurd (let z : _≡_ {A = ℕ} 0 1 = cc (x .0) in omega arith)
+      go (repeated q w) x = absurd (let z : _≡_ {A = ℕ} 0 1 = cc (x .0) in omega arith)
+      go (trying q w) x = absurd (let z : _≡_ {A = ℕ} 0 1 = cc (x .0) in omega arith)
+      go (deeper i q w l) x = absurd (let z : _≡_ {A = ℕ} 0 1 = cc (x .0) in omega arith)
 
   -- ---- an argument would be opened from level 64
   pub arrives-deep : r ≡ TooDeep → (m : Match) → Arrived s (termIn ws₀ n) n (comes s ws₀ n start) (record { stop = Deep; level = level; found = m }) ws′ positions′
   arrives-deep e m = go enters k
     where
-      go : {o : Turned} → Entered s t outer c o → Taken s t n ws positions o r ws′ positions′ →
+      go : {o : Turned} → Entered s t outer f c o → Taken s t n ws positions o r ws′ positions′ →
           Arrived s (termIn ws₀ n) n (comes s ws₀ n start) (record { stop = Deep; level = level; found = m }) ws′ positions′
-      go (deeper i q f l) x =
-          let w = bounds b sh acc ws positions n level (v .state) in
+      go (deeper i q w l) x =
+          let bs = bounds b sh acc ws positions n level (v .state) in
           let g = going .room in
-          let y : comes s ws₀ n start ≡ deep = sym (v .same) ∙ advance-too-deep s t 64 0 outer c (going .room) q i f (omega arith) in
+          let y : comes s ws₀ n start ≡ deep = sym (v .same) ∙ advance-too-deep s t 64 0 outer c (going .room) q i w (omega arith) in
           subst (λ y. Arrived s (termIn ws₀ n) n y (record { stop = Deep; level = level; found = m }) ws′ positions′) (sym y)
-          (refl, ap length (x .1) ∙ w .total)
+          (refl, ap length (x .1) ∙ bs .total)
       go (over q) x = absurd (let z : _≡_ {A = ℕ} 0 1 = cc (x .0) in omega arith)
-      go (rules q f) x = absurd (let z : _≡_ {A = ℕ} 0 1 = cc (x .0) in omega arith)
-      go (inside i q f l) x = absurd (let z : _≡_ {A = ℕ} 0 1 = cc (x .0) in omega arith)
+      go (repeated q w) x = absurd (let z : _≡_ {A = ℕ} 0 1 = cc (x .0) in omega arith)
+      go (trying q w) x = absurd (let z : _≡_ {A = ℕ} 0 1 = cc (x .0) in omega arith)
+      go (inside i q w l) x = absurd (let z : _≡_ {A = ℕ} 0 1 = cc (x .0) in omega arith)
 
   -- ---- the rules are to be tried
   module _ (e : r ≡ Tried) where
@@ -176,17 +246,19 @@ module _ (b : List ℕ) (sh : Shape) (acc : Accepted b sh) (ws₀ : List ℕ) (n
       more : c < length entries
       entry : getD entries c 0 ≡ 0
       is : ws′ ≡ area t (outer ++ suc c ∷ [])
+      holds : Holds s ws′ positions′ n (length outer)
       state : Holds s ws′ positions′ n level
       same-positions : positions′ ≡ positions
 
     tries : Tries
     tries = go enters k
       where
-        go : {o : Turned} → Entered s t outer c o → Taken s t n ws positions o r ws′ positions′ → Tries
-        go (rules q f) x = record { more = q; entry = f; is = x .1; state = subst (λ y. Holds s ws′ positions′ n y) levels (x .3); same-positions = x .2 }
+        go : {o : Turned} → Entered s t outer f c o → Taken s t n ws positions o r ws′ positions′ → Tries
+        go (trying q w) x = record { more = q; entry = w; is = x .1; holds = x .3; state = subst (λ y. Holds s ws′ positions′ n y) levels (x .3); same-positions = x .2 }
+        go (repeated q w) x = absurd (let z : _≡_ {A = ℕ} 0 1 = cc (x .0) in omega arith)
         go (over q) x = absurd (let z : _≡_ {A = ℕ} 0 1 = cc (x .0) in omega arith)
-        go (inside i q f l) x = absurd (let z : _≡_ {A = ℕ} 0 1 = cc (x .0) in omega arith)
-        go (deeper i q f l) x = absurd (let z : _≡_ {A = ℕ} 0 1 = cc (x .0) in omega arith)
+        go (inside i q w l) x = absurd (let z : _≡_ {A = ℕ} 0 1 = cc (x .0) in omega arith)
+        go (deeper i q w l) x = absurd (let z : _≡_ {A = ℕ} 0 1 = cc (x .0) in omega arith)
 
     pub tried-bounds : Bounds ws′ positions′ n level
     tried-bounds = bounds b sh acc ws′ positions′ n level (tries .state)
@@ -207,12 +279,11 @@ module _ (b : List ℕ) (sh : Shape) (acc : Accepted b sh) (ws₀ : List ℕ) (n
       found-here = found ∙ ap (matchOf s) front
 
       -- none matches
-      pub goes-tried : m .found ≡ Nothing → Goes s ws₀ n start ws level ws′ positions′ level
-      goes-tried f =
+      pub goes-tried : m .found ≡ Nothing → Goes s ws₀ n start ws level ws′ positions′ level floor since
+      goes-tried q =
           let x = tries in
-          moved outer (suc c) level (x .is) (x .state) levels
-          (advance-pass s t 64 0 outer c (going .room) (x .more) (x .entry) (match-none b sh acc (drop here t) m found-here f))
-          (turns-pass s t 64 0 outer c (going .room) (drop (suc c) entries) (entry-at entries c 0 (x .more) (x .entry)))
+          over-it (x .more) (x .is) (x .holds)
+          (subst (Passes s t (63 - length outer) here) (sym (x .entry)) (match-none b sh acc (drop here t) m found-here q))
 
       -- one matches: a rewrite is next
       pub arrives-ready : (i rhs size : ℕ) → m .found ≡ First i rhs size →

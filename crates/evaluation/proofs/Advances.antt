@@ -3,7 +3,7 @@ use Prim.Native.Nat.{ℕ, zero, suc, _-_, _≤_, _<_}
 use native.Mathlib.Nat.{le-of-suc-le-suc, not-suc-le-zero}
 use native.Mathlib.Omega.{arith}
 use mathlib.Core.Path.{_≡_, refl, sym, ap, _∙_}
-use mathlib.Core.Option.{none, some}
+use mathlib.Core.Option.{some}
 use mathlib.Core.List.{List, [], _∷_, _++_, append-nil}
 use lib.ListN.{length, getD, drop, length-append, drop-of-length-le}
 use lib.Seq.{append-snoc}
@@ -12,7 +12,8 @@ use Rattle.system.specs.System.{System}
 use Rattle.matching.specs.Matching.{Redex, redex}
 use Rattle.evaluation.specs.Machine.{strategyAt, down, position, lower, Next, finished, deep, ready, around, scan, enter, advance}
 use Rattle.evaluation.proofs.Laws.{next-entry, entry-at, lower-sub}
-use Rattle.evaluation.proofs.Iterate.{scan-pass, scan-fire}
+use Rattle.evaluation.proofs.Iterate.{scan-fire}
+use Rattle.evaluation.proofs.Passing.{Passes, scan-over}
 
 module _ (s : System) (t : List ℕ) where
   -- the clauses of advance
@@ -48,10 +49,10 @@ module _ (s : System) (t : List ℕ) where
     top-pop h = advance-top l c p ∙ rw (drop-of-length-le (strategyAt s t p) h)
 
     module _ (es : List ℕ) where
-      top-pass : drop c (strategyAt s t p) ≡ 0 ∷ es → redex s (drop p t) ≡ none → advance s (suc l) (c ∷ []) t p ≡ advance s (suc l) (suc c ∷ []) t p
-      top-pass q f =
-          advance-top l c p ∙ ap (λ e. rest l e c p) q ∙ scan-pass s (enter s l t) t es c p f
-          ∙ ap (λ e. rest l e (suc c) p) (sym (next-entry _ c 0 es q .1)) ∙ sym (advance-top l (suc c) p)
+      top-pass : (e : ℕ) → drop c (strategyAt s t p) ≡ e ∷ es → Passes s t l p e → advance s (suc l) (c ∷ []) t p ≡ advance s (suc l) (suc c ∷ []) t p
+      top-pass e q f =
+          advance-top l c p ∙ ap (λ e. rest l e c p) q ∙ scan-over s t l p e es c f
+          ∙ ap (λ e. rest l e (suc c) p) (sym (next-entry _ c e es q .1)) ∙ sym (advance-top l (suc c) p)
 
       top-open : (i : ℕ) → drop c (strategyAt s t p) ≡ suc i ∷ es → advance s (suc l) (c ∷ []) t p ≡ advance s (suc l) (suc c ∷ 0 ∷ []) t p
       unfolding down scan
@@ -106,9 +107,10 @@ module _ (s : System) (t : List ℕ) where
         ∙ ap (λ z. advance s l z t p) (append-nil cs)
 
     module _ (more : c < length entries) where
-      -- an entry 0 where no rule matches
-      pub advance-pass : getD entries c 0 ≡ 0 → redex s (drop here t) ≡ none → advance s l (cs ++ c ∷ []) t p ≡ advance s l (cs ++ suc c ∷ []) t p
-      advance-pass e f = under cs l p (c ∷ []) (suc c ∷ []) (rw lower-suc (top-pass (l - suc (length cs)) c here (drop (suc c) entries) (entry-at entries c 0 more e) f))
+      -- an entry that leads to no rewrite
+      pub advance-pass : Passes s t (l - suc (length cs)) here (getD entries c 0) → advance s l (cs ++ c ∷ []) t p ≡ advance s l (cs ++ suc c ∷ []) t p
+      advance-pass f =
+          under cs l p (c ∷ []) (suc c ∷ []) (rw lower-suc (top-pass (l - suc (length cs)) c here (drop (suc c) entries) (getD entries c 0) (entry-at entries c (getD entries c 0) more refl) f))
 
       -- an entry 0 where a rule matches
       pub advance-fire : (x : Redex) → getD entries c 0 ≡ 0 → redex s (drop here t) ≡ some x → advance s l (cs ++ c ∷ []) t p ≡ ready cs (suc c) x

@@ -5,14 +5,14 @@ pub mod Done
 pub mod Quiet
 pub mod Found
 pub mod Stops
--- The machine: its laws, and the invariant and the measure of a loop that runs it
+-- The machine: its laws, and the measure of a loop that runs it
 pub mod Again
 pub mod Laws
 pub mod Iterate
+pub mod Repeats
+pub mod Passing
 pub mod Goings
-pub mod Loop
 pub mod Turns
-pub mod Weight
 pub mod Advances
 -- The machine in an area of words: what the code's loops cite
 pub mod Strategies

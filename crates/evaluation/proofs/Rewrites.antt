@@ -32,7 +32,7 @@ use Rattle.evaluation.specs.Rewritten.{rewritten, Rewritten, done, long,
 use Rattle.evaluation.proofs.Actives.{At, active-whole}
 use Rattle.evaluation.proofs.Done.{whole-within}
 use Rattle.evaluation.proofs.Laws.{down-lt}
-use Rattle.evaluation.proofs.Loop.{opened-active}
+use Rattle.evaluation.proofs.Goings.{opened-active}
 use Rattle.evaluation.proofs.Stretching.{match-rest, match-behind}
 use Rattle.evaluation.proofs.Replacing.{part-take}
 

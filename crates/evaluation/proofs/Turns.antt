@@ -1,12 +1,12 @@
 -- How many turns the machine takes without a rewrite: the measure of its loop.
-use Prim.Native.Nat.{ℕ, zero, suc, _+_, _-_, _*_, _≤_, _<_, suc-le-suc}
-use native.Mathlib.Nat.{le-of-suc-le-suc, not-suc-le-zero, suc-mul, mul-le-mul, le-trans, le-refl}
+use Prim.Native.Nat.{ℕ, zero, suc, _+_, _-_, _≤_, _<_}
+use native.Mathlib.Nat.{le-of-suc-le-suc, not-suc-le-zero}
 use native.Mathlib.Omega.{arith}
 use mathlib.Core.Path.{_≡_, refl, subst}
 use mathlib.Core.List.{List, [], _∷_, _++_, append-nil}
-use lib.ListN.{length, getD, drop, drop-of-length-le, length-drop}
+use lib.ListN.{length, drop, drop-of-length-le}
 use Rattle.system.specs.Signature.{argument}
-use Rattle.system.specs.System.{System, strategy}
+use Rattle.system.specs.System.{System}
 use Rattle.evaluation.specs.Machine.{strategyAt, down, position, lower}
 use Rattle.evaluation.proofs.Laws.{next-entry, lower-sub}
 
@@ -46,9 +46,10 @@ module _ (s : System) (t : List ℕ) where
     top-pop h = rw (drop-of-length-le (strategyAt s t p) h) (omega arith)
 
     module _ (es : List ℕ) where
-      top-pass : drop c (strategyAt s t p) ≡ 0 ∷ es → turns (suc l) (suc c ∷ []) p < turns (suc l) (c ∷ []) p
+      top-pass : (e : ℕ) → drop c (strategyAt s t p) ≡ e ∷ es → turns (suc l) (suc c ∷ []) p < turns (suc l) (c ∷ []) p
       unfolding turns scanTurns
-      top-pass q = rw (q, next-entry _ c 0 es q .1) (omega arith)
+      top-pass zero q = rw (q, next-entry _ c 0 es q .1) (omega arith)
+      top-pass (suc i) q = rw (q, next-entry _ c (suc i) es q .1) (omega arith)
 
       top-open : (i : ℕ) → drop c (strategyAt s t p) ≡ suc i ∷ es → turns (suc l) (suc c ∷ 0 ∷ []) p < turns (suc l) (c ∷ []) p
       unfolding turns scanTurns down
@@ -65,47 +66,8 @@ module _ (s : System) (t : List ℕ) where
     pub turns-pop : length (strategyAt s t here) ≤ c → turns l cs p < turns l (cs ++ c ∷ []) p
     turns-pop h = subst (λ z. turns l z p < turns l (cs ++ c ∷ []) p) (append-nil cs) (turns-under cs l p [] (c ∷ []) room (rw lower-suc (top-pop (l - suc (length cs)) c here h)))
 
-    pub turns-pass : (es : List ℕ) → drop c (strategyAt s t here) ≡ 0 ∷ es → turns l (cs ++ suc c ∷ []) p < turns l (cs ++ c ∷ []) p
-    turns-pass es q = turns-under cs l p (suc c ∷ []) (c ∷ []) room (rw lower-suc (top-pass (l - suc (length cs)) c here es q))
+    pub turns-pass : (e : ℕ) (es : List ℕ) → drop c (strategyAt s t here) ≡ e ∷ es → turns l (cs ++ suc c ∷ []) p < turns l (cs ++ c ∷ []) p
+    turns-pass e es q = turns-under cs l p (suc c ∷ []) (c ∷ []) room (rw lower-suc (top-pass (l - suc (length cs)) c here es e q))
 
     pub turns-open : (es : List ℕ) (i : ℕ) → drop c (strategyAt s t here) ≡ suc i ∷ es → turns l (cs ++ suc c ∷ 0 ∷ []) p < turns l (cs ++ c ∷ []) p
     turns-open es i q = turns-under cs l p (suc c ∷ 0 ∷ []) (c ∷ []) room (rw lower-suc (top-open (l - suc (length cs)) c here es i q))
-
--- the most turns over l levels, where no strategy is longer than m
-pub most : ℕ → ℕ → ℕ
-most m zero = 0
-most m (suc l) = suc (m * suc (most m l))
-
-pub total : ℕ → ℕ → ℕ
-total m zero = 0
-total m (suc l) = total m l + most m (suc l)
-
-module _ (s : System) (t : List ℕ) (m : ℕ) (short : (f : ℕ) → length (strategy s f) ≤ m) where
-  scan-length : (inner : ℕ → ℕ) (b : ℕ) → ((q : ℕ) → inner q ≤ b) → (es : List ℕ) (p : ℕ) → scanTurns s t inner es p ≤ suc (length es * suc b)
-  unfolding scanTurns
-  scan-length inner b h [] p = omega arith
-  scan-length inner b h (zero ∷ es) p = let z = scan-length inner b h es p in omega (arith, suc-mul (length es) (suc b))
-  scan-length inner b h (suc i ∷ es) p = let z = scan-length inner b h es p in omega (arith, suc-mul (length es) (suc b), h (argument (s .arities) t p i))
-
-  scan-bound : (inner : ℕ → ℕ) (b : ℕ) → ((q : ℕ) → inner q ≤ b) → (es : List ℕ) (p : ℕ) → length es ≤ m → scanTurns s t inner es p ≤ suc (m * suc b)
-  scan-bound inner b h es p n = le-trans (scan-length inner b h es p) (suc-le-suc (mul-le-mul n (le-refl (suc b))))
-
-  enter-bound : (l p : ℕ) → enterTurns s t l p ≤ most m l
-  unfolding enterTurns most
-  enter-bound zero p = omega arith
-  enter-bound (suc l) p = scan-bound (λ q. enterTurns s t l q) (most m l) (enter-bound l) (strategyAt s t p) p (short (getD t p 0))
-
-  pub turns-bound : (l : ℕ) (cs : List ℕ) (p : ℕ) → turns s t l cs p ≤ total m l
-  unfolding turns total most
-  turns-bound l [] p = omega arith
-  turns-bound zero (c ∷ cs) p = omega arith
-  turns-bound (suc l) (c ∷ cs) p =
-      let z = turns-bound l cs (down s t p c) in
-      let z′ = scan-bound (enterTurns s t l) (most m l) (enter-bound l) (drop c (strategyAt s t p)) p
-      (rw (length-drop c (strategyAt s t p)) (let y = short (getD t p 0) in omega arith)) in omega arith
-
--- a rewrite leaves fewer too, where each weighs more than all turns without one
-pub weight-less : (limit n k a b : ℕ) → n < limit → a ≤ k → (limit - suc n) * suc k + a < (limit - n) * suc k + b
-weight-less limit n k a b h l =
-    let e : limit - n ≡ suc (limit - suc n) = omega arith in
-    rw e (omega arith)

@@ -7,6 +7,7 @@ ghost use Rattle.evaluation.specs.Expansion.{expansion};
 
 pub mod demands;
 mod entries;
+mod index;
 mod machine;
 mod reducts;
 mod run;

@@ -1,9 +1,10 @@
 // The machine in an area of lent words: from a state to just before its next rewrite, without recursion.
+ghost use mathlib.Core.Path.{_≡_};
 ghost use mathlib.Core.List.{[], _∷_, _++_};
 ghost use Rattle.matching.specs.Accepted.{systemOf, Accepted};
 ghost use Rattle.evaluation.specs.Machine.{advance};
 ghost use Rattle.evaluation.specs.Area.{Holds, termIn, outerIn, countIn};
-ghost use Rattle.evaluation.specs.Turn.{turn, Taken};
+ghost use Rattle.evaluation.specs.Turn.{turn, Taken, sinceAt};
 ghost use Rattle.evaluation.specs.Arrival.{Arrived};
 ghost use Rattle.evaluation.specs.Marks.{Marked};
 use crate::entries::Entry;
@@ -29,8 +30,10 @@ pub struct Advanced {
     pub found: Match,
 }
 
-// A turn: the rules are to be tried at the innermost level, an argument was opened, a level was left; or it would be too deep.
+// A turn: an entry that stood before was passed over, the rules are to be tried at the innermost level, an argument was opened, a level was
+// left; or it would be too deep.
 enum Turn {
+    Passed,
     Tried,
     Opened,
     Left,
@@ -46,18 +49,23 @@ fn take_turn(
     positions: &mut [usize],
     n: usize,
     level: usize,
+    since: usize,
 ) -> Turn
     requires { ⌜ Accepted (now book) shape × Marked (now book) shape (now marks) × Holds (systemOf (now book)) (now area) (now positions) n level ⌝ }
-    ensures { λ r. ⌜ Taken (systemOf (now (book .entry))) (termIn (now (area .entry)) n) n (now (area .entry)) (now (positions .entry)) (turn (systemOf (now (book .entry))) (termIn (now (area .entry)) n) (outerIn (now (area .entry)) level) (countIn (now (area .entry)) level)) r (now (area .exit)) (now (positions .exit)) ⌝ }
+    ensures { λ r. ⌜ Taken (systemOf (now (book .entry))) (termIn (now (area .entry)) n) n (now (area .entry)) (now (positions .entry)) (turn (systemOf (now (book .entry))) (termIn (now (area .entry)) n) (outerIn (now (area .entry)) level) since (countIn (now (area .entry)) level)) r (now (area .exit)) (now (positions .exit)) ⌝ }
 {
     let p = positions[level];
     let c = area[4096 + level];
     let begun = c + 1;
-    let e = entry_of(book, shape, marks, area[p], wide(c));
+    let e = entry_of(book, shape, marks, area[p], since, wide(c));
     match e {
         Entry::End => {
             area[4096 + level] = 0;
             return Turn::Left;
+        }
+        Entry::Again => {
+            area[4096 + level] = begun;
+            return Turn::Passed;
         }
         Entry::Rules => {
             area[4096 + level] = begun;
@@ -76,7 +84,20 @@ fn take_turn(
     }
 }
 
+// How many entries of a level were begun before the present run of turns.
+fn begun_before(floor: usize, since: usize, level: usize) -> usize
+    ensures { λ r. ⌜ r ≡ sinceAt floor since level ⌝ }
+{
+    if floor < level {
+        return 0;
+    }
+    since
+}
+
 // Goes on without rewriting: to the end, to just before the next rewrite, or to where an argument would be opened from level 64.
+//
+// The term stays as it is, so an entry that was followed once in this run of turns is passed over when it comes again: `floor` is the
+// innermost level that was open before and has not been left, and `since` how many of its entries were begun before.
 pub fn advance(
     book: &[u16],
     shape: Shape,
@@ -90,9 +111,15 @@ pub fn advance(
     ensures { λ r. ⌜ Arrived (systemOf (now (book .entry))) (termIn (now (area .entry)) n) n (advance (systemOf (now (book .entry))) 64 (outerIn (now (area .entry)) start ++ countIn (now (area .entry)) start ∷ []) (termIn (now (area .entry)) n) 0) r (now (area .exit)) (now (positions .exit)) ⌝ }
 {
     let mut level = start;
+    let mut floor = start;
+    let mut since = wide(area[4096 + start]);
     loop {
-        let t = take_turn(book, shape, marks, area, positions, n, level);
+        let before = begun_before(floor, since, level);
+        let t = take_turn(book, shape, marks, area, positions, n, level, before);
         match t {
+            Turn::Passed => {
+                continue;
+            }
             Turn::Tried => {
                 let p = positions[level];
                 let m = first_rule(book, shape, &area[p..n]);
@@ -106,11 +133,7 @@ pub fn advance(
                         rhs: _,
                         size: _,
                     } => {
-                        return Advanced {
-                            stop: Stop::Ready,
-                            level,
-                            found: m,
-                        };
+                        return arrived(Stop::Ready, level, m);
                     }
                 }
             }
@@ -120,24 +143,26 @@ pub fn advance(
             }
             Turn::Left => {
                 if level == 0 {
-                    return Advanced {
-                        stop: Stop::Finished,
-                        level,
-                        found: nothing(),
-                    };
+                    return arrived(Stop::Finished, level, nothing());
                 }
                 level -= 1;
+                if level < floor {
+                    floor = level;
+                    since = wide(area[4096 + level]);
+                }
                 continue;
             }
             Turn::TooDeep => {
-                return Advanced {
-                    stop: Stop::Deep,
-                    level,
-                    found: nothing(),
-                };
+                return arrived(Stop::Deep, level, nothing());
             }
         }
     }
+}
+
+fn arrived(stop: Stop, level: usize, found: Match) -> Advanced
+    ensures { λ r. ⌜ r ≡ record { stop = stop; level = level; found = found } ⌝ }
+{
+    Advanced { stop, level, found }
 }
 
 fn nothing() -> Match {

@@ -6,7 +6,7 @@ ghost use Rattle.system.specs.Terms.{Whole};
 ghost use Rattle.matching.specs.Accepted.{systemOf, Accepted};
 ghost use Rattle.evaluation.specs.Evaluation.{evaluation};
 ghost use Rattle.evaluation.specs.Ended.{Ends};
-use crate::entries::marks;
+use crate::index::marks;
 use crate::machine::Stop;
 use crate::machine::advance;
 use crate::reducts::rewrite;

@@ -1,247 +1,355 @@
 -- `machine::advance` meets its contract. The loop's invariant: the area holds a state of the same term from which the machine comes to the
--- same place; the measure is the turns that are left until then.
+-- same place, and the entries that were followed lead to no rewrite; the measure is the turns that are left.
 use native.Mathlib.Omega.{arith}
-use mathlib.Core.Path.{_≡_, refl, _∙_}
+use mathlib.Core.Path.{_≡_, refl, sym, _∙_, subst}
 use lib.ListN.{length}
 use borrow.Author.Needs.{needs}
 use Rattle.matching.specs.Accepted.{systemOf}
-use Rattle.evaluation.proofs.TurnSteps.{bounds}
-use Rattle.evaluation.proofs.AdvanceSteps.{turnsIn, Advancing, advancing-start, goes-left, goes-opened, goes-tried, tried-bounds, arrives-end, arrives-deep, arrives-ready}
+use Rattle.evaluation.specs.Area.{termIn}
+use Rattle.evaluation.specs.Arrival.{Arrived}
+use Rattle.evaluation.proofs.TurnSteps.{Bounds, bounds}
+use Rattle.evaluation.proofs.AdvanceSteps.{comes, turnsIn, Advancing, advancing-start, goes-passed, goes-left, goes-down, goes-opened, goes-tried, tried-bounds, arrives-end, arrives-deep, arrives-ready}
 use Rattle.evaluation.proofs.machine.advance.Statement.{statement}
 use Rattle.evaluation.proofs.machine.advance.Tie as tie
 
 abbrev Inv-loop : tie.InvT-loop
-Inv-loop book shape marks area₀ positions₀ n start level₀ area positions level =
-    Advancing (systemOf book) area₀ n start area positions level × (length area ≡ length area₀) × (length positions ≡ length positions₀)
+Inv-loop book shape marks area₀ positions₀ n start level₀ floor₀ since₀ area positions level floor since =
+    Advancing (systemOf book) area₀ n start area positions level floor since × (length area ≡ length area₀) × (length positions ≡ length positions₀)
 
 abbrev μ-loop : tie.MeasureT-loop
-μ-loop book shape marks area₀ positions₀ n start level₀ area positions level = turnsIn (systemOf book) area n level
+μ-loop book shape marks area₀ positions₀ n start level₀ floor₀ since₀ area positions level floor since = turnsIn (systemOf book) area n level
+
+within : (c : tie.Start Inv-loop μ-loop) → let a = c .args in Bounds (a .area .now) (a .positions .now) (a .n) (a .start)
+within c = let a = c .args in bounds (a .book .now) (a .shape) (c .pre .0) (a .area .now) (a .positions .now) (a .n) (a .start) (c .pre .2)
+
+add-wide : tie.Need-add-wide Inv-loop μ-loop
+add-wide c = let w = within (c .before .before .before .before) in omega arith
+
+mul-wide : tie.Need-mul-wide Inv-loop μ-loop
+mul-wide c = let w = within (c .before .before .before .before) in omega arith
+
+slice-read-wide : tie.Need-slice-read-wide Inv-loop μ-loop
+slice-read-wide c = let w = within (c .before .before .before .before .before) in omega arith
+
+wide-requires : tie.Need-wide-requires Inv-loop μ-loop
+wide-requires c κs = search needs
 
 loop-holds : tie.Need-loop-holds Inv-loop μ-loop
 loop-holds c =
-    let a = c .before .before .before .before .args in
-    (advancing-start (systemOf (a .book .now)) (a .area .now) (a .positions .now) (a .n) (a .start) (c .before .before .before .before .pre .2), refl, refl)
+    let a = c .before .before .before .before .before .before .args in
+    (advancing-start (systemOf (a .book .now)) (a .area .now) (a .positions .now) (a .n) (a .start) (c .wide .result) (c .before .before .before .before .before .before .pre .2) (c .wide .ensures .0), refl, refl)
+
+begun-before-requires : tie.Need-begun-before-requires Inv-loop μ-loop
+begun-before-requires c κs = search needs
 
 take-turn-requires : tie.Need-take-turn-requires Inv-loop μ-loop
-take-turn-requires c κs =
-    let p = c .before .before .before .before .before .before .before .pre in
-    (p .0, p .1, c .before .before .loop .inv .0 .state)
+take-turn-requires c κs = (c .before .before .before .before .before .before .before .before .before .before .pre .0, c .before .before .before .before .before .before .before .before .before .before .pre .1, c .before .before .before .loop .inv .0 .state)
 
 enum-told : tie.Need-enum-told Inv-loop μ-loop
 enum-told c = search needs
 
+loop-less : tie.Need-loop-less Inv-loop μ-loop
+loop-less c =
+    let x = c .before .before .before .before .before .before .before .before .before .before .before .before .before .before .before .before .before in
+    let a = x .args in
+    let l = c .before .before .before .before .before .before .before .before .before .before .loop in
+    let b = c .before .before .before .before .before .before .before .before .before .begun-before in
+    let k = c .before .before .before .before .before .before .take-turn in
+    goes-passed (a .book .now) (a .shape) (x .pre .0) (a .area .now) (a .n) (a .start) (l .area) (l .positions) (l .level) (l .floor) (l .since) (l .inv .0) (b .result) (b .ensures) (k .result) (k .last .1 .1 .1 .0) (k .last .1 .1 .1 .1 .0) (k .ensures) (c .enum-told .given .1) .less
+
+loop-again : tie.Need-loop-again Inv-loop μ-loop
+loop-again c =
+    let x = c .before .before .before .before .before .before .before .before .before .before .before .before .before .before .before .before .before in
+    let a = x .args in
+    let l = c .before .before .before .before .before .before .before .before .before .before .loop in
+    let b = c .before .before .before .before .before .before .before .before .before .begun-before in
+    let k = c .before .before .before .before .before .before .take-turn in
+    (goes-passed (a .book .now) (a .shape) (x .pre .0) (a .area .now) (a .n) (a .start) (l .area) (l .positions) (l .level) (l .floor) (l .since) (l .inv .0) (b .result) (b .ensures) (k .result) (k .last .1 .1 .1 .0) (k .last .1 .1 .1 .1 .0) (k .ensures) (c .enum-told .given .1) .on, k .kept .1 .1 .1 .0 ∙ l .inv .1, k .kept .1 .1 .1 .1 .0 ∙ l .inv .2)
+
+enum-told-2 : tie.Need-enum-told-2 Inv-loop μ-loop
+enum-told-2 c = search needs
+
 mul-p : tie.Need-mul-p Inv-loop μ-loop
 mul-p c =
-    let x = c .before .before .before .before .before .before .before .before .before .before .before .before .before .before in
+    let x = c .before .before .before .before .before .before .before .before .before .before .before .before .before .before .before .before .before in
     let a = x .args in
-    let l = c .before .before .before .before .before .before .before .before .before .loop in
+    let l = c .before .before .before .before .before .before .before .before .before .before .loop in
+    let b = c .before .before .before .before .before .before .before .before .before .begun-before in
     let k = c .before .before .before .before .before .before .take-turn in
-    let w = tried-bounds (a .book .now) (a .shape) (x .pre .0) (a .area .now) (a .n) (a .start) (l .area) (l .positions) (l .level) (l .inv .0) (k .result) (k .last .1 .1 .1 .0) (k .last .1 .1 .1 .1 .0) (k .ensures) (c .enum-told .given .1) in
+    let w = tried-bounds (a .book .now) (a .shape) (x .pre .0) (a .area .now) (a .n) (a .start) (l .area) (l .positions) (l .level) (l .floor) (l .since) (l .inv .0) (b .result) (b .ensures) (k .result) (k .last .1 .1 .1 .0) (k .last .1 .1 .1 .1 .0) (k .ensures) (c .enum-told2 .given .1) in
     omega arith
 
 slice-read-p : tie.Need-slice-read-p Inv-loop μ-loop
 slice-read-p c =
-    let x = c .before .before .before .before .before .before .before .before .before .before .before .before .before .before .before in
+    let x = c .before .before .before .before .before .before .before .before .before .before .before .before .before .before .before .before .before .before in
     let a = x .args in
-    let l = c .before .before .before .before .before .before .before .before .before .before .loop in
+    let l = c .before .before .before .before .before .before .before .before .before .before .before .loop in
+    let b = c .before .before .before .before .before .before .before .before .before .before .begun-before in
     let k = c .before .before .before .before .before .before .before .take-turn in
-    let w = tried-bounds (a .book .now) (a .shape) (x .pre .0) (a .area .now) (a .n) (a .start) (l .area) (l .positions) (l .level) (l .inv .0) (k .result) (k .last .1 .1 .1 .0) (k .last .1 .1 .1 .1 .0) (k .ensures) (c .before .enum-told .given .1) in
+    let w = tried-bounds (a .book .now) (a .shape) (x .pre .0) (a .area .now) (a .n) (a .start) (l .area) (l .positions) (l .level) (l .floor) (l .since) (l .inv .0) (b .result) (b .ensures) (k .result) (k .last .1 .1 .1 .0) (k .last .1 .1 .1 .1 .0) (k .ensures) (c .before .enum-told2 .given .1) in
     omega arith
 
 mul-first-rule : tie.Need-mul-first-rule Inv-loop μ-loop
 mul-first-rule c =
-    let x = c .before .before .before .before .before .before .before .before .before .before .before .before .before .before .before in
+    let x = c .before .before .before .before .before .before .before .before .before .before .before .before .before .before .before .before .before .before in
     let a = x .args in
-    let l = c .before .before .before .before .before .before .before .before .before .before .loop in
+    let l = c .before .before .before .before .before .before .before .before .before .before .before .loop in
+    let b = c .before .before .before .before .before .before .before .before .before .before .begun-before in
     let k = c .before .before .before .before .before .before .before .take-turn in
-    let w = tried-bounds (a .book .now) (a .shape) (x .pre .0) (a .area .now) (a .n) (a .start) (l .area) (l .positions) (l .level) (l .inv .0) (k .result) (k .last .1 .1 .1 .0) (k .last .1 .1 .1 .1 .0) (k .ensures) (c .before .enum-told .given .1) in
+    let w = tried-bounds (a .book .now) (a .shape) (x .pre .0) (a .area .now) (a .n) (a .start) (l .area) (l .positions) (l .level) (l .floor) (l .since) (l .inv .0) (b .result) (b .ensures) (k .result) (k .last .1 .1 .1 .0) (k .last .1 .1 .1 .1 .0) (k .ensures) (c .before .enum-told2 .given .1) in
     omega arith
 
 sub-first-rule : tie.Need-sub-first-rule Inv-loop μ-loop
 sub-first-rule c =
-    let x = c .before .before .before .before .before .before .before .before .before .before .before .before .before .before .before in
+    let x = c .before .before .before .before .before .before .before .before .before .before .before .before .before .before .before .before .before .before in
     let a = x .args in
-    let l = c .before .before .before .before .before .before .before .before .before .before .loop in
+    let l = c .before .before .before .before .before .before .before .before .before .before .before .loop in
+    let b = c .before .before .before .before .before .before .before .before .before .before .begun-before in
     let k = c .before .before .before .before .before .before .before .take-turn in
-    let w = tried-bounds (a .book .now) (a .shape) (x .pre .0) (a .area .now) (a .n) (a .start) (l .area) (l .positions) (l .level) (l .inv .0) (k .result) (k .last .1 .1 .1 .0) (k .last .1 .1 .1 .1 .0) (k .ensures) (c .before .enum-told .given .1) in
+    let w = tried-bounds (a .book .now) (a .shape) (x .pre .0) (a .area .now) (a .n) (a .start) (l .area) (l .positions) (l .level) (l .floor) (l .since) (l .inv .0) (b .result) (b .ensures) (k .result) (k .last .1 .1 .1 .0) (k .last .1 .1 .1 .1 .0) (k .ensures) (c .before .enum-told2 .given .1) in
     omega arith
 
 part-first-rule-start : tie.Need-part-first-rule-start Inv-loop μ-loop
 part-first-rule-start c =
-    let x = c .before .before .before .before .before .before .before .before .before .before .before .before .before .before .before .before in
+    let x = c .before .before .before .before .before .before .before .before .before .before .before .before .before .before .before .before .before .before .before in
     let a = x .args in
-    let l = c .before .before .before .before .before .before .before .before .before .before .before .loop in
+    let l = c .before .before .before .before .before .before .before .before .before .before .before .before .loop in
+    let b = c .before .before .before .before .before .before .before .before .before .before .before .begun-before in
     let k = c .before .before .before .before .before .before .before .before .take-turn in
-    let w = tried-bounds (a .book .now) (a .shape) (x .pre .0) (a .area .now) (a .n) (a .start) (l .area) (l .positions) (l .level) (l .inv .0) (k .result) (k .last .1 .1 .1 .0) (k .last .1 .1 .1 .1 .0) (k .ensures) (c .before .before .enum-told .given .1) in
+    let w = tried-bounds (a .book .now) (a .shape) (x .pre .0) (a .area .now) (a .n) (a .start) (l .area) (l .positions) (l .level) (l .floor) (l .since) (l .inv .0) (b .result) (b .ensures) (k .result) (k .last .1 .1 .1 .0) (k .last .1 .1 .1 .1 .0) (k .ensures) (c .before .before .enum-told2 .given .1) in
     omega arith
 
 part-first-rule-end : tie.Need-part-first-rule-end Inv-loop μ-loop
 part-first-rule-end c =
-    let x = c .before .before .before .before .before .before .before .before .before .before .before .before .before .before .before .before in
+    let x = c .before .before .before .before .before .before .before .before .before .before .before .before .before .before .before .before .before .before .before in
     let a = x .args in
-    let l = c .before .before .before .before .before .before .before .before .before .before .before .loop in
+    let l = c .before .before .before .before .before .before .before .before .before .before .before .before .loop in
+    let b = c .before .before .before .before .before .before .before .before .before .before .before .begun-before in
     let k = c .before .before .before .before .before .before .before .before .take-turn in
-    let w = tried-bounds (a .book .now) (a .shape) (x .pre .0) (a .area .now) (a .n) (a .start) (l .area) (l .positions) (l .level) (l .inv .0) (k .result) (k .last .1 .1 .1 .0) (k .last .1 .1 .1 .1 .0) (k .ensures) (c .before .before .enum-told .given .1) in
+    let w = tried-bounds (a .book .now) (a .shape) (x .pre .0) (a .area .now) (a .n) (a .start) (l .area) (l .positions) (l .level) (l .floor) (l .since) (l .inv .0) (b .result) (b .ensures) (k .result) (k .last .1 .1 .1 .0) (k .last .1 .1 .1 .1 .0) (k .ensures) (c .before .before .enum-told2 .given .1) in
     omega arith
 
 first-rule-requires : tie.Need-first-rule-requires Inv-loop μ-loop
 first-rule-requires c κs = search needs
 
-enum-told-2 : tie.Need-enum-told-2 Inv-loop μ-loop
-enum-told-2 c = search needs
-
-loop-less : tie.Need-loop-less Inv-loop μ-loop
-loop-less c =
-    let x = c .before .before .before .before .before .before .before .before .before .before .before .before .before .before .before .before .before .before .before .before in
-    let a = x .args in
-    let l = c .before .before .before .before .before .before .before .before .before .before .before .before .before .before .before .loop in
-    let k = c .before .before .before .before .before .before .before .before .before .before .before .before .take-turn in
-    let f = c .before .before .first-rule in
-    goes-tried (a .book .now) (a .shape) (x .pre .0) (a .area .now) (a .n) (a .start) (l .area) (l .positions) (l .level) (l .inv .0) (k .result) (k .last .1 .1 .1 .0) (k .last .1 .1 .1 .1 .0) (k .ensures) (c .before .before .before .before .before .before .enum-told .given .1) (f .result) (f .ensures) (c .enum-told2 .given .1) .less
-
-loop-again : tie.Need-loop-again Inv-loop μ-loop
-loop-again c =
-    let x = c .before .before .before .before .before .before .before .before .before .before .before .before .before .before .before .before .before .before .before .before in
-    let a = x .args in
-    let l = c .before .before .before .before .before .before .before .before .before .before .before .before .before .before .before .loop in
-    let k = c .before .before .before .before .before .before .before .before .before .before .before .before .take-turn in
-    let f = c .before .before .first-rule in
-    (goes-tried (a .book .now) (a .shape) (x .pre .0) (a .area .now) (a .n) (a .start) (l .area) (l .positions) (l .level) (l .inv .0) (k .result) (k .last .1 .1 .1 .0) (k .last .1 .1 .1 .1 .0) (k .ensures) (c .before .before .before .before .before .before .enum-told .given .1) (f .result) (f .ensures) (c .enum-told2 .given .1) .on, k .kept .1 .1 .1 .0 ∙ l .inv .1, k .kept .1 .1 .1 .1 .0 ∙ l .inv .2)
-
 enum-told-3 : tie.Need-enum-told-3 Inv-loop μ-loop
 enum-told-3 c = search needs
 
-same-length : tie.Need-same-length Inv-loop μ-loop
-same-length c =
-    let x = c .before .before .before .before .before .before .before .before .before .before .before .before .before .before .before .before .before .before .before .before in
+loop-less-2 : tie.Need-loop-less-2 Inv-loop μ-loop
+loop-less-2 c =
+    let x = c .before .before .before .before .before .before .before .before .before .before .before .before .before .before .before .before .before .before .before .before .before .before .before in
     let a = x .args in
-    let l = c .before .before .before .before .before .before .before .before .before .before .before .before .before .before .before .loop in
-    let k = c .before .before .before .before .before .before .before .before .before .before .before .before .take-turn in
-    k .kept .1 .1 .1 .0 ∙ l .inv .1
-
-same-length-2 : tie.Need-same-length-2 Inv-loop μ-loop
-same-length-2 c =
-    let x = c .before .before .before .before .before .before .before .before .before .before .before .before .before .before .before .before .before .before .before .before in
-    let a = x .args in
-    let l = c .before .before .before .before .before .before .before .before .before .before .before .before .before .before .before .loop in
-    let k = c .before .before .before .before .before .before .before .before .before .before .before .before .take-turn in
-    k .kept .1 .1 .1 .1 .0 ∙ l .inv .2
-
-returns : tie.Need-returns Inv-loop μ-loop
-returns c =
-    let x = c .before .before .before .before .before .before .before .before .before .before .before .before .before .before .before .before .before .before .before .before in
-    let a = x .args in
-    let l = c .before .before .before .before .before .before .before .before .before .before .before .before .before .before .before .loop in
+    let l = c .before .before .before .before .before .before .before .before .before .before .before .before .before .before .before .before .loop in
+    let b = c .before .before .before .before .before .before .before .before .before .before .before .before .before .before .before .begun-before in
     let k = c .before .before .before .before .before .before .before .before .before .before .before .before .take-turn in
     let f = c .before .before .first-rule in
-    arrives-ready (a .book .now) (a .shape) (x .pre .0) (a .area .now) (a .n) (a .start) (l .area) (l .positions) (l .level) (l .inv .0) (k .result) (k .last .1 .1 .1 .0) (k .last .1 .1 .1 .1 .0) (k .ensures) (c .before .before .before .before .before .before .enum-told .given .1) (f .result) (f .ensures) (c .enum-told3 .given .0 .0) (c .enum-told3 .given .0 .1 .0) (c .enum-told3 .given .0 .1 .1 .0) (c .enum-told3 .given .1)
+    goes-tried (a .book .now) (a .shape) (x .pre .0) (a .area .now) (a .n) (a .start) (l .area) (l .positions) (l .level) (l .floor) (l .since) (l .inv .0) (b .result) (b .ensures) (k .result) (k .last .1 .1 .1 .0) (k .last .1 .1 .1 .1 .0) (k .ensures) (c .before .before .before .before .before .before .enum-told2 .given .1) (f .result) (f .ensures) (c .enum-told3 .given .1) .less
+
+loop-again-2 : tie.Need-loop-again-2 Inv-loop μ-loop
+loop-again-2 c =
+    let x = c .before .before .before .before .before .before .before .before .before .before .before .before .before .before .before .before .before .before .before .before .before .before .before in
+    let a = x .args in
+    let l = c .before .before .before .before .before .before .before .before .before .before .before .before .before .before .before .before .loop in
+    let b = c .before .before .before .before .before .before .before .before .before .before .before .before .before .before .before .begun-before in
+    let k = c .before .before .before .before .before .before .before .before .before .before .before .before .take-turn in
+    let f = c .before .before .first-rule in
+    (goes-tried (a .book .now) (a .shape) (x .pre .0) (a .area .now) (a .n) (a .start) (l .area) (l .positions) (l .level) (l .floor) (l .since) (l .inv .0) (b .result) (b .ensures) (k .result) (k .last .1 .1 .1 .0) (k .last .1 .1 .1 .1 .0) (k .ensures) (c .before .before .before .before .before .before .enum-told2 .given .1) (f .result) (f .ensures) (c .enum-told3 .given .1) .on, k .kept .1 .1 .1 .0 ∙ l .inv .1, k .kept .1 .1 .1 .1 .0 ∙ l .inv .2)
 
 enum-told-4 : tie.Need-enum-told-4 Inv-loop μ-loop
 enum-told-4 c = search needs
 
-add-level : tie.Need-add-level Inv-loop μ-loop
-add-level c =
-    let x = c .before .before .before .before .before .before .before .before .before .before .before .before .before .before in
-    let a = x .args in
-    let l = c .before .before .before .before .before .before .before .before .before .loop in
-    let k = c .before .before .before .before .before .before .take-turn in
-    let w = bounds (a .book .now) (a .shape) (x .pre .0) (l .area) (l .positions) (a .n) (l .level) (l .inv .0 .state) in
-    omega arith
+arrived-requires : tie.Need-arrived-requires Inv-loop μ-loop
+arrived-requires c κs = search needs
 
-loop-less-2 : tie.Need-loop-less-2 Inv-loop μ-loop
-loop-less-2 c =
-    let x = c .before .before .before .before .before .before .before .before .before .before .before .before .before .before in
-    let a = x .args in
-    let l = c .before .before .before .before .before .before .before .before .before .loop in
-    let k = c .before .before .before .before .before .before .take-turn in
-    goes-opened (a .book .now) (a .shape) (x .pre .0) (a .area .now) (a .n) (a .start) (l .area) (l .positions) (l .level) (l .inv .0) (k .result) (k .last .1 .1 .1 .0) (k .last .1 .1 .1 .1 .0) (k .ensures) (c .enum-told4 .given .1) .less
+same-length : tie.Need-same-length Inv-loop μ-loop
+same-length c =
+    let l = c .before .before .before .before .before .before .before .before .before .before .before .before .before .before .before .before .before .loop in
+    let k = c .before .before .before .before .before .before .before .before .before .before .before .before .before .take-turn in
+    k .kept .1 .1 .1 .0 ∙ l .inv .1
 
-loop-again-2 : tie.Need-loop-again-2 Inv-loop μ-loop
-loop-again-2 c =
-    let x = c .before .before .before .before .before .before .before .before .before .before .before .before .before .before in
+same-length-2 : tie.Need-same-length-2 Inv-loop μ-loop
+same-length-2 c =
+    let l = c .before .before .before .before .before .before .before .before .before .before .before .before .before .before .before .before .before .loop in
+    let k = c .before .before .before .before .before .before .before .before .before .before .before .before .before .take-turn in
+    k .kept .1 .1 .1 .1 .0 ∙ l .inv .2
+
+returns : tie.Need-returns Inv-loop μ-loop
+returns c =
+    let x = c .before .before .before .before .before .before .before .before .before .before .before .before .before .before .before .before .before .before .before .before .before .before .before .before in
     let a = x .args in
-    let l = c .before .before .before .before .before .before .before .before .before .loop in
-    let k = c .before .before .before .before .before .before .take-turn in
-    (goes-opened (a .book .now) (a .shape) (x .pre .0) (a .area .now) (a .n) (a .start) (l .area) (l .positions) (l .level) (l .inv .0) (k .result) (k .last .1 .1 .1 .0) (k .last .1 .1 .1 .1 .0) (k .ensures) (c .enum-told4 .given .1) .on, k .kept .1 .1 .1 .0 ∙ l .inv .1, k .kept .1 .1 .1 .1 .0 ∙ l .inv .2)
+    let l = c .before .before .before .before .before .before .before .before .before .before .before .before .before .before .before .before .before .loop in
+    let b = c .before .before .before .before .before .before .before .before .before .before .before .before .before .before .before .before .begun-before in
+    let k = c .before .before .before .before .before .before .before .before .before .before .before .before .before .take-turn in
+    subst (λ r. Arrived (systemOf (a .book .now)) (termIn (a .area .now) (a .n)) (a .n) (comes (systemOf (a .book .now)) (a .area .now) (a .n) (a .start)) r (k .last .1 .1 .1 .0) (k .last .1 .1 .1 .1 .0)) (sym (c .arrived .ensures))
+    (arrives-ready (a .book .now) (a .shape) (x .pre .0) (a .area .now) (a .n) (a .start) (l .area) (l .positions) (l .level) (l .floor) (l .since) (l .inv .0) (b .result) (b .ensures) (k .result) (k .last .1 .1 .1 .0) (k .last .1 .1 .1 .1 .0) (k .ensures) (c .before .before .before .before .before .before .before .enum-told2 .given .1) (c .before .before .before .first-rule .result) (c .before .before .before .first-rule .ensures) (c .before .enum-told4 .given .0 .0) (c .before .enum-told4 .given .0 .1 .0) (c .before .enum-told4 .given .0 .1 .1 .0) (c .before .enum-told4 .given .1))
 
 enum-told-5 : tie.Need-enum-told-5 Inv-loop μ-loop
 enum-told-5 c = search needs
 
-nothing-requires : tie.Need-nothing-requires Inv-loop μ-loop
-nothing-requires c κs = search needs
-
-same-length-3 : tie.Need-same-length-3 Inv-loop μ-loop
-same-length-3 c =
-    let x = c .before .before .before .before .before .before .before .before .before .before .before .before .before .before .before .before in
+add-level : tie.Need-add-level Inv-loop μ-loop
+add-level c =
+    let x = c .before .before .before .before .before .before .before .before .before .before .before .before .before .before .before .before .before in
     let a = x .args in
-    let l = c .before .before .before .before .before .before .before .before .before .before .before .loop in
-    let k = c .before .before .before .before .before .before .before .before .take-turn in
-    k .kept .1 .1 .1 .0 ∙ l .inv .1
-
-same-length-4 : tie.Need-same-length-4 Inv-loop μ-loop
-same-length-4 c =
-    let x = c .before .before .before .before .before .before .before .before .before .before .before .before .before .before .before .before in
-    let a = x .args in
-    let l = c .before .before .before .before .before .before .before .before .before .before .before .loop in
-    let k = c .before .before .before .before .before .before .before .before .take-turn in
-    k .kept .1 .1 .1 .1 .0 ∙ l .inv .2
-
-returns-2 : tie.Need-returns-2 Inv-loop μ-loop
-returns-2 c =
-    let x = c .before .before .before .before .before .before .before .before .before .before .before .before .before .before .before .before in
-    let a = x .args in
-    let l = c .before .before .before .before .before .before .before .before .before .before .before .loop in
-    let k = c .before .before .before .before .before .before .before .before .take-turn in
-    arrives-end (a .book .now) (a .shape) (x .pre .0) (a .area .now) (a .n) (a .start) (l .area) (l .positions) (l .level) (l .inv .0) (k .result) (k .last .1 .1 .1 .0) (k .last .1 .1 .1 .1 .0) (k .ensures) (c .before .before .enum-told5 .given .1) (c .before .if1 .taken) (c .nothing .result)
-
-sub-level : tie.Need-sub-level Inv-loop μ-loop
-sub-level c = search needs
+    let l = c .before .before .before .before .before .before .before .before .before .before .loop in
+    let b = c .before .before .before .before .before .before .before .before .before .begun-before in
+    let k = c .before .before .before .before .before .before .take-turn in
+    let w = bounds (a .book .now) (a .shape) (x .pre .0) (l .area) (l .positions) (a .n) (l .level) (l .inv .0 .state) in
+    omega arith
 
 loop-less-3 : tie.Need-loop-less-3 Inv-loop μ-loop
 loop-less-3 c =
-    let x = c .before .before .before .before .before .before .before .before .before .before .before .before .before .before .before in
+    let x = c .before .before .before .before .before .before .before .before .before .before .before .before .before .before .before .before .before in
     let a = x .args in
     let l = c .before .before .before .before .before .before .before .before .before .before .loop in
-    let k = c .before .before .before .before .before .before .before .take-turn in
-    goes-left (a .book .now) (a .shape) (x .pre .0) (a .area .now) (a .n) (a .start) (l .area) (l .positions) (l .level) (l .inv .0) (k .result) (k .last .1 .1 .1 .0) (k .last .1 .1 .1 .1 .0) (k .ensures) (c .before .enum-told5 .given .1) (omega arith) .less
+    let b = c .before .before .before .before .before .before .before .before .before .begun-before in
+    let k = c .before .before .before .before .before .before .take-turn in
+    goes-opened (a .book .now) (a .shape) (x .pre .0) (a .area .now) (a .n) (a .start) (l .area) (l .positions) (l .level) (l .floor) (l .since) (l .inv .0) (b .result) (b .ensures) (k .result) (k .last .1 .1 .1 .0) (k .last .1 .1 .1 .1 .0) (k .ensures) (c .enum-told5 .given .1) .less
 
 loop-again-3 : tie.Need-loop-again-3 Inv-loop μ-loop
 loop-again-3 c =
-    let x = c .before .before .before .before .before .before .before .before .before .before .before .before .before .before .before in
+    let x = c .before .before .before .before .before .before .before .before .before .before .before .before .before .before .before .before .before in
     let a = x .args in
     let l = c .before .before .before .before .before .before .before .before .before .before .loop in
-    let k = c .before .before .before .before .before .before .before .take-turn in
-    (goes-left (a .book .now) (a .shape) (x .pre .0) (a .area .now) (a .n) (a .start) (l .area) (l .positions) (l .level) (l .inv .0) (k .result) (k .last .1 .1 .1 .0) (k .last .1 .1 .1 .1 .0) (k .ensures) (c .before .enum-told5 .given .1) (omega arith) .on, k .kept .1 .1 .1 .0 ∙ l .inv .1, k .kept .1 .1 .1 .1 .0 ∙ l .inv .2)
+    let b = c .before .before .before .before .before .before .before .before .before .begun-before in
+    let k = c .before .before .before .before .before .before .take-turn in
+    (goes-opened (a .book .now) (a .shape) (x .pre .0) (a .area .now) (a .n) (a .start) (l .area) (l .positions) (l .level) (l .floor) (l .since) (l .inv .0) (b .result) (b .ensures) (k .result) (k .last .1 .1 .1 .0) (k .last .1 .1 .1 .1 .0) (k .ensures) (c .enum-told5 .given .1) .on, k .kept .1 .1 .1 .0 ∙ l .inv .1, k .kept .1 .1 .1 .1 .0 ∙ l .inv .2)
 
 enum-told-6 : tie.Need-enum-told-6 Inv-loop μ-loop
 enum-told-6 c = search needs
 
+nothing-requires : tie.Need-nothing-requires Inv-loop μ-loop
+nothing-requires c κs = search needs
+
+arrived-requires-2 : tie.Need-arrived-requires-2 Inv-loop μ-loop
+arrived-requires-2 c κs = search needs
+
+same-length-3 : tie.Need-same-length-3 Inv-loop μ-loop
+same-length-3 c =
+    let l = c .before .before .before .before .before .before .before .before .before .before .before .before .before .loop in
+    let k = c .before .before .before .before .before .before .before .before .before .take-turn in
+    k .kept .1 .1 .1 .0 ∙ l .inv .1
+
+same-length-4 : tie.Need-same-length-4 Inv-loop μ-loop
+same-length-4 c =
+    let l = c .before .before .before .before .before .before .before .before .before .before .before .before .before .loop in
+    let k = c .before .before .before .before .before .before .before .before .before .take-turn in
+    k .kept .1 .1 .1 .1 .0 ∙ l .inv .2
+
+returns-2 : tie.Need-returns-2 Inv-loop μ-loop
+returns-2 c =
+    let x = c .before .before .before .before .before .before .before .before .before .before .before .before .before .before .before .before .before .before .before .before in
+    let a = x .args in
+    let l = c .before .before .before .before .before .before .before .before .before .before .before .before .before .loop in
+    let b = c .before .before .before .before .before .before .before .before .before .before .before .before .begun-before in
+    let k = c .before .before .before .before .before .before .before .before .before .take-turn in
+    subst (λ r. Arrived (systemOf (a .book .now)) (termIn (a .area .now) (a .n)) (a .n) (comes (systemOf (a .book .now)) (a .area .now) (a .n) (a .start)) r (k .last .1 .1 .1 .0) (k .last .1 .1 .1 .1 .0)) (sym (c .arrived2 .ensures))
+    (arrives-end (a .book .now) (a .shape) (x .pre .0) (a .area .now) (a .n) (a .start) (l .area) (l .positions) (l .level) (l .floor) (l .since) (l .inv .0) (b .result) (b .ensures) (k .result) (k .last .1 .1 .1 .0) (k .last .1 .1 .1 .1 .0) (k .ensures) (c .before .before .before .enum-told6 .given .1) (c .before .before .if1 .taken) (c .before .nothing .result))
+
+sub-level : tie.Need-sub-level Inv-loop μ-loop
+sub-level c = search needs
+
+add-wide-2 : tie.Need-add-wide-2 Inv-loop μ-loop
+add-wide-2 c =
+    let x = c .before .before .before .before .before .before .before .before .before .before .before .before .before .before .before .before .before .before .before in
+    let a = x .args in
+    let l = c .before .before .before .before .before .before .before .before .before .before .before .before .loop in
+    let b = c .before .before .before .before .before .before .before .before .before .before .before .begun-before in
+    let k = c .before .before .before .before .before .before .before .before .take-turn in
+    let w = bounds (a .book .now) (a .shape) (x .pre .0) (l .area) (l .positions) (a .n) (l .level) (l .inv .0 .state) in
+    let z = k .kept .1 .1 .1 .0 in
+    omega arith
+
+mul-wide-2 : tie.Need-mul-wide-2 Inv-loop μ-loop
+mul-wide-2 c =
+    let x = c .before .before .before .before .before .before .before .before .before .before .before .before .before .before .before .before .before .before .before in
+    let a = x .args in
+    let l = c .before .before .before .before .before .before .before .before .before .before .before .before .loop in
+    let b = c .before .before .before .before .before .before .before .before .before .before .before .begun-before in
+    let k = c .before .before .before .before .before .before .before .before .take-turn in
+    let w = bounds (a .book .now) (a .shape) (x .pre .0) (l .area) (l .positions) (a .n) (l .level) (l .inv .0 .state) in
+    let z = k .kept .1 .1 .1 .0 in
+    omega arith
+
+slice-read-wide-2 : tie.Need-slice-read-wide-2 Inv-loop μ-loop
+slice-read-wide-2 c =
+    let x = c .before .before .before .before .before .before .before .before .before .before .before .before .before .before .before .before .before .before .before .before in
+    let a = x .args in
+    let l = c .before .before .before .before .before .before .before .before .before .before .before .before .before .loop in
+    let b = c .before .before .before .before .before .before .before .before .before .before .before .before .begun-before in
+    let k = c .before .before .before .before .before .before .before .before .before .take-turn in
+    let w = bounds (a .book .now) (a .shape) (x .pre .0) (l .area) (l .positions) (a .n) (l .level) (l .inv .0 .state) in
+    let z = k .kept .1 .1 .1 .0 in
+    omega arith
+
+wide-requires-2 : tie.Need-wide-requires-2 Inv-loop μ-loop
+wide-requires-2 c κs = search needs
+
+loop-less-4 : tie.Need-loop-less-4 Inv-loop μ-loop
+loop-less-4 c =
+    let x = c .before .before .before .before .before .before .before .before .before .before .before .before .before .before .before .before .before .before .before .before .before in
+    let a = x .args in
+    let l = c .before .before .before .before .before .before .before .before .before .before .before .before .before .before .loop in
+    let b = c .before .before .before .before .before .before .before .before .before .before .before .before .before .begun-before in
+    let k = c .before .before .before .before .before .before .before .before .before .before .take-turn in
+    goes-down (a .book .now) (a .shape) (x .pre .0) (a .area .now) (a .n) (a .start) (l .area) (l .positions) (l .level) (l .floor) (l .since) (l .inv .0) (b .result) (b .ensures) (k .result) (k .last .1 .1 .1 .0) (k .last .1 .1 .1 .1 .0) (k .ensures) (c .before .before .before .before .enum-told6 .given .1) (let h = c .before .before .before .if1 .left in omega arith) (c .wide2 .result) (c .wide2 .ensures .0) .less
+
+loop-again-4 : tie.Need-loop-again-4 Inv-loop μ-loop
+loop-again-4 c =
+    let x = c .before .before .before .before .before .before .before .before .before .before .before .before .before .before .before .before .before .before .before .before .before in
+    let a = x .args in
+    let l = c .before .before .before .before .before .before .before .before .before .before .before .before .before .before .loop in
+    let b = c .before .before .before .before .before .before .before .before .before .before .before .before .before .begun-before in
+    let k = c .before .before .before .before .before .before .before .before .before .before .take-turn in
+    (goes-down (a .book .now) (a .shape) (x .pre .0) (a .area .now) (a .n) (a .start) (l .area) (l .positions) (l .level) (l .floor) (l .since) (l .inv .0) (b .result) (b .ensures) (k .result) (k .last .1 .1 .1 .0) (k .last .1 .1 .1 .1 .0) (k .ensures) (c .before .before .before .before .enum-told6 .given .1) (let h = c .before .before .before .if1 .left in omega arith) (c .wide2 .result) (c .wide2 .ensures .0) .on, k .kept .1 .1 .1 .0 ∙ l .inv .1, k .kept .1 .1 .1 .1 .0 ∙ l .inv .2)
+
+loop-less-5 : tie.Need-loop-less-5 Inv-loop μ-loop
+loop-less-5 c =
+    let x = c .before .before .before .before .before .before .before .before .before .before .before .before .before .before .before .before .before .before .before in
+    let a = x .args in
+    let l = c .before .before .before .before .before .before .before .before .before .before .before .before .loop in
+    let b = c .before .before .before .before .before .before .before .before .before .before .before .begun-before in
+    let k = c .before .before .before .before .before .before .before .before .take-turn in
+    goes-left (a .book .now) (a .shape) (x .pre .0) (a .area .now) (a .n) (a .start) (l .area) (l .positions) (l .level) (l .floor) (l .since) (l .inv .0) (b .result) (b .ensures) (k .result) (k .last .1 .1 .1 .0) (k .last .1 .1 .1 .1 .0) (k .ensures) (c .before .before .enum-told6 .given .1) (let h = c .before .if1 .left in omega arith) (let h = c .if2 .left in omega arith) .less
+
+loop-again-5 : tie.Need-loop-again-5 Inv-loop μ-loop
+loop-again-5 c =
+    let x = c .before .before .before .before .before .before .before .before .before .before .before .before .before .before .before .before .before .before .before in
+    let a = x .args in
+    let l = c .before .before .before .before .before .before .before .before .before .before .before .before .loop in
+    let b = c .before .before .before .before .before .before .before .before .before .before .before .begun-before in
+    let k = c .before .before .before .before .before .before .before .before .take-turn in
+    (goes-left (a .book .now) (a .shape) (x .pre .0) (a .area .now) (a .n) (a .start) (l .area) (l .positions) (l .level) (l .floor) (l .since) (l .inv .0) (b .result) (b .ensures) (k .result) (k .last .1 .1 .1 .0) (k .last .1 .1 .1 .1 .0) (k .ensures) (c .before .before .enum-told6 .given .1) (let h = c .before .if1 .left in omega arith) (let h = c .if2 .left in omega arith) .on, k .kept .1 .1 .1 .0 ∙ l .inv .1, k .kept .1 .1 .1 .1 .0 ∙ l .inv .2)
+
+enum-told-7 : tie.Need-enum-told-7 Inv-loop μ-loop
+enum-told-7 c = search needs
+
 nothing-requires-2 : tie.Need-nothing-requires-2 Inv-loop μ-loop
 nothing-requires-2 c κs = search needs
 
+arrived-requires-3 : tie.Need-arrived-requires-3 Inv-loop μ-loop
+arrived-requires-3 c κs = search needs
+
 same-length-5 : tie.Need-same-length-5 Inv-loop μ-loop
 same-length-5 c =
-    let x = c .before .before .before .before .before .before .before .before .before .before .before .before .before .before .before in
-    let a = x .args in
-    let l = c .before .before .before .before .before .before .before .before .before .before .loop in
-    let k = c .before .before .before .before .before .before .before .take-turn in
+    let l = c .before .before .before .before .before .before .before .before .before .before .before .before .loop in
+    let k = c .before .before .before .before .before .before .before .before .take-turn in
     k .kept .1 .1 .1 .0 ∙ l .inv .1
 
 same-length-6 : tie.Need-same-length-6 Inv-loop μ-loop
 same-length-6 c =
-    let x = c .before .before .before .before .before .before .before .before .before .before .before .before .before .before .before in
-    let a = x .args in
-    let l = c .before .before .before .before .before .before .before .before .before .before .loop in
-    let k = c .before .before .before .before .before .before .before .take-turn in
+    let l = c .before .before .before .before .before .before .before .before .before .before .before .before .loop in
+    let k = c .before .before .before .before .before .before .before .before .take-turn in
     k .kept .1 .1 .1 .1 .0 ∙ l .inv .2
 
 returns-3 : tie.Need-returns-3 Inv-loop μ-loop
 returns-3 c =
-    let x = c .before .before .before .before .before .before .before .before .before .before .before .before .before .before .before in
+    let x = c .before .before .before .before .before .before .before .before .before .before .before .before .before .before .before .before .before .before .before in
     let a = x .args in
-    let l = c .before .before .before .before .before .before .before .before .before .before .loop in
-    let k = c .before .before .before .before .before .before .before .take-turn in
-    arrives-deep (a .book .now) (a .shape) (x .pre .0) (a .area .now) (a .n) (a .start) (l .area) (l .positions) (l .level) (l .inv .0) (k .result) (k .last .1 .1 .1 .0) (k .last .1 .1 .1 .1 .0) (k .ensures) (c .before .enum-told6 .given .1) (c .nothing2 .result)
+    let l = c .before .before .before .before .before .before .before .before .before .before .before .before .loop in
+    let b = c .before .before .before .before .before .before .before .before .before .before .before .begun-before in
+    let k = c .before .before .before .before .before .before .before .before .take-turn in
+    subst (λ r. Arrived (systemOf (a .book .now)) (termIn (a .area .now) (a .n)) (a .n) (comes (systemOf (a .book .now)) (a .area .now) (a .n) (a .start)) r (k .last .1 .1 .1 .0) (k .last .1 .1 .1 .1 .0)) (sym (c .arrived3 .ensures))
+    (arrives-deep (a .book .now) (a .shape) (x .pre .0) (a .area .now) (a .n) (a .start) (l .area) (l .positions) (l .level) (l .floor) (l .since) (l .inv .0) (b .result) (b .ensures) (k .result) (k .last .1 .1 .1 .0) (k .last .1 .1 .1 .1 .0) (k .ensures) (c .before .before .enum-told7 .given .1) (c .before .nothing2 .result))
 
 pub advance-spec : {M : Type 1} → statement M
 advance-spec =
@@ -249,9 +357,17 @@ advance-spec =
     (tie.spec
     Inv-loop
     μ-loop
+    add-wide
+    mul-wide
+    slice-read-wide
+    wide-requires
     loop-holds
+    begun-before-requires
     take-turn-requires
     enum-told
+    loop-less
+    loop-again
+    enum-told-2
     mul-p
     slice-read-p
     mul-first-rule
@@ -259,27 +375,36 @@ advance-spec =
     part-first-rule-start
     part-first-rule-end
     first-rule-requires
-    enum-told-2
-    loop-less
-    loop-again
     enum-told-3
+    loop-less-2
+    loop-again-2
+    enum-told-4
+    arrived-requires
     same-length
     same-length-2
     returns
-    enum-told-4
-    add-level
-    loop-less-2
-    loop-again-2
     enum-told-5
+    add-level
+    loop-less-3
+    loop-again-3
+    enum-told-6
     nothing-requires
+    arrived-requires-2
     same-length-3
     same-length-4
     returns-2
     sub-level
-    loop-less-3
-    loop-again-3
-    enum-told-6
+    add-wide-2
+    mul-wide-2
+    slice-read-wide-2
+    wide-requires-2
+    loop-less-4
+    loop-again-4
+    loop-less-5
+    loop-again-5
+    enum-told-7
     nothing-requires-2
+    arrived-requires-3
     same-length-5
     same-length-6
     returns-3)

@@ -1,7 +1,7 @@
 -- `machine::take_turn` meets its contract: a law of TurnSteps for each way out.
 use native.Mathlib.Omega.{arith}
 use borrow.Author.Needs.{needs}
-use Rattle.evaluation.proofs.TurnSteps.{Bounds, bounds, taken-left, taken-tried, taken-deep, taken-opened}
+use Rattle.evaluation.proofs.TurnSteps.{Bounds, bounds, taken-left, taken-passed, taken-tried, taken-deep, taken-opened}
 use Rattle.evaluation.proofs.machine.take_turn.Statement.{statement}
 use Rattle.evaluation.proofs.machine.take_turn.Tie as tie
 
@@ -59,7 +59,7 @@ returns c =
     let a = x .args in
     let k = c .before .before .before .wide in
     let e = c .before .before .entry-of in
-    taken-left (a .book .now) (a .shape) (x .pre .0) (a .area .now) (a .positions .now) (a .n) (a .level) (x .pre .2) (k .result) (k .ensures .0) (e .result) (e .ensures) (c .enum-told .given .1)
+    taken-left (a .book .now) (a .shape) (x .pre .0) (a .area .now) (a .positions .now) (a .n) (a .level) (x .pre .2) (a .since) (k .result) (k .ensures .0) (e .result) (e .ensures) (c .enum-told .given .1)
 
 enum-told-2 : tie.Need-enum-told-2
 enum-told-2 c = search needs
@@ -82,18 +82,41 @@ returns-2 c =
     let a = x .args in
     let k = c .before .before .before .wide in
     let e = c .before .before .entry-of in
-    taken-tried (a .book .now) (a .shape) (x .pre .0) (a .area .now) (a .positions .now) (a .n) (a .level) (x .pre .2) (k .result) (k .ensures .0) (e .result) (e .ensures) (c .enum-told2 .given .1)
+    taken-passed (a .book .now) (a .shape) (x .pre .0) (a .area .now) (a .positions .now) (a .n) (a .level) (x .pre .2) (a .since) (k .result) (k .ensures .0) (e .result) (e .ensures) (c .enum-told2 .given .1)
+
+enum-told-3 : tie.Need-enum-told-3
+enum-told-3 c = search needs
+
+add-area-3 : tie.Need-add-area-3
+add-area-3 c = search needs
+
+mul-area-3 : tie.Need-mul-area-3
+mul-area-3 c = search needs
+
+slice-write-area-3 : tie.Need-slice-write-area-3
+slice-write-area-3 c = let b = within (c .before .before .before .before .before .before .before .before .before .before .before) in omega arith
+
+same-length-3 : tie.Need-same-length-3
+same-length-3 c = search needs
+
+returns-3 : tie.Need-returns-3
+returns-3 c =
+    let x = c .before .before .before .before .before .before .before .before .before .before .before in
+    let a = x .args in
+    let k = c .before .before .before .wide in
+    let e = c .before .before .entry-of in
+    taken-tried (a .book .now) (a .shape) (x .pre .0) (a .area .now) (a .positions .now) (a .n) (a .level) (x .pre .2) (a .since) (k .result) (k .ensures .0) (e .result) (e .ensures) (c .enum-told3 .given .1)
 
 enum-known-e : tie.Need-enum-known-e
 enum-known-e c = search needs
 
-returns-3 : tie.Need-returns-3
-returns-3 c =
+returns-4 : tie.Need-returns-4
+returns-4 c =
     let x = c .before .before .before .before .before .before .before .before .before .before .before .before .before in
     let a = x .args in
     let k = c .before .before .before .before .before .wide in
     let e = c .before .before .before .before .entry-of in
-    taken-deep (a .book .now) (a .shape) (x .pre .0) (a .area .now) (a .positions .now) (a .n) (a .level) (x .pre .2) (k .result) (k .ensures .0) (e .result) (e .ensures) (c .before .before .e .given .0 .0) (c .before .before .e .given .1) (c .if1 .taken)
+    taken-deep (a .book .now) (a .shape) (x .pre .0) (a .area .now) (a .positions .now) (a .n) (a .level) (x .pre .2) (a .since) (k .result) (k .ensures .0) (e .result) (e .ensures) (c .before .before .e .given .0 .0) (c .before .before .e .given .1) (c .if1 .taken)
 
 add-a : tie.Need-add-a
 add-a c = let b = within (c .before .before .before .before .before .before .before .before .before .before .before .before .before) in omega arith
@@ -116,14 +139,14 @@ spans-requires c κs = search needs
 add-q : tie.Need-add-q
 add-q c = let b = within (c .before .before .before .before .before .before .before .before .before .before .before .before .before .before .before .before) in omega arith
 
-add-area-3 : tie.Need-add-area-3
-add-area-3 c = search needs
+add-area-4 : tie.Need-add-area-4
+add-area-4 c = search needs
 
-mul-area-3 : tie.Need-mul-area-3
-mul-area-3 c = search needs
+mul-area-4 : tie.Need-mul-area-4
+mul-area-4 c = search needs
 
-slice-write-area-3 : tie.Need-slice-write-area-3
-slice-write-area-3 c = let b = within (c .before .before .before .before .before .before .before .before .before .before .before .before .before .before .before .before) in omega arith
+slice-write-area-4 : tie.Need-slice-write-area-4
+slice-write-area-4 c = let b = within (c .before .before .before .before .before .before .before .before .before .before .before .before .before .before .before .before) in omega arith
 
 add-positions : tie.Need-add-positions
 add-positions c = search needs
@@ -134,19 +157,19 @@ mul-positions c = search needs
 slice-write-positions : tie.Need-slice-write-positions
 slice-write-positions c = search needs
 
-same-length-3 : tie.Need-same-length-3
-same-length-3 c = search needs
-
 same-length-4 : tie.Need-same-length-4
 same-length-4 c = search needs
 
-returns-4 : tie.Need-returns-4
-returns-4 c =
+same-length-5 : tie.Need-same-length-5
+same-length-5 c = search needs
+
+returns-5 : tie.Need-returns-5
+returns-5 c =
     let x = c .before .before .before .before .before .before .before .before .before .before .before .before .before .before .before .before in
     let a = x .args in
     let k = c .before .before .before .before .before .before .before .before .wide in
     let e = c .before .before .before .before .before .before .before .entry-of in
-    taken-opened (a .book .now) (a .shape) (x .pre .0) (a .area .now) (a .positions .now) (a .n) (a .level) (x .pre .2) (k .result) (k .ensures .0) (e .result) (e .ensures) (c .before .before .before .before .before .e .given .0 .0) (c .before .before .before .before .before .e .given .1) (c .before .before .before .if1 .left) (c .spans .result) (c .spans .ensures .0)
+    taken-opened (a .book .now) (a .shape) (x .pre .0) (a .area .now) (a .positions .now) (a .n) (a .level) (x .pre .2) (a .since) (k .result) (k .ensures .0) (e .result) (e .ensures) (c .before .before .before .before .before .e .given .0 .0) (c .before .before .before .before .before .e .given .1) (c .before .before .before .if1 .left) (c .spans .result) (c .spans .ensures .0)
 
 pub take-turn-spec : {M : Type 1} → statement M
 take-turn-spec =
@@ -174,8 +197,14 @@ take-turn-spec =
     slice-write-area-2
     same-length-2
     returns-2
-    enum-known-e
+    enum-told-3
+    add-area-3
+    mul-area-3
+    slice-write-area-3
+    same-length-3
     returns-3
+    enum-known-e
+    returns-4
     add-a
     mul-spans
     sub-spans
@@ -183,12 +212,12 @@ take-turn-spec =
     part-spans-end
     spans-requires
     add-q
-    add-area-3
-    mul-area-3
-    slice-write-area-3
+    add-area-4
+    mul-area-4
+    slice-write-area-4
     add-positions
     mul-positions
     slice-write-positions
-    same-length-3
     same-length-4
-    returns-4)
+    same-length-5
+    returns-5)

@@ -1,4 +1,4 @@
--- `entries::walk_on` meets its contract. The loop's invariant: symbol k's strategy stands at `at`.
+-- `index::walk_on` meets its contract. The loop's invariant: symbol k's strategy stands at `at`.
 use Prim.Native.Nat.{_+_, _-_, _≤_}
 use native.Mathlib.Omega.{arith}
 use mathlib.Core.Path.{_≡_, subst}
@@ -6,8 +6,8 @@ use borrow.Author.Needs.{needs}
 use Rattle.matching.specs.Accepted.{StrategyAt}
 use Rattle.evaluation.specs.Marks.{Standing}
 use Rattle.evaluation.proofs.Strategies.{standing-strategy, standing-next}
-use Rattle.evaluation.proofs.entries.walk_on.Statement.{statement}
-use Rattle.evaluation.proofs.entries.walk_on.Tie as tie
+use Rattle.evaluation.proofs.index.walk_on.Statement.{statement}
+use Rattle.evaluation.proofs.index.walk_on.Tie as tie
 
 abbrev Inv-loop : tie.InvT-loop
 Inv-loop book start first f at₀ k₀ at k = (k ≤ f) × Standing book k at × StrategyAt book k at

@@ -1,10 +1,10 @@
--- `entries::strategy_at` meets its contract: the strategy is found from the last mark before it.
+-- `index::strategy_at` meets its contract: the strategy is found from the last mark before it.
 use Prim.Native.Nat.{_≤_, _/_}
 use native.Mathlib.Omega.{arith}
 use borrow.Author.Needs.{needs}
 use Rattle.evaluation.proofs.Strategies.{symbols-few, standing-strategy}
-use Rattle.evaluation.proofs.entries.strategy_at.Statement.{statement}
-use Rattle.evaluation.proofs.entries.strategy_at.Tie as tie
+use Rattle.evaluation.proofs.index.strategy_at.Statement.{statement}
+use Rattle.evaluation.proofs.index.strategy_at.Tie as tie
 
 few : (c : tie.Start) → c .args .shape .symbols ≤ 256
 few c = symbols-few (c .args .book .now) (c .args .shape) (c .pre .0)

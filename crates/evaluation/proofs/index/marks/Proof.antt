@@ -1,12 +1,12 @@
--- `entries::marks` meets its contract. The loop's invariant: the marks before number j are made.
+-- `index::marks` meets its contract. The loop's invariant: the marks before number j are made.
 use Prim.Native.Nat.{_-_, _≤_}
 use native.Mathlib.Omega.{arith}
 use mathlib.Core.Path.{refl}
 use borrow.Author.Needs.{needs}
 use Rattle.evaluation.proofs.Strategies.{symbols-few}
 use Rattle.evaluation.proofs.Marking.{Marking, marking-start, marking-next, marking-end}
-use Rattle.evaluation.proofs.entries.marks.Statement.{statement}
-use Rattle.evaluation.proofs.entries.marks.Tie as tie
+use Rattle.evaluation.proofs.index.marks.Statement.{statement}
+use Rattle.evaluation.proofs.index.marks.Tie as tie
 
 abbrev Inv-loop : tie.InvT-loop
 Inv-loop book shape marks₀ j₀ marks j = Marking book marks j × (shape .symbols ≤ 256)

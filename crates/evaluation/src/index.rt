@@ -1,0 +1,44 @@
+// Where the symbols' strategies stand in a book: an index of every fourth one, made once per call.
+ghost use Prim.Native.Nat.{_≤_, _<_};
+ghost use Rattle.matching.specs.Accepted.{Accepted, StrategyAt};
+ghost use Rattle.evaluation.specs.Marks.{Standing, Marked};
+use system::Shape;
+use system::words::wide;
+
+// The index at which the strategy of symbol f stands in the book, found from that of the symbol `first`.
+fn walk_on(book: &[u16], shape: Shape, start: usize, first: usize, f: usize) -> usize
+    requires { ⌜ Accepted (now book) shape × Standing (now book) first start × (first ≤ f) × (f < shape .symbols) ⌝ }
+    ensures { λ r. ⌜ Standing (now (book .entry)) f r ⌝ }
+{
+    let mut at = start;
+    let mut k = first;
+    while k < f {
+        at = at + 1 + wide(book[at]);
+        k += 1;
+    }
+    at
+}
+
+// The marks of the strategies of every fourth symbol.
+pub fn marks(book: &[u16], shape: Shape) -> [usize; 64]
+    requires { ⌜ Accepted (now book) shape ⌝ }
+    ensures { λ r. ⌜ Marked (now (book .entry)) shape r ⌝ }
+{
+    let mut marks = [shape.strategies; 64];
+    let mut j = 1;
+    while 4 * j < shape.symbols {
+        marks[j] = walk_on(book, shape, marks[j - 1], 4 * (j - 1), 4 * j);
+        j += 1;
+    }
+    marks
+}
+
+// The index at which the strategy of symbol f stands in the book: its length, and its entries after it. From its mark at most three
+// strategies are walked over.
+pub fn strategy_at(book: &[u16], shape: Shape, marks: &[usize], f: usize) -> usize
+    requires { ⌜ Accepted (now book) shape × Marked (now book) shape (now marks) × (f < shape .symbols) ⌝ }
+    ensures { λ r. ⌜ StrategyAt (now (book .entry)) f r ⌝ }
+{
+    let j = f / 4;
+    walk_on(book, shape, marks[j], 4 * j, f)
+}
