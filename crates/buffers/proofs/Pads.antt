@@ -1,6 +1,6 @@
 -- Laws of zeros and of a list filled up with zeros (`pad`).
 -- A length that the code holds in a number goes in by an equation, `length xs ≡ k`, so that nothing has to be rewritten at a use. Assumes nothing.
-use mathlib.Core.Path.{_≡_, refl, sym, ap, _∙_}
+use mathlib.Core.Path.{_≡_, sym, ap, _∙_}
 use mathlib.Core.List.{List, [], _∷_, _++_, append-assoc}
 use Prim.Native.Nat.{ℕ, zero, suc, _+_, _-_, _≤_, _<_}
 use native.Mathlib.Omega.{arith}

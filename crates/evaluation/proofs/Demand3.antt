@@ -1,24 +1,22 @@
 -- Demand 3 of the evaluator's own answers, which its contract gives as `expansion`: "done" and "found".
-use Prim.Native.Nat.{ℕ, zero, suc, _+_, _≤_, _<_}
+use Prim.Native.Nat.{ℕ, _+_, _≤_}
 use native.Mathlib.Omega.{arith}
 use native.Mathlib.Decide.{decLt, ℕ-discrete}
 use mathlib.Core.Path.{_≡_, refl, sym, ap, _∙_, subst, subst₂}
-use mathlib.Core.List.{List, _++_}
+use mathlib.Core.List.{List}
 use lib.ListN.{length, take, drop, length-take}
 use lib.Seq.{take-at, sets-eq}
 use Rattle.buffers.specs.Words.{over}
 use Rattle.system.specs.declared.Answer.{Answer}
 use Rattle.system.specs.Terms.{Whole}
-use Rattle.system.specs.Reader.{Parsed, ok, fault, read}
-use Rattle.system.specs.System.{System}
+use Rattle.system.specs.Reader.{ok, read}
 use Rattle.system.specs.Answers.{termAnswer}
 use Rattle.system.proofs.TermChecks.{whole-fault}
 use Rattle.matching.specs.Accepted.{systemOf}
 use Rattle.matching.specs.Safety.{Safe, Tested, passed, failed, TestedBook}
 use Rattle.evaluation.specs.Evaluation.{Run, Outcome, settled, stopped, evaluation}
 use Rattle.evaluation.specs.Expansion.{Expansion, ended, expansion}
-use Rattle.evaluation.specs.Promises.{Done, Found, handedBack, IsDone, IsHandedBack, Rests, Settled, IsFound, RestsAgain}
-use Rattle.evaluation.proofs.Walks.{never}
+use Rattle.evaluation.specs.Promises.{Done, handedBack, IsDone, IsHandedBack, Rests, Settled, IsFound, RestsAgain}
 use Rattle.evaluation.proofs.Done.{theorem-done, steps-last}
 use Rattle.evaluation.proofs.Found.{theorem-found}
 use Rattle.evaluation.proofs.Stops.{Limited, evaluation-limited}

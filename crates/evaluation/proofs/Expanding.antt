@@ -2,21 +2,16 @@
 use Prim.Native.Nat.{ℕ, zero, suc, _+_, _≤_, _<_}
 use native.Mathlib.Omega.{arith}
 use mathlib.Core.Path.{_≡_, refl, sym, ap, _∙_}
-use mathlib.Core.Bool.{Bool, true, false, _&&_}
-use mathlib.Core.List.{List, [], _∷_, _++_}
+use mathlib.Core.List.{List, _++_}
 use lib.ListN.{length, take, drop, length-append, length-drop}
 use lib.Seq.{take-append-le, drop-at, sets-eq}
-use lib.Dec.{leb}
 use borrow.Author.Tests.{le-leb, lt-leb}
 use Rattle.buffers.specs.Words.{over, zeros}
 use Rattle.buffers.proofs.Pads.{length-zeros}
-use Rattle.system.specs.declared.Answer.{Answer}
 use Rattle.system.specs.declared.Shape.{Shape}
-use Rattle.system.specs.System.{System}
 use Rattle.system.specs.Terms.{Whole, WellFormed}
 use Rattle.system.specs.Reader.{read, ok}
 use Rattle.system.specs.Answers.{shapeOf, termAnswer}
-use Rattle.system.specs.TermCheck.{termFault}
 use Rattle.system.proofs.Accepts.{read-sound}
 use Rattle.system.proofs.Answering.{checked}
 use Rattle.system.proofs.TermChecks.{fault-whole}
@@ -24,7 +19,7 @@ use Rattle.matching.specs.Accepted.{systemOf, Accepted}
 use Rattle.evaluation.specs.declared.run.Ended.{Ended}
 use Rattle.evaluation.specs.Evaluation.{Outcome, settled, stopped, evaluation}
 use Rattle.evaluation.specs.Ended.{Ends}
-use Rattle.evaluation.specs.Expansion.{Expansion, ended, expansion}
+use Rattle.evaluation.specs.Expansion.{ended, expansion}
 use Rattle.evaluation.proofs.Done.{theorem-done, steps-last}
 
 -- ---- what the check of a term tells

@@ -2,7 +2,7 @@
 use Prim.Native.Nat.{ℕ, zero, suc, _+_, _≤_, _<_}
 use native.Mathlib.Omega.{arith}
 use native.Mathlib.Numerals.{add-one}
-use mathlib.Core.Path.{_≡_, refl, sym, ap, _∙_, subst, subst₂}
+use mathlib.Core.Path.{_≡_, refl, sym, ap, _∙_, subst}
 use mathlib.Core.Option.{some}
 use mathlib.Core.List.{List, [], _∷_, _++_}
 use lib.ListN.{length, getD, take, drop}
@@ -18,7 +18,7 @@ use Rattle.matching.specs.Stretches.{matchOf}
 use Rattle.evaluation.specs.declared.machine.Advanced.{Advanced}
 use Rattle.evaluation.specs.declared.run.Ended.{Ended}
 use Rattle.evaluation.specs.declared.machine.Stop.the-variants.{Finished, Deep, Ready}
-use Rattle.evaluation.specs.Evaluation.{Run, Outcome, settled, stopped, rewrite, evaluation}
+use Rattle.evaluation.specs.Evaluation.{Run, Outcome, rewrite, evaluation}
 use Rattle.evaluation.specs.Machine.{position, Opened, base, down, resume, Next, finished, deep, ready, advance}
 use Rattle.evaluation.specs.Area.{area, termIn, outerIn, countIn, Going, Positioned, Stored, Holds}
 use Rattle.evaluation.specs.Arrival.{Arrived}

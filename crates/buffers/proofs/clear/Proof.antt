@@ -1,17 +1,14 @@
-use mathlib.Core.Path.{_≡_, refl, sym, ap, _∙_}
-use mathlib.Core.List.{List, _++_}
-use Prim.Native.Nat.{ℕ, _+_, _-_, _≤_, _<_}
+-- `clear` meets its contract.
+use mathlib.Core.Path.{_≡_, _∙_}
+use Prim.Native.Nat.{_-_, _≤_}
 use native.Mathlib.Omega.{arith}
-use lib.ListN.{length, take, drop, getD, length-set, length-replicate}
-use lib.Seq.{length-sets}
-use Rattle.buffers.specs.Words.{part, over, zeros}
+use lib.ListN.{length, length-set}
+use Rattle.buffers.specs.Words.{over, zeros}
 use Rattle.buffers.proofs.Over.{over-snoc}
 use Rattle.buffers.proofs.Pads.{length-zeros, zeros-snoc}
 use borrow.Author.Needs.{needs}
 use Rattle.buffers.proofs.clear.Statement.{statement}
 use Rattle.buffers.proofs.clear.Tie as tie
-use Rattle.buffers.proofs.clear.Reads as reads
-use Rattle.buffers.proofs.clear.Lts as lts
 
 abbrev Inv-loop : tie.InvT-loop
 Inv-loop w₀ at n i₀ w i = (i ≤ n) × (length w ≡ length w₀) × (w ≡ over w₀ at (zeros i))
@@ -19,42 +16,33 @@ Inv-loop w₀ at n i₀ w i = (i ≤ n) × (length w ≡ length w₀) × (w ≡ 
 abbrev μ-loop : tie.MeasureT-loop
 μ-loop w₀ at n i₀ w i = n - i
 
--- src/lib.rt:49:5
 loop-holds : tie.Need-loop-holds Inv-loop μ-loop
 unfolding zeros
 loop-holds c = search needs
 
--- src/lib.rt:50:11
 add-w : tie.Need-add-w Inv-loop μ-loop
 add-w c = search needs
 
--- src/lib.rt:50:9
 mul-w : tie.Need-mul-w Inv-loop μ-loop
 mul-w c = search needs
 
--- src/lib.rt:50:9
 slice-write-w : tie.Need-slice-write-w Inv-loop μ-loop
 slice-write-w c = search needs
 
--- src/lib.rt:51:9
 add-i : tie.Need-add-i Inv-loop μ-loop
 add-i c = search needs
 
--- src/lib.rt:49:5
 loop-less : tie.Need-loop-less Inv-loop μ-loop
 loop-less c = search needs
 
--- src/lib.rt:49:5
 loop-again : tie.Need-loop-again Inv-loop μ-loop
 loop-again c =
     let l = c .before .loop in
     (omega arith, rw length-set (l .inv .1), rw (l .inv .2, zeros-snoc, over-snoc, length-zeros))
 
--- src/lib.rt:44:1
 same-length : tie.Need-same-length Inv-loop μ-loop
 same-length c = search needs
 
--- src/lib.rt:44:1
 returns : tie.Need-returns Inv-loop μ-loop
 returns c =
     let l = c .before .loop in

@@ -1,17 +1,15 @@
-use mathlib.Core.Path.{_≡_, refl, sym, ap, _∙_}
-use mathlib.Core.List.{List, _++_}
-use Prim.Native.Nat.{ℕ, _+_, _-_, _≤_, _<_}
+-- `copy_in` meets its contract.
+use mathlib.Core.Path.{_≡_, _∙_}
+use Prim.Native.Nat.{_-_, _≤_}
 use native.Mathlib.Omega.{arith}
-use lib.ListN.{length, take, drop, getD, length-set, length-replicate}
+use lib.ListN.{length, take, length-set}
 use native.Mathlib.Numerals.{add-one}
 use lib.Seq.{length-take-le, take-suc, take-all}
-use Rattle.buffers.specs.Words.{part, over, zeros}
+use Rattle.buffers.specs.Words.{over}
 use Rattle.buffers.proofs.Over.{over-snoc}
 use borrow.Author.Needs.{needs}
 use Rattle.buffers.proofs.copy_in.Statement.{statement}
 use Rattle.buffers.proofs.copy_in.Tie as tie
-use Rattle.buffers.proofs.copy_in.Reads as reads
-use Rattle.buffers.proofs.copy_in.Lts as lts
 
 abbrev Inv-loop : tie.InvT-loop
 Inv-loop w₀ at src i₀ w i = (i ≤ length src) × (length w ≡ length w₀) × (w ≡ over w₀ at (take i src))
@@ -19,39 +17,30 @@ Inv-loop w₀ at src i₀ w i = (i ≤ length src) × (length w ≡ length w₀)
 abbrev μ-loop : tie.MeasureT-loop
 μ-loop w₀ at src i₀ w i = length src - i
 
--- src/lib.rt:61:5
 loop-holds : tie.Need-loop-holds Inv-loop μ-loop
 loop-holds c = search needs
 
--- src/lib.rt:62:21
 mul-w : tie.Need-mul-w Inv-loop μ-loop
 mul-w c = search needs
 
--- src/lib.rt:62:21
 shared-slice-read-w : tie.Need-shared-slice-read-w Inv-loop μ-loop
 shared-slice-read-w c = search needs
 
--- src/lib.rt:62:11
 add-w : tie.Need-add-w Inv-loop μ-loop
 add-w c = search needs
 
--- src/lib.rt:62:9
 mul-w-2 : tie.Need-mul-w-2 Inv-loop μ-loop
 mul-w-2 c = search needs
 
--- src/lib.rt:62:9
 slice-write-w : tie.Need-slice-write-w Inv-loop μ-loop
 slice-write-w c = search needs
 
--- src/lib.rt:63:9
 add-i : tie.Need-add-i Inv-loop μ-loop
 add-i c = search needs
 
--- src/lib.rt:61:5
 loop-less : tie.Need-loop-less Inv-loop μ-loop
 loop-less c = search needs
 
--- src/lib.rt:61:5
 loop-again : tie.Need-loop-again Inv-loop μ-loop
 loop-again c =
     let l = c .before .before .loop in
@@ -59,11 +48,9 @@ loop-again c =
     let n : length (take (l .i) src) ≡ l .i = length-take-le (l .i) src (omega arith) in
     (omega arith, rw length-set (l .inv .1), rw (l .inv .2, add-one, take-suc src (l .i) 0 (omega arith), over-snoc, n))
 
--- src/lib.rt:56:1
 same-length : tie.Need-same-length Inv-loop μ-loop
 same-length c = search needs
 
--- src/lib.rt:56:1
 returns : tie.Need-returns Inv-loop μ-loop
 returns c =
     let l = c .before .loop in

@@ -1,16 +1,14 @@
-use mathlib.Core.Path.{_≡_, refl, sym, ap, _∙_}
-use mathlib.Core.List.{List, _++_}
-use Prim.Native.Nat.{ℕ, _+_, _-_, _≤_, _<_}
+-- `move_up` meets its contract.
+use mathlib.Core.Path.{_≡_, refl, _∙_}
+use Prim.Native.Nat.{_+_, _-_, _≤_}
 use native.Mathlib.Omega.{arith}
-use lib.ListN.{length, take, drop, getD, length-set, length-replicate}
+use lib.ListN.{length, length-set}
 use native.Mathlib.Nat.{add-zero, sub-zero}
-use Rattle.buffers.specs.Words.{part, over, zeros}
-use Rattle.buffers.proofs.Over.{move-up, length-part}
+use Rattle.buffers.specs.Words.{part, over}
+use Rattle.buffers.proofs.Over.{move-up}
 use borrow.Author.Needs.{needs}
 use Rattle.buffers.proofs.move_up.Statement.{statement}
 use Rattle.buffers.proofs.move_up.Tie as tie
-use Rattle.buffers.proofs.move_up.Reads as reads
-use Rattle.buffers.proofs.move_up.Lts as lts
 
 abbrev Inv-loop : tie.InvT-loop
 Inv-loop w₀ from to n i₀ w i = (i ≤ n) × (length w ≡ length w₀) × (w ≡ over w₀ (to + i) (part (from + i) (n - i) w₀))
@@ -18,45 +16,35 @@ Inv-loop w₀ from to n i₀ w i = (i ≤ n) × (length w ≡ length w₀) × (w
 abbrev μ-loop : tie.MeasureT-loop
 μ-loop w₀ from to n i₀ w i = i
 
--- src/lib.rt:25:5
 loop-holds : tie.Need-loop-holds Inv-loop μ-loop
 loop-holds c =
     let e : c .args .n - c .args .n ≡ 0 = omega arith in
     (omega arith, refl, rw e)
 
--- src/lib.rt:26:9
 sub-i : tie.Need-sub-i Inv-loop μ-loop
 sub-i c = search needs
 
--- src/lib.rt:27:23
 add-w : tie.Need-add-w Inv-loop μ-loop
 add-w c = search needs
 
--- src/lib.rt:27:21
 mul-w : tie.Need-mul-w Inv-loop μ-loop
 mul-w c = search needs
 
--- src/lib.rt:27:21
 slice-read-w : tie.Need-slice-read-w Inv-loop μ-loop
 slice-read-w c = search needs
 
--- src/lib.rt:27:11
 add-w-2 : tie.Need-add-w-2 Inv-loop μ-loop
 add-w-2 c = search needs
 
--- src/lib.rt:27:9
 mul-w-2 : tie.Need-mul-w-2 Inv-loop μ-loop
 mul-w-2 c = search needs
 
--- src/lib.rt:27:9
 slice-write-w : tie.Need-slice-write-w Inv-loop μ-loop
 slice-write-w c = search needs
 
--- src/lib.rt:25:5
 loop-less : tie.Need-loop-less Inv-loop μ-loop
 loop-less c = search needs
 
--- src/lib.rt:25:5
 loop-again : tie.Need-loop-again Inv-loop μ-loop
 loop-again c =
     let l = c .before .before .loop in
@@ -66,11 +54,9 @@ loop-again c =
     let n : a .n - (l .i - 1) ≡ a .n - l .i + 1 = omega arith in
     (omega arith, rw length-set (l .inv .1), rw (l .inv .2, t, f, n) (move-up (a .w .now) (a .from + (l .i - 1)) (a .to + (l .i - 1)) (a .n - l .i) 0 (omega arith) (omega arith)))
 
--- src/lib.rt:20:1
 same-length : tie.Need-same-length Inv-loop μ-loop
 same-length c = search needs
 
--- src/lib.rt:20:1
 returns : tie.Need-returns Inv-loop μ-loop
 returns c =
     let l = c .before .loop in

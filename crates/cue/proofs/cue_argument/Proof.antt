@@ -1,3 +1,4 @@
+-- `cue_argument` meets its contract.
 use Rattle.system.proofs.Spans.{tail}
 use native.Mathlib.Omega.{arith}
 use lib.ListN.{length}
@@ -6,55 +7,42 @@ use mathlib.Core.Path.{ap}
 use borrow.Author.Needs.{needs}
 use Rattle.cue.proofs.cue_argument.Statement.{statement}
 use Rattle.cue.proofs.cue_argument.Tie as tie
-use Rattle.cue.proofs.cue_argument.Reads as reads
-use Rattle.cue.proofs.cue_argument.Lts as lts
-use Rattle.system.proofs.argument.Reads as argument-reads
-use Rattle.system.proofs.words.spans.Reads as spans-reads
 
--- src/lib.rt:97:9
 argument-requires : tie.Need-argument-requires
 argument-requires c κs = search needs
 
--- src/lib.rt:100:9
 returns : tie.Need-returns
 returns c = let a = c .before .before .before .before .args in
     let e = ap length (c .before .argument .ensures .0) in
     empty-part (a .book .now) (a .term .now) (a .i) _ e (c .if1 .taken)
 
--- src/lib.rt:105:45
 sub-spans : tie.Need-sub-spans
 sub-spans c = let a = c .before .before .before .before .args in
     let e = ap length (c .before .argument .ensures .0) in
     let h = there (a .book .now) (a .term .now) (a .i) _ e (c .if1 .left) in
     let w = h .words in omega arith
 
--- src/lib.rt:105:45
 part-spans-start : tie.Need-part-spans-start
 part-spans-start c = let a = c .before .before .before .before .args in
     let e = ap length (c .before .argument .ensures .0) in
     let h = there (a .book .now) (a .term .now) (a .i) _ e (c .if1 .left) in
     let w = h .words in omega arith
 
--- src/lib.rt:105:45
 part-spans-end : tie.Need-part-spans-end
 part-spans-end c = search needs
 
--- src/lib.rt:105:57
 sub-spans-2 : tie.Need-sub-spans-2
 sub-spans-2 c = let a = c .before .before .before .before .before .args in
     let e = ap length (c .before .before .argument .ensures .0) in
     let h = there (a .book .now) (a .term .now) (a .i) _ e (c .before .if1 .left) in
     let w = h .positive in omega arith
 
--- src/lib.rt:105:9
 spans-requires : tie.Need-spans-requires
 spans-requires c κs = search needs
 
--- src/lib.rt:107:16
 add-t9 : tie.Need-add-t9
 add-t9 c = search needs
 
--- src/lib.rt:93:1
 returns-2 : tie.Need-returns-2
 returns-2 c = let a = c .before .before .before .before .before .before .args in
     let e = ap length (c .before .before .before .argument .ensures .0) in

@@ -1,30 +1,23 @@
+-- `cue_first_match` meets its contract.
 use Rattle.cue.specs.Exports.{matchFor}
 use Rattle.cue.proofs.Exported.{match-nothing, match-first}
 use mathlib.Core.Path.{ap, _∙_}
 use borrow.Author.Needs.{needs}
 use Rattle.cue.proofs.cue_first_match.Statement.{statement}
 use Rattle.cue.proofs.cue_first_match.Tie as tie
-use Rattle.cue.proofs.cue_first_match.Reads as reads
-use Rattle.cue.proofs.cue_first_match.Lts as lts
-use Rattle.matching.proofs.first_match.Reads as first-match-reads
 
--- src/lib.rt:125:9
 first-match-requires : tie.Need-first-match-requires
 first-match-requires c κs = search needs
 
--- src/lib.rt:130:27
 enum-told : tie.Need-enum-told
 enum-told c = search needs
 
--- src/lib.rt:139:13
 enum-known-found : tie.Need-enum-known-found
 enum-known-found c = search needs
 
--- src/lib.rt:121:1
 returns : tie.Need-returns
 returns c = match-nothing _ (c .enum-told .given .1) ∙ ap matchFor (c .before .before .before .before .first-match .ensures)
 
--- src/lib.rt:121:1
 returns-2 : tie.Need-returns-2
 returns-2 c = match-first _ _ _ _ (c .before .found .given .1) ∙ ap matchFor (c .before .before .before .before .before .first-match .ensures)
 

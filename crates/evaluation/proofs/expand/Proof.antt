@@ -1,7 +1,6 @@
+-- `expand` meets its contract.
 use Prim.Native.Nat.{_≤_}
 use Rattle.evaluation.proofs.Expanding.{Checks, checks, checks-accepted, cramped-answer, cramped-work, refuses, evaluates, size-bounded, whole-length, finishes}
-use Rattle.evaluation.specs.Ended.{Ends}
-use Rattle.evaluation.specs.Expansion.{ended}
 use Rattle.evaluation.specs.Evaluation.{evaluation}
 use Rattle.matching.specs.Accepted.{systemOf}
 use Rattle.system.specs.Answers.{termAnswer}
@@ -12,13 +11,6 @@ use mathlib.Core.Path.{_≡_, refl, sym, ap, _∙_}
 use borrow.Author.Needs.{needs}
 use Rattle.evaluation.proofs.expand.Statement.{statement}
 use Rattle.evaluation.proofs.expand.Tie as tie
-use Rattle.evaluation.proofs.expand.Reads as reads
-use Rattle.evaluation.proofs.expand.Lts as lts
-use Rattle.evaluation.proofs.finish.Reads as finish-reads
-use Rattle.evaluation.proofs.refused.Reads as refused-reads
-use Rattle.evaluation.proofs.run.run.Reads as run-reads
-use Rattle.system.proofs.check_term.Reads as check-term-reads
-use Rattle.system.proofs.shape_of.Reads as shape-of-reads
 
 -- the check of the term passed
 good : (c : tie.Else3) → termAnswer (c .before .before .before .before .before .before .before .before .before .args .book .now) (c .before .before .before .before .before .before .before .before .before .args .term .now) .number ≡ 0
@@ -34,72 +26,57 @@ ran c = c .run .kept .1 .1 .1 .1 .0 ∙ length-take-le 8192 (c .before .before .
 small : (c : tie.After-run) → c .run .result .size ≤ 4096
 small c = size-bounded (c .before .before .before .before .before .before .before .before .before .before .before .before .args .book .now) (c .before .before .before .before .before .before .before .before .before .before .before .before .args .term .now) (c .before .before .before .before .before .before .before .before .before .before .before .before .args .limit) (checked (c .before .before .before)) (c .run .result) (c .run .last .1 .1 .1 .1 .0) (c .run .ensures)
 
--- src/lib.rt:27:9
 refused-requires : tie.Need-refused-requires
 refused-requires c κs = search needs
 
--- src/lib.rt:27:9
 returns : tie.Need-returns
 returns c = let a = c .before .before .before .before .before .before .args in
     rw (cramped-answer (a .book .now) (a .term .now) (a .limit) (a .out .now) (a .work .now) (c .before .if1 .taken)) (c .refused .ensures, (refl, refl))
 
--- src/lib.rt:30:9
 refused-requires-2 : tie.Need-refused-requires-2
 refused-requires-2 c κs = search needs
 
--- src/lib.rt:30:9
 returns-2 : tie.Need-returns-2
 returns-2 c = let a = c .before .before .before .before .before .before .before .args in
     rw (cramped-work (a .book .now) (a .term .now) (a .limit) (a .out .now) (a .work .now) (c .before .before .if1 .left) (c .before .if2 .taken)) (c .refused2 .ensures, (refl, refl))
 
--- src/lib.rt:32:9
 check-term-requires : tie.Need-check-term-requires
 check-term-requires c κs = search needs
 
--- src/lib.rt:34:9
 returns-3 : tie.Need-returns-3
 returns-3 c = let a = c .before .before .before .before .before .before .before .before .before .args in
     let e = c .before .before .check-term .ensures in
     rw (refuses (a .book .now) (a .term .now) (a .limit) (a .out .now) (a .work .now) (c .before .before .before .before .if1 .left) (c .before .before .before .if2 .left) (λ z. c .if3 .taken (ap (λ y. y .number) e ∙ z))) (e, (refl, refl))
 
--- src/lib.rt:36:9
 shape-of-requires : tie.Need-shape-of-requires
 shape-of-requires c κs = search needs
 
--- src/lib.rt:37:48
 sub-run : tie.Need-sub-run
 sub-run c = search needs
 
--- src/lib.rt:37:48
 part-run-start : tie.Need-part-run-start
 part-run-start c = search needs
 
--- src/lib.rt:37:48
 part-run-end : tie.Need-part-run-end
 part-run-end c = search needs
 
--- src/lib.rt:37:9
 run-requires : tie.Need-run-requires
 run-requires c κs = let a = c .before .before .before .before .before .before .before .before .before .before .before .args in
     let k = checked (c .before .before) in
     (checks-accepted (a .book .now) (a .term .now) k (c .before .shape-of .result) (c .before .shape-of .ensures), k .whole, k .bounded, length-take-le 8192 (a .work .now) (c .before .before .before .before .before .if2 .left))
 
--- src/lib.rt:38:5
 finish-requires : tie.Need-finish-requires
 finish-requires c κs = let a = c .before .before .before .before .before .before .before .before .before .before .before .before .before .before .before .before .args in
     let l = c .before .before .before .before .before .before .before .before .before .before .if2 .left in
     let r = c .before .before .before .before .run in
     (omega (arith, whole-length (a .out .now) (a .work .now) (r .last .1 .1 .1 .1 .0) l (ran (c .before .before .before .before))), small (c .before .before .before .before), c .before .before .before .before .before .before .before .before .before .before .before .if1 .left)
 
--- src/lib.rt:21:1
 same-length : tie.Need-same-length
 same-length c = search needs
 
--- src/lib.rt:21:1
 same-length-2 : tie.Need-same-length-2
 same-length-2 c = search needs
 
--- src/lib.rt:21:1
 returns-4 : tie.Need-returns-4
 returns-4 c = let a = c .before .before .before .before .before .before .before .before .before .before .before .before .before .before .before .before .before .before .before .before .before .args in
     let f = c .before .before .before .before .finish in

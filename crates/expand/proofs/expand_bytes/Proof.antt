@@ -1,41 +1,31 @@
+-- `expand_bytes` meets its contract.
 use Rattle.expand.proofs.Loads.{words-length}
-use lib.ListN.{length, take, length-take}
+use lib.ListN.{length, length-take}
 use native.Mathlib.Omega.{arith}
 use mathlib.Core.Path.{_≡_}
 use Prim.Native.Nat.{_≤_, _-_}
 use borrow.Author.Needs.{needs}
 use Rattle.expand.proofs.expand_bytes.Statement.{statement}
 use Rattle.expand.proofs.expand_bytes.Tie as tie
-use Rattle.expand.proofs.expand_bytes.Reads as reads
-use Rattle.expand.proofs.expand_bytes.Lts as lts
-use Rattle.expand.proofs.expand_words.Reads as expand-words-reads
-use Rattle.expand.proofs.load.Reads as load-reads
 
--- src/main.rt:85:24
 slice-aggregate-load : tie.Need-slice-aggregate-load
 slice-aggregate-load c = search needs
 
--- src/main.rt:85:9
 load-requires : tie.Need-load-requires
 load-requires c κs = search needs
 
--- src/main.rt:87:23
 slice-aggregate-load-2 : tie.Need-slice-aggregate-load-2
 slice-aggregate-load-2 c = search needs
 
--- src/main.rt:87:9
 load-requires-2 : tie.Need-load-requires-2
 load-requires-2 c κs = search needs
 
--- src/main.rt:90:18
 sub-expand-words : tie.Need-sub-expand-words
 sub-expand-words c = search needs
 
--- src/main.rt:90:18
 part-expand-words-start : tie.Need-part-expand-words-start
 part-expand-words-start c = search needs
 
--- src/main.rt:90:18
 part-expand-words-end : tie.Need-part-expand-words-end
 part-expand-words-end c = let l = c .before .before .before .before .before .load in
     let k : length (l .last .1 .0) ≡ 21251 = l .kept .1 .0 in
@@ -45,15 +35,12 @@ part-expand-words-end c = let l = c .before .before .before .before .before .loa
     let r : l .result ≤ length (l .last .1 .0) = omega arith in
     r
 
--- src/main.rt:90:32
 sub-expand-words-2 : tie.Need-sub-expand-words-2
 sub-expand-words-2 c = search needs
 
--- src/main.rt:90:32
 part-expand-words-start-2 : tie.Need-part-expand-words-start-2
 part-expand-words-start-2 c = search needs
 
--- src/main.rt:90:32
 part-expand-words-end-2 : tie.Need-part-expand-words-end-2
 part-expand-words-end-2 c = let l = c .before .before .before .before .load2 in
     let k : length (l .last .1 .0) ≡ 4097 = l .kept .1 .0 in
@@ -63,15 +50,12 @@ part-expand-words-end-2 c = let l = c .before .before .before .before .load2 in
     let r : l .result ≤ length (l .last .1 .0) = omega arith in
     r
 
--- src/main.rt:90:45
 slice-aggregate-expand-words : tie.Need-slice-aggregate-expand-words
 slice-aggregate-expand-words c = search needs
 
--- src/main.rt:90:55
 slice-aggregate-expand-words-2 : tie.Need-slice-aggregate-expand-words-2
 slice-aggregate-expand-words-2 c = search needs
 
--- src/main.rt:90:5
 expand-words-requires : tie.Need-expand-words-requires
 expand-words-requires c κs = let l = c .before .before .before .before .before .before .before .load2 in
     let k : length (l .last .1 .0) ≡ 4097 = l .kept .1 .0 in
@@ -81,7 +65,6 @@ expand-words-requires c κs = let l = c .before .before .before .before .before 
     let t = length-take (l .result - 0) (l .last .1 .0) in
     omega (arith, p, t)
 
--- src/main.rt:81:1
 returns : tie.Need-returns
 returns c = search needs
 

@@ -1,90 +1,67 @@
+-- `expand_cue` meets its contract.
 use Rattle.expand.proofs.Loads.{held-bytes}
-use lib.ListN.{length, take, length-take}
+use lib.ListN.{length, length-take}
 use native.Mathlib.Omega.{arith}
 use mathlib.Core.Path.{_≡_}
 use Prim.Native.Nat.{ℕ, _≤_, _-_}
 use borrow.Author.Needs.{needs}
 use Rattle.expand.proofs.expand_cue.Statement.{statement}
 use Rattle.expand.proofs.expand_cue.Tie as tie
-use Rattle.expand.proofs.expand_cue.Reads as reads
-use Rattle.expand.proofs.expand_cue.Lts as lts
-use Rattle.expand.proofs.expand_bytes.Reads as expand-bytes-reads
-use Rattle.expand.proofs.read_file.Reads as read-file-reads
-use Rattle.printing.proofs.line.Reads as line-reads
 
--- src/main.rt:98:23
 slice-aggregate-read-file : tie.Need-slice-aggregate-read-file
 slice-aggregate-read-file c = search needs
 
--- src/main.rt:98:36
 slice-aggregate-read-file-2 : tie.Need-slice-aggregate-read-file-2
 slice-aggregate-read-file-2 c = search needs
 
--- src/main.rt:98:9
 read-file-requires : tie.Need-read-file-requires
 read-file-requires c κs = search needs
 
--- src/main.rt:101:28
 enum-told : tie.Need-enum-told
 enum-told c = search needs
 
--- src/main.rt:101:28
 slice-aggregate-line : tie.Need-slice-aggregate-line
 slice-aggregate-line c = search needs
 
--- src/main.rt:101:13
 line-requires : tie.Need-line-requires
 line-requires c κs = search needs
 
--- src/main.rt:104:28
 enum-told-2 : tie.Need-enum-told-2
 enum-told-2 c = search needs
 
--- src/main.rt:104:28
 slice-aggregate-line-2 : tie.Need-slice-aggregate-line-2
 slice-aggregate-line-2 c = search needs
 
--- src/main.rt:104:13
 line-requires-2 : tie.Need-line-requires-2
 line-requires-2 c κs = search needs
 
--- src/main.rt:107:28
 enum-told-3 : tie.Need-enum-told-3
 enum-told-3 c = search needs
 
--- src/main.rt:107:28
 slice-aggregate-line-3 : tie.Need-slice-aggregate-line-3
 slice-aggregate-line-3 c = search needs
 
--- src/main.rt:107:13
 line-requires-3 : tie.Need-line-requires-3
 line-requires-3 c κs = search needs
 
--- src/main.rt:109:21
 enum-known-f : tie.Need-enum-known-f
 enum-known-f c = search needs
 
--- src/main.rt:111:32
 slice-aggregate-line-4 : tie.Need-slice-aggregate-line-4
 slice-aggregate-line-4 c = search needs
 
--- src/main.rt:111:17
 line-requires-4 : tie.Need-line-requires-4
 line-requires-4 c κs = search needs
 
--- src/main.rt:112:17
 returns : tie.Need-returns
 returns c = search needs
 
--- src/main.rt:114:32
 sub-expand-bytes : tie.Need-sub-expand-bytes
 sub-expand-bytes c = search needs
 
--- src/main.rt:114:32
 part-expand-bytes-start : tie.Need-part-expand-bytes-start
 part-expand-bytes-start c = search needs
 
--- src/main.rt:114:32
 part-expand-bytes-end : tie.Need-part-expand-bytes-end
 part-expand-bytes-end c = let f = c .before .before .before .before .before .before .read-file in
     let k : length (f .last .1 .0) ≡ 8195 = f .kept .1 .0 in
@@ -93,7 +70,6 @@ part-expand-bytes-end c = let f = c .before .before .before .before .before .bef
     let r : n ≤ length (f .last .1 .0) = omega arith in
     r
 
--- src/main.rt:114:13
 expand-bytes-requires : tie.Need-expand-bytes-requires
 expand-bytes-requires c κs = let f = c .before .before .before .before .before .before .before .read-file in
     let k : length (f .last .1 .0) ≡ 8195 = f .kept .1 .0 in
@@ -103,19 +79,15 @@ expand-bytes-requires c κs = let f = c .before .before .before .before .before 
     let m = c .before .before .if1 .left in
     (c .before .before .before .before .before .before .before .before .before .before .before .pre, omega arith, omega arith)
 
--- src/main.rt:94:1
 returns-2 : tie.Need-returns-2
 returns-2 c = search needs
 
--- src/main.rt:94:1
 returns-3 : tie.Need-returns-3
 returns-3 c = search needs
 
--- src/main.rt:94:1
 returns-4 : tie.Need-returns-4
 returns-4 c = search needs
 
--- src/main.rt:94:1
 returns-5 : tie.Need-returns-5
 returns-5 c = search needs
 

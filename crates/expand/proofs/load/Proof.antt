@@ -1,15 +1,13 @@
+-- `load` meets its contract.
 use Rattle.expand.proofs.Loads.{words-length, load-turn, load-end}
 use Rattle.expand.specs.Files.{wordsOf}
 use Rattle.buffers.specs.Words.{over}
 use lib.ListN.{length, take, length-set}
-use mathlib.Core.Path.{_≡_, sym, _∙_}
-use Prim.Native.Nat.{ℕ, _≤_, _-_, _*_, _+_}
+use mathlib.Core.Path.{_≡_, sym}
+use Prim.Native.Nat.{_≤_, _-_}
 use borrow.Author.Needs.{needs}
 use Rattle.expand.proofs.load.Statement.{statement}
 use Rattle.expand.proofs.load.Tie as tie
-use Rattle.expand.proofs.load.Reads as reads
-use Rattle.expand.proofs.load.Lts as lts
-use Rattle.expand.proofs.word.Reads as word-reads
 
 abbrev Inv-loop : tie.InvT-loop
 Inv-loop bytes words₀ n i₀ words i = (words ≡ over words₀ 0 (take i (wordsOf bytes))) × (length words ≡ length words₀) × (i ≤ n)
@@ -17,57 +15,44 @@ Inv-loop bytes words₀ n i₀ words i = (words ≡ over words₀ 0 (take i (wor
 abbrev μ-loop : tie.MeasureT-loop
 μ-loop bytes words₀ n i₀ words i = n - i
 
--- src/main.rt:50:5
 loop-holds : tie.Need-loop-holds Inv-loop μ-loop
 loop-holds c = search needs
 
--- src/main.rt:51:18
 mul-at : tie.Need-mul-at Inv-loop μ-loop
 mul-at c = search needs
 
--- src/main.rt:52:25
 shared-slice-read-word : tie.Need-shared-slice-read-word Inv-loop μ-loop
 shared-slice-read-word c = search needs
 
--- src/main.rt:52:42
 add-word : tie.Need-add-word Inv-loop μ-loop
 add-word c = search needs
 
--- src/main.rt:52:36
 shared-slice-read-word-2 : tie.Need-shared-slice-read-word-2 Inv-loop μ-loop
 shared-slice-read-word-2 c = search needs
 
--- src/main.rt:52:20
 word-requires : tie.Need-word-requires Inv-loop μ-loop
 word-requires c κs = search needs
 
--- src/main.rt:52:9
 mul-words : tie.Need-mul-words Inv-loop μ-loop
 mul-words c = search needs
 
--- src/main.rt:52:9
 slice-write-words : tie.Need-slice-write-words Inv-loop μ-loop
 slice-write-words c = search needs
 
--- src/main.rt:53:9
 add-i : tie.Need-add-i Inv-loop μ-loop
 add-i c = search needs
 
--- src/main.rt:50:5
 loop-less : tie.Need-loop-less Inv-loop μ-loop
 loop-less c = search needs
 
--- src/main.rt:50:5
 loop-again : tie.Need-loop-again Inv-loop μ-loop
 loop-again c = let a = c .before .before .before .before .before .before .before .args in
     let l = c .before .before .before .before .loop in
     (load-turn (a .words .now) (a .bytes .now) (l .words) (l .i) (l .inv .0) (c .word .result) (c .word .ensures) (c .before .before .before .loop-test .taken), rw (length-set (l .words) (l .i) (c .word .result)) (l .inv .1), search needs)
 
--- src/main.rt:44:1
 same-length : tie.Need-same-length Inv-loop μ-loop
 same-length c = search needs
 
--- src/main.rt:44:1
 returns : tie.Need-returns Inv-loop μ-loop
 returns c = let a = c .before .before .before .before .args in
     let l = c .before .loop in

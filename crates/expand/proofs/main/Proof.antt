@@ -1,78 +1,58 @@
+-- `main` meets its contract.
 use Rattle.expand.proofs.Loads.{held-bytes}
-use lib.ListN.{length, take, length-take}
+use lib.ListN.{length, length-take}
 use native.Mathlib.Omega.{arith}
 use mathlib.Core.Path.{_≡_}
 use Prim.Native.Nat.{ℕ, _≤_, _-_}
 use borrow.Author.Needs.{needs}
 use Rattle.expand.proofs.main.Statement.{statement}
 use Rattle.expand.proofs.main.Tie as tie
-use Rattle.expand.proofs.main.Reads as reads
-use Rattle.expand.proofs.main.Lts as lts
-use Rattle.expand.proofs.expand_cue.Reads as expand-cue-reads
-use Rattle.expand.proofs.read_file.Reads as read-file-reads
-use Rattle.printing.proofs.line.Reads as line-reads
 
--- src/main.rt:121:23
 slice-aggregate-read-file : tie.Need-slice-aggregate-read-file
 slice-aggregate-read-file c = search needs
 
--- src/main.rt:121:37
 slice-aggregate-read-file-2 : tie.Need-slice-aggregate-read-file-2
 slice-aggregate-read-file-2 c = search needs
 
--- src/main.rt:121:9
 read-file-requires : tie.Need-read-file-requires
 read-file-requires c κs = search needs
 
--- src/main.rt:124:28
 enum-told : tie.Need-enum-told
 enum-told c = search needs
 
--- src/main.rt:124:28
 slice-aggregate-line : tie.Need-slice-aggregate-line
 slice-aggregate-line c = search needs
 
--- src/main.rt:124:13
 line-requires : tie.Need-line-requires
 line-requires c κs = search needs
 
--- src/main.rt:127:28
 enum-told-2 : tie.Need-enum-told-2
 enum-told-2 c = search needs
 
--- src/main.rt:127:28
 slice-aggregate-line-2 : tie.Need-slice-aggregate-line-2
 slice-aggregate-line-2 c = search needs
 
--- src/main.rt:127:13
 line-requires-2 : tie.Need-line-requires-2
 line-requires-2 c κs = search needs
 
--- src/main.rt:130:28
 enum-told-3 : tie.Need-enum-told-3
 enum-told-3 c = search needs
 
--- src/main.rt:130:28
 slice-aggregate-line-3 : tie.Need-slice-aggregate-line-3
 slice-aggregate-line-3 c = search needs
 
--- src/main.rt:130:13
 line-requires-3 : tie.Need-line-requires-3
 line-requires-3 c κs = search needs
 
--- src/main.rt:132:21
 enum-known-f : tie.Need-enum-known-f
 enum-known-f c = search needs
 
--- src/main.rt:133:24
 sub-expand-cue : tie.Need-sub-expand-cue
 sub-expand-cue c = search needs
 
--- src/main.rt:133:24
 part-expand-cue-start : tie.Need-part-expand-cue-start
 part-expand-cue-start c = search needs
 
--- src/main.rt:133:24
 part-expand-cue-end : tie.Need-part-expand-cue-end
 part-expand-cue-end c = let f = c .before .before .before .before .before .read-file in
     let k : length (f .last .1 .0) ≡ 42503 = f .kept .1 .0 in
@@ -81,7 +61,6 @@ part-expand-cue-end c = let f = c .before .before .before .before .before .read-
     let r : n ≤ length (f .last .1 .0) = omega arith in
     r
 
--- src/main.rt:133:13
 expand-cue-requires : tie.Need-expand-cue-requires
 expand-cue-requires c κs = let f = c .before .before .before .before .before .before .read-file in
     let k : length (f .last .1 .0) ≡ 42503 = f .kept .1 .0 in
@@ -90,19 +69,15 @@ expand-cue-requires c κs = let f = c .before .before .before .before .before .b
     let t = length-take (n - 0) (f .last .1 .0) in
     omega arith
 
--- src/main.rt:119:1
 returns : tie.Need-returns
 returns c = search needs
 
--- src/main.rt:119:1
 returns-2 : tie.Need-returns-2
 returns-2 c = search needs
 
--- src/main.rt:119:1
 returns-3 : tie.Need-returns-3
 returns-3 c = search needs
 
--- src/main.rt:119:1
 returns-4 : tie.Need-returns-4
 returns-4 c = search needs
 

@@ -1,11 +1,9 @@
+-- `words` meets its contract.
 use lib.ListN.{length}
 use Prim.Native.Nat.{_≤_, _-_}
 use borrow.Author.Needs.{needs}
 use Rattle.printing.proofs.words.Statement.{statement}
 use Rattle.printing.proofs.words.Tie as tie
-use Rattle.printing.proofs.words.Reads as reads
-use Rattle.printing.proofs.words.Lts as lts
-use Rattle.printing.proofs.number_line.Reads as number-line-reads
 
 abbrev Inv-loop : tie.InvT-loop
 Inv-loop ws i₀ i = i ≤ length ws
@@ -13,35 +11,27 @@ Inv-loop ws i₀ i = i ≤ length ws
 abbrev μ-loop : tie.MeasureT-loop
 μ-loop ws i₀ i = length ws - i
 
--- src/lib.rt:29:5
 loop-holds : tie.Need-loop-holds Inv-loop μ-loop
 loop-holds c = search needs
 
--- src/lib.rt:30:21
 mul-number-line : tie.Need-mul-number-line Inv-loop μ-loop
 mul-number-line c = search needs
 
--- src/lib.rt:30:21
 shared-slice-read-number-line : tie.Need-shared-slice-read-number-line Inv-loop μ-loop
 shared-slice-read-number-line c = search needs
 
--- src/lib.rt:30:9
 number-line-requires : tie.Need-number-line-requires Inv-loop μ-loop
 number-line-requires c κs = search needs
 
--- src/lib.rt:31:9
 add-i : tie.Need-add-i Inv-loop μ-loop
 add-i c = search needs
 
--- src/lib.rt:29:5
 loop-less : tie.Need-loop-less Inv-loop μ-loop
 loop-less c = search needs
 
--- src/lib.rt:29:5
 loop-again : tie.Need-loop-again Inv-loop μ-loop
 loop-again c = search needs
 
--- src/lib.rt:27:1
 returns : tie.Need-returns Inv-loop μ-loop
 returns c = search needs
 

@@ -29,139 +29,107 @@ ends c =
     let q = rw tail-length at (c .span .ensures .1) in
     omega arith
 
--- src/lib.rt:91:9
 check-term-requires : tie.Need-check-term-requires
 check-term-requires c κs = search needs
 
--- src/lib.rt:93:16
 sub-result : tie.Need-sub-result
 sub-result c = search needs
 
--- src/lib.rt:93:16
 part-result-start : tie.Need-part-result-start
 part-result-start c = search needs
 
--- src/lib.rt:93:16
 part-result-end : tie.Need-part-result-end
 part-result-end c = search needs
 
--- src/lib.rt:93:9
 returns : tie.Need-returns
 returns c = let a = c .before .before .before .before .before .before .args in
     let k = c .before .before .before .check-term in
     let e = argument-refused (a .book .now) (a .term .now) (a .i) (λ z. c .before .if1 .taken (ap (λ s. s .number) (k .ensures) ∙ z)) in
     (rw e, rw e)
 
--- src/lib.rt:96:16
 sub-result-2 : tie.Need-sub-result-2
 sub-result-2 c = search needs
 
--- src/lib.rt:96:16
 part-result-start-2 : tie.Need-part-result-start-2
 part-result-start-2 c = search needs
 
--- src/lib.rt:96:16
 part-result-end-2 : tie.Need-part-result-end-2
 part-result-end-2 c = search needs
 
--- src/lib.rt:96:9
 returns-2 : tie.Need-returns-2
 returns-2 c = let a = c .before .before .before .before .before .before .before .args in
     let e = argument-zero (a .book .now) (a .term .now) (whole (c .before .before)) (a .i) (c .before .if2 .taken) in
     (rw e, rw e)
 
--- src/lib.rt:98:27
 shared-slice-read-arity : tie.Need-shared-slice-read-arity
 shared-slice-read-arity c = whole (c .before .before) .some-words
 
--- src/lib.rt:98:8
 arity-requires : tie.Need-arity-requires
 arity-requires c κs = search needs
 
--- src/lib.rt:99:16
 sub-result-3 : tie.Need-sub-result-3
 sub-result-3 c = search needs
 
--- src/lib.rt:99:16
 part-result-start-3 : tie.Need-part-result-start-3
 part-result-start-3 c = search needs
 
--- src/lib.rt:99:16
 part-result-end-3 : tie.Need-part-result-end-3
 part-result-end-3 c = search needs
 
--- src/lib.rt:99:9
 returns-3 : tie.Need-returns-3
 returns-3 c = let a = c .before .before .before .before .before .before .before .before .before .before .args in
     let r = c .before .before .arity .ensures .0 in
     let e = argument-beyond (a .book .now) (a .term .now) (whole (c .before .before .before .before .before)) (a .i) (omega arith) (omega arith) in
     (rw e, rw e)
 
--- src/lib.rt:101:21
 sub-arguments : tie.Need-sub-arguments
 sub-arguments c = whole (c .before .before .before .before) .some-words
 
--- src/lib.rt:101:21
 part-arguments-start : tie.Need-part-arguments-start
 part-arguments-start c = whole (c .before .before .before .before) .some-words
 
--- src/lib.rt:101:21
 part-arguments-end : tie.Need-part-arguments-end
 part-arguments-end c = search needs
 
--- src/lib.rt:102:47
 sub-spans : tie.Need-sub-spans
 sub-spans c = search needs
 
--- src/lib.rt:102:17
 spans-requires : tie.Need-spans-requires
 spans-requires c κs = search needs
 
--- src/lib.rt:102:13
 add-a : tie.Need-add-a
 add-a c = search needs
 
--- src/lib.rt:103:16
 mul-part : tie.Need-mul-part
 mul-part c = search needs
 
--- src/lib.rt:103:16
 sub-part : tie.Need-sub-part
 sub-part c = starts c
 
--- src/lib.rt:103:16
 part-part-start : tie.Need-part-part-start
 part-part-start c = starts c
 
--- src/lib.rt:103:16
 part-part-end : tie.Need-part-part-end
 part-part-end c = search needs
 
--- src/lib.rt:104:17
 span-requires : tie.Need-span-requires
 span-requires c κs = search needs
 
--- src/lib.rt:104:13
 add-e : tie.Need-add-e
 add-e c = search needs
 
--- src/lib.rt:105:5
 mul-result : tie.Need-mul-result
 mul-result c = search needs
 
--- src/lib.rt:105:5
 sub-result-4 : tie.Need-sub-result-4
 sub-result-4 c = search needs
 
--- src/lib.rt:105:5
 part-result-start-4 : tie.Need-part-result-start-4
 part-result-start-4 c = search needs
 
--- src/lib.rt:105:5
 part-result-end-4 : tie.Need-part-result-end-4
 part-result-end-4 c = ends c
 
--- src/lib.rt:87:1
 returns-4 : tie.Need-returns-4
 returns-4 c = let a = c .before .before .before .before .before .before .before .before .before .before .before .before .before .before .args in
     let t = a .term .now in

@@ -4,20 +4,16 @@ use borrow.Author.Needs.{needs}
 use Rattle.system.proofs.check_term.Statement.{statement}
 use Rattle.system.proofs.check_term.Tie as tie
 
--- src/lib.rt:69:9
 scan-book-requires : tie.Need-scan-book-requires
 scan-book-requires c κs = search needs
 
--- src/lib.rt:71:9
 returns : tie.Need-returns
 returns c = let a = c .before .before .before .before .before .args in
     term-refused (a .book .now) (c .before .before .scan-book .result) (c .before .before .scan-book .ensures) (a .term .now) (c .if1 .taken)
 
--- src/lib.rt:77:9
 first-break-requires : tie.Need-first-break-requires
 first-break-requires c κs = search needs
 
--- src/lib.rt:66:1
 returns-2 : tie.Need-returns-2
 returns-2 c = let a = c .before .before .before .before .before .before .args in
     term-checked (a .book .now) (c .before .before .before .scan-book .result) (c .before .before .before .scan-book .ensures) (a .term .now) (c .before .if1 .left) (c .first-break .result) (c .first-break .ensures)

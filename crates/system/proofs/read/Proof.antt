@@ -5,11 +5,9 @@ use borrow.Author.Needs.{needs}
 use Rattle.system.proofs.read.Statement.{statement}
 use Rattle.system.proofs.read.Tie as tie
 
--- src/lib.rt:33:9
 scan-book-requires : tie.Need-scan-book-requires
 scan-book-requires c κs = search needs
 
--- src/lib.rt:30:1
 returns : tie.Need-returns
 returns c = scan-answer (read (c .before .before .args .book .now)) (c .scan-book .result) (c .scan-book .ensures)
 

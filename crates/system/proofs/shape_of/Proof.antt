@@ -6,47 +6,38 @@ use borrow.Author.Needs.{needs}
 use Rattle.system.proofs.shape_of.Statement.{statement}
 use Rattle.system.proofs.shape_of.Tie as tie
 
--- src/lib.rt:45:9
 scan-book-requires : tie.Need-scan-book-requires
 scan-book-requires c κs = search needs
 
--- src/lib.rt:47:9
 returns : tie.Need-returns
 returns c = let ws = c .before .before .before .before .args .book .now in
     shape-none ws (c .before .before .scan-book .result) (c .before .before .scan-book .ensures) (c .if1 .taken)
 
--- src/lib.rt:54:9
 symbols-requires : tie.Need-symbols-requires
 symbols-requires c κs = search needs
 
--- src/lib.rt:58:21
 add-t6 : tie.Need-add-t6
 add-t6 c = let ws = c .before .before .before .before .before .args .book .now in
     let n = c .symbols .ensures in
     omega (arith, signature-within ws)
 
--- src/lib.rt:59:28
 mul-wide : tie.Need-mul-wide
 mul-wide c = let ws = c .before .before .before .before .before .args .book .now in
     let h = rules-within ws (c .before .before .before .scan-book .result) (c .before .before .before .scan-book .ensures) (c .before .if1 .left) in
     omega arith
 
--- src/lib.rt:59:28
 shared-slice-read-wide : tie.Need-shared-slice-read-wide
 shared-slice-read-wide c = let ws = c .before .before .before .before .before .before .args .book .now in
     rules-within ws (c .before .before .before .before .scan-book .result) (c .before .before .before .before .scan-book .ensures) (c .before .before .if1 .left)
 
--- src/lib.rt:59:16
 wide-requires : tie.Need-wide-requires
 wide-requires c κs = search needs
 
--- src/lib.rt:60:21
 add-t11 : tie.Need-add-t11
 add-t11 c = let ws = c .before .before .before .before .before .before .before .args .book .now in
     let h = rules-within ws (c .before .before .before .before .before .scan-book .result) (c .before .before .before .before .before .scan-book .ensures) (c .before .before .before .if1 .left) in
     omega arith
 
--- src/lib.rt:42:1
 returns-2 : tie.Need-returns-2
 returns-2 c = let ws = c .before .before .before .before .before .before .before .args .book .now in
     shape-some ws (c .before .before .before .before .before .scan-book .result) (c .before .before .before .before .before .scan-book .ensures) (c .before .before .before .if1 .left) (c .before .before .symbols .result) (c .wide .result) (c .before .before .symbols .ensures) (c .wide .ensures .0)

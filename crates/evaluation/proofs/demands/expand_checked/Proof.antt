@@ -1,29 +1,21 @@
+-- `demands::expand_checked` meets its contract.
 use Rattle.evaluation.proofs.Demand3.{answer-done, answer-handed-back, answer-found}
 use borrow.Author.Needs.{needs}
 use Rattle.evaluation.proofs.demands.expand_checked.Statement.{statement}
 use Rattle.evaluation.proofs.demands.expand_checked.Tie as tie
-use Rattle.evaluation.proofs.demands.expand_checked.Reads as reads
-use Rattle.evaluation.proofs.demands.expand_checked.Lts as lts
-use Rattle.evaluation.proofs.expand.Reads as expand-reads
-use Rattle.matching.proofs.test_strategies.Reads as test-strategies-reads
 
--- src/demands.rt:28:9
 test-strategies-requires : tie.Need-test-strategies-requires
 test-strategies-requires c κs = search needs
 
--- src/demands.rt:29:9
 expand-requires : tie.Need-expand-requires
 expand-requires c κs = search needs
 
--- src/demands.rt:16:1
 same-length : tie.Need-same-length
 same-length c = search needs
 
--- src/demands.rt:16:1
 same-length-2 : tie.Need-same-length-2
 same-length-2 c = search needs
 
--- src/demands.rt:16:1
 returns : tie.Need-returns
 returns c = let a = c .before .before .before .before .before .before .before .before .before .before .before .before .args in
     let t = c .before .before .before .before .before .before .before .test-strategies in

@@ -1,76 +1,58 @@
+-- `demands::expand_twice` meets its contract.
 use Prim.Native.Nat.{_-_}
 use Rattle.evaluation.proofs.Demand3.{answer-found, answer-fits, answer-again}
 use lib.ListN.{take}
-use mathlib.Core.Path.{_≡_, ap}
+use mathlib.Core.Path.{ap}
 use native.Mathlib.Nat.{sub-zero}
-use native.Mathlib.Omega.{arith}
 use borrow.Author.Needs.{needs}
 use Rattle.evaluation.proofs.demands.expand_twice.Statement.{statement}
 use Rattle.evaluation.proofs.demands.expand_twice.Tie as tie
-use Rattle.evaluation.proofs.demands.expand_twice.Reads as reads
-use Rattle.evaluation.proofs.demands.expand_twice.Lts as lts
-use Rattle.evaluation.proofs.expand.Reads as expand-reads
-use Rattle.matching.proofs.test_strategies.Reads as test-strategies-reads
 
--- src/demands.rt:58:9
 test-strategies-requires : tie.Need-test-strategies-requires
 test-strategies-requires c κs = search needs
 
--- src/demands.rt:59:9
 expand-requires : tie.Need-expand-requires
 expand-requires c κs = search needs
 
--- src/demands.rt:61:9
 same-length : tie.Need-same-length
 same-length c = search needs
 
--- src/demands.rt:61:9
 same-length-2 : tie.Need-same-length-2
 same-length-2 c = search needs
 
--- src/demands.rt:61:9
 returns : tie.Need-returns
 returns c = let a = c .before .before .before .before .before .before .before .before .before .before .before .before .before .before .before .before .args in
     let t = c .before .before .before .before .before .before .before .before .before .test-strategies in
     let e = c .before .before .before .before .before .before .expand in
     (t .ensures, (answer-found (a .book .now) (a .term .now) (a .limit) (a .out .now) (a .work .now) (e .result) (e .last .1 .1 .1 .0) (e .ensures .0) (e .ensures .1 .0) (t .result) (t .ensures), λ z z′. absurd (c .if1 .taken z′)))
 
--- src/demands.rt:68:31
 sub-expand : tie.Need-sub-expand
 sub-expand c = search needs
 
--- src/demands.rt:68:31
 part-expand-start : tie.Need-part-expand-start
 part-expand-start c = search needs
 
--- src/demands.rt:68:31
 part-expand-end : tie.Need-part-expand-end
 part-expand-end c = let a = c .before .before .before .before .before .before .before .before .before .before .before .before .before .before .before .before .before .args in
     let t = c .before .before .before .before .before .before .before .before .before .before .test-strategies in
     let e = c .before .before .before .before .before .before .before .expand in
     answer-fits (a .book .now) (a .term .now) (a .limit) (a .out .now) (a .work .now) (e .result) (e .last .1 .1 .1 .0) (e .ensures .0) (e .ensures .1 .0) (c .before .if1 .left)
 
--- src/demands.rt:68:9
 expand-requires-2 : tie.Need-expand-requires-2
 expand-requires-2 c κs = search needs
 
--- src/demands.rt:45:1
 same-length-3 : tie.Need-same-length-3
 same-length-3 c = search needs
 
--- src/demands.rt:45:1
 same-length-4 : tie.Need-same-length-4
 same-length-4 c = search needs
 
--- src/demands.rt:45:1
 same-length-5 : tie.Need-same-length-5
 same-length-5 c = search needs
 
--- src/demands.rt:45:1
 same-length-6 : tie.Need-same-length-6
 same-length-6 c = search needs
 
--- src/demands.rt:45:1
 returns-2 : tie.Need-returns-2
 returns-2 c = let a = c .before .before .before .before .before .before .before .before .before .before .before .before .before .before .before .before .before .before .before .before .before .before .before .before .before .args in
     let t = c .before .before .before .before .before .before .before .before .before .before .before .before .before .before .before .before .before .before .test-strategies in

@@ -1,8 +1,8 @@
 -- `entries::stood_before` meets its contract. The loop's invariant: whether the entry stands among those from f on is whether it stands
 -- among those from j on.
-use Prim.Native.Nat.{_+_, _-_, _≤_}
+use Prim.Native.Nat.{_+_, _-_}
 use native.Mathlib.Omega.{arith}
-use mathlib.Core.Path.{_≡_, refl, sym, _∙_}
+use mathlib.Core.Path.{_≡_, refl, _∙_}
 use lib.ListN.{getD, drop}
 use borrow.Author.Needs.{needs}
 use Rattle.evaluation.specs.Turn.{between, among}

@@ -1,29 +1,22 @@
+-- `reducts::clear_between` meets its contract.
 use Rattle.evaluation.proofs.Replacing.{clear-none}
 use native.Mathlib.Omega.{arith}
 use borrow.Author.Needs.{needs}
 use Rattle.evaluation.proofs.reducts.clear_between.Statement.{statement}
 use Rattle.evaluation.proofs.reducts.clear_between.Tie as tie
-use Rattle.evaluation.proofs.reducts.clear_between.Reads as reads
-use Rattle.evaluation.proofs.reducts.clear_between.Lts as lts
-use Rattle.buffers.proofs.clear.Reads as clear-reads
 
--- src/reducts.rt:39:24
 sub-clear : tie.Need-sub-clear
 sub-clear c = search needs
 
--- src/reducts.rt:39:9
 clear-requires : tie.Need-clear-requires
 clear-requires c κs = search needs
 
--- src/reducts.rt:34:1
 same-length : tie.Need-same-length
 same-length c = search needs
 
--- src/reducts.rt:34:1
 returns : tie.Need-returns
 returns c = search needs
 
--- src/reducts.rt:34:1
 returns-2 : tie.Need-returns-2
 returns-2 c = let a = c .before .before .args in clear-none (a .area .now) (a .a) (a .b) (omega arith)
 

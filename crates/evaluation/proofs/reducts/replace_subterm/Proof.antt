@@ -1,54 +1,38 @@
+-- `reducts::replace_subterm` meets its contract.
 use Rattle.evaluation.proofs.Replacing.{second-length, second-within, all-edits}
 use Rattle.evaluation.specs.Rewritten.{side}
 use native.Mathlib.Omega.{arith}
 use borrow.Author.Needs.{needs}
 use Rattle.evaluation.proofs.reducts.replace_subterm.Statement.{statement}
 use Rattle.evaluation.proofs.reducts.replace_subterm.Tie as tie
-use Rattle.evaluation.proofs.reducts.replace_subterm.Reads as reads
-use Rattle.evaluation.proofs.reducts.replace_subterm.Lts as lts
-use Rattle.buffers.proofs.clear.Reads as clear-reads
-use Rattle.buffers.proofs.move_words.Reads as move-words-reads
-use Rattle.evaluation.proofs.reducts.clear_between.Reads as clear-between-reads
-use Rattle.evaluation.proofs.reducts.move_tail.Reads as move-tail-reads
-use Rattle.evaluation.proofs.reducts.write_reduct.Reads as write-reduct-reads
 
--- src/reducts.rt:95:16
 add-base : tie.Need-add-base
 add-base c = search needs
 
--- src/reducts.rt:96:15
 add-end : tie.Need-add-end
 add-end c = search needs
 
--- src/reducts.rt:97:22
 add-move-words : tie.Need-add-move-words
 add-move-words c = search needs
 
--- src/reducts.rt:97:29
 add-move-words-2 : tie.Need-add-move-words-2
 add-move-words-2 c = search needs
 
--- src/reducts.rt:97:39
 sub-move-words : tie.Need-sub-move-words
 sub-move-words c = search needs
 
--- src/reducts.rt:97:5
 move-words-requires : tie.Need-move-words-requires
 move-words-requires c κs = search needs
 
--- src/reducts.rt:98:26
 add-move-tail : tie.Need-add-move-tail
 add-move-tail c = search needs
 
--- src/reducts.rt:98:33
 sub-move-tail : tie.Need-sub-move-tail
 sub-move-tail c = search needs
 
--- src/reducts.rt:98:5
 move-tail-requires : tie.Need-move-tail-requires
 move-tail-requires c κs = search needs
 
--- src/reducts.rt:99:5
 write-reduct-requires : tie.Need-write-reduct-requires
 write-reduct-requires c κs = let a = c .before .before .before .before .before .before .before .before .before .before .before .args in let q = c .before .before .before .before .before .before .before .before .before .before .before .pre in
     let l = second-length (a .area .now) (a .n) (a .level) (a .p) (a .width) (a .k) (q .0 .0) (a .starts) (a .lengths) (q .1 .0) (q .1 .1) _ _ (c .before .before .before .before .before .before .before .move-words .ensures) (c .before .before .before .move-tail .ensures) in
@@ -59,27 +43,21 @@ write-reduct-requires c κs = let a = c .before .before .before .before .before 
       omega (arith, q .0 .2, r .within, r .fits),
     )
 
--- src/reducts.rt:100:25
 sub-clear-between : tie.Need-sub-clear-between
 sub-clear-between c = search needs
 
--- src/reducts.rt:100:25
 add-clear-between : tie.Need-add-clear-between
 add-clear-between c = search needs
 
--- src/reducts.rt:100:5
 clear-between-requires : tie.Need-clear-between-requires
 clear-between-requires c κs = search needs
 
--- src/reducts.rt:101:5
 clear-requires : tie.Need-clear-requires
 clear-requires c κs = search needs
 
--- src/reducts.rt:78:1
 same-length : tie.Need-same-length
 same-length c = search needs
 
--- src/reducts.rt:78:1
 returns : tie.Need-returns
 returns c = let a = c .before .before .before .before .before .before .before .before .before .before .before .before .before .before .before .before .before .before .before .before .before .before .args in let q = c .before .before .before .before .before .before .before .before .before .before .before .before .before .before .before .before .before .before .before .before .before .before .pre in
     all-edits (a .area .now) (a .n) (a .level) (a .p) (a .width) (a .k) (q .0 .0) (a .starts) (a .lengths) (q .1 .0) (q .1 .1) _ _ (c .before .before .before .before .before .before .before .before .before .before .before .before .before .before .before .before .before .before .move-words .ensures) (c .before .before .before .before .before .before .before .before .before .before .before .before .before .before .move-tail .ensures)

@@ -1,79 +1,59 @@
+-- `reducts::rewrite` meets its contract.
 use Rattle.evaluation.proofs.Rewrites.{Before, within, bounded, area-words, room, stretches-inside, stretches-behind, too-long, rewrites, right-side, stretch-bound, reduct-bound, none-found}
 use native.Mathlib.Omega.{arith}
 use borrow.Author.Needs.{needs}
 use Rattle.evaluation.proofs.reducts.rewrite.Statement.{statement}
 use Rattle.evaluation.proofs.reducts.rewrite.Tie as tie
-use Rattle.evaluation.proofs.reducts.rewrite.Reads as reads
-use Rattle.evaluation.proofs.reducts.rewrite.Lts as lts
-use Rattle.evaluation.proofs.reducts.replace_subterm.Reads as replace-subterm-reads
-use Rattle.matching.proofs.rules.reduct_length.Reads as reduct-length-reads
-use Rattle.system.proofs.words.span.Reads as span-reads
 
 state : (c : tie.Start) → Before (c .args .book .now) (c .args .shape) (c .args .area .now) (c .args .n) (c .args .level) (c .args .p) (c .args .m)
 state c = record { accepted = c .pre .0 .0; stored = c .pre .0 .1; place = c .pre .1 .0 .0; match = c .pre .1 .0 .1 }
 
--- src/reducts.rt:126:13
 enum-told : tie.Need-enum-told
 enum-told c = search needs
 
--- src/reducts.rt:126:13
 returns : tie.Need-returns
 returns c = λ x e. absurd (none-found (state (c .before .before .before .before)) (c .enum-told .given .1) x e)
 
--- src/reducts.rt:130:13
 enum-known-found : tie.Need-enum-known-found
 enum-known-found c = search needs
 
--- src/reducts.rt:133:36
 mul-span : tie.Need-mul-span
 mul-span c = let w = state (c .before .before .before .before .before) in omega (arith, within w, bounded w)
 
--- src/reducts.rt:133:36
 sub-span : tie.Need-sub-span
 sub-span c = let w = state (c .before .before .before .before .before) in omega (arith, within w)
 
--- src/reducts.rt:133:36
 part-span-start : tie.Need-part-span-start
 part-span-start c = let w = state (c .before .before .before .before .before .before) in omega (arith, within w)
 
--- src/reducts.rt:133:36
 part-span-end : tie.Need-part-span-end
 part-span-end c = let w = state (c .before .before .before .before .before .before) in omega (arith, bounded w, area-words w)
 
--- src/reducts.rt:133:17
 span-requires : tie.Need-span-requires
 span-requires c κs = search needs
 
--- src/reducts.rt:136:17
 reduct-length-requires : tie.Need-reduct-length-requires
 reduct-length-requires c κs = let w = state (c .before .before .before .before .before .before .before .before .before .before) in (right-side w (c .before .before .before .before .before .before .found .given .1), stretch-bound w)
 
--- src/reducts.rt:137:25
 sub-after : tie.Need-sub-after
 sub-after c = search needs
 
--- src/reducts.rt:137:25
 add-after : tie.Need-add-after
 add-after c = let w = state (c .before .before .before .before .before .before .before .before .before .before .before) in omega (arith, bounded w, reduct-bound w (c .before .before .before .before .before .before .before .found .given .1), c .reduct-length .ensures)
 
--- src/reducts.rt:139:17
 same-length : tie.Need-same-length
 same-length c = search needs
 
--- src/reducts.rt:139:17
 returns-2 : tie.Need-returns-2
 returns-2 c = λ x e. too-long (state (c .before .before .before .before .before .before .before .before .before .before .before .before)) (c .before .before .before .before .span .result) (c .before .before .before .before .span .ensures .0) (c .before .before .before .before .before .before .before .before .found .given .1) (c .before .reduct-length .result) (c .before .reduct-length .ensures) x e (c .if1 .taken)
 
--- src/reducts.rt:141:13
 replace-subterm-requires : tie.Need-replace-subterm-requires
 replace-subterm-requires c κs = let w = state (c .before .before .before .before .before .before .before .before .before .before .before .before .before) in let width = c .before .before .before .before .before .span .result in let spanned = c .before .before .before .before .before .span .ensures .0 in
     ((room w width spanned (c .before .before .reduct-length .result) (c .before .if1 .left), right-side w (c .before .before .before .before .before .before .before .before .before .found .given .1), c .before .before .reduct-length .ensures), (stretches-inside w width spanned, stretches-behind w))
 
--- src/reducts.rt:142:13
 same-length-2 : tie.Need-same-length-2
 same-length-2 c = search needs
 
--- src/reducts.rt:142:13
 returns-3 : tie.Need-returns-3
 returns-3 c = λ x e. rewrites (state (c .before .before .before .before .before .before .before .before .before .before .before .before .before .before .before .before)) (c .before .before .before .before .before .before .before .before .span .result) (c .before .before .before .before .before .before .before .before .span .ensures .0) (c .before .before .before .before .before .before .before .before .before .before .before .before .found .given .1) (c .before .before .before .before .before .reduct-length .result) (c .before .before .before .before .before .reduct-length .ensures) x e (c .before .before .before .before .if1 .left) _ (c .before .before .replace-subterm .ensures)
 

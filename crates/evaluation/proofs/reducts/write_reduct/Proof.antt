@@ -1,3 +1,4 @@
+-- `reducts::write_reduct` meets its contract.
 use mathlib.Core.Path.{refl}
 use Rattle.evaluation.proofs.Written.{Writing, writing-starts, writing-ends, symbol-room, writes-symbol, variable-room, stretch-room, writes-variable}
 use Prim.Native.Nat.{_-_}
@@ -5,10 +6,6 @@ use native.Mathlib.Omega.{arith}
 use borrow.Author.Needs.{needs}
 use Rattle.evaluation.proofs.reducts.write_reduct.Statement.{statement}
 use Rattle.evaluation.proofs.reducts.write_reduct.Tie as tie
-use Rattle.evaluation.proofs.reducts.write_reduct.Reads as reads
-use Rattle.evaluation.proofs.reducts.write_reduct.Lts as lts
-use Rattle.buffers.proofs.move_words.Reads as move-words-reads
-use Rattle.system.proofs.words.wide.Reads as wide-reads
 
 abbrev Inv-loop : tie.InvT-loop
 Inv-loop book rhs size area₀ at base starts lengths to₀ j₀ area to j = Writing book rhs size starts lengths area₀ at base to j area
@@ -16,102 +13,80 @@ Inv-loop book rhs size area₀ at base starts lengths to₀ j₀ area to j = Wri
 abbrev μ-loop : tie.MeasureT-loop
 μ-loop book rhs size area₀ at base starts lengths to₀ j₀ area to j = size - j
 
--- src/reducts.rt:59:5
 loop-holds : tie.Need-loop-holds Inv-loop μ-loop
 loop-holds c = let a = c .before .before .args in writing-starts (a .book .now) (a .rhs) (a .size) (a .t4) (a .t5) (a .area .now) (a .at) (a .base)
 
--- src/reducts.rt:60:22
 add-w : tie.Need-add-w Inv-loop μ-loop
 add-w c = search needs
 
--- src/reducts.rt:60:17
 mul-w : tie.Need-mul-w Inv-loop μ-loop
 mul-w c = search needs
 
--- src/reducts.rt:60:17
 shared-slice-read-w : tie.Need-shared-slice-read-w Inv-loop μ-loop
 shared-slice-read-w c = search needs
 
--- src/reducts.rt:61:13
 wide-requires : tie.Need-wide-requires Inv-loop μ-loop
 wide-requires c κs = search needs
 
--- src/reducts.rt:62:9
 add-j : tie.Need-add-j Inv-loop μ-loop
 add-j c = search needs
 
--- src/reducts.rt:64:13
 mul-area : tie.Need-mul-area Inv-loop μ-loop
 mul-area c = search needs
 
--- src/reducts.rt:64:13
 slice-write-area : tie.Need-slice-write-area Inv-loop μ-loop
 slice-write-area c = let a = c .before .before .before .before .before .before .before .args in let l = c .before .before .before .before .loop in let q = c .before .before .before .before .before .before .before .pre in let w = c .before .wide in
     let r = symbol-room (a .book .now) (a .rhs) (a .size) (a .t4) (a .t5) (a .area .now) (a .at) (a .base) (q .0) (l .to) (l .j) (l .area) (l .inv) (q .3) (c .before .before .before .loop-test .taken) (w .result) (w .ensures .0) (c .if1 .taken) in
     omega (arith, l .inv .kept, q .2)
 
--- src/reducts.rt:65:13
 add-to : tie.Need-add-to Inv-loop μ-loop
 add-to c = search needs
 
--- src/reducts.rt:59:5
 loop-less : tie.Need-loop-less Inv-loop μ-loop
 loop-less c = search needs
 
--- src/reducts.rt:59:5
 loop-again : tie.Need-loop-again Inv-loop μ-loop
 loop-again c = let a = c .before .before .before .before .before .before .before .args in let l = c .before .before .before .before .loop in let q = c .before .before .before .before .before .before .before .pre in let w = c .before .wide in
     writes-symbol (a .book .now) (a .rhs) (a .size) (a .t4) (a .t5) (a .area .now) (a .at) (a .base) (q .0) (l .to) (l .j) (l .area) (l .inv) (q .3) (c .before .before .before .loop-test .taken) _ refl (omega (arith, w .ensures .0, c .if1 .taken))
 
--- src/reducts.rt:67:21
 mul-n : tie.Need-mul-n Inv-loop μ-loop
 mul-n c = search needs
 
--- src/reducts.rt:67:21
 array-read-n : tie.Need-array-read-n Inv-loop μ-loop
 array-read-n c = let a = c .before .before .before .before .before .before .before .args in let l = c .before .before .before .before .loop in omega (arith, c .before .before .before .before .before .before .before .pre .0 .known (l .j) (c .before .before .before .loop-test .taken), c .before .wide .ensures .0)
 
--- src/reducts.rt:68:37
 mul-move-words : tie.Need-mul-move-words Inv-loop μ-loop
 mul-move-words c = search needs
 
--- src/reducts.rt:68:37
 array-read-move-words : tie.Need-array-read-move-words Inv-loop μ-loop
 array-read-move-words c = let a = c .before .before .before .before .before .before .before .before .args in let l = c .before .before .before .before .before .loop in omega (arith, c .before .before .before .before .before .before .before .before .pre .0 .known (l .j) (c .before .before .before .before .loop-test .taken), c .before .before .wide .ensures .0)
 
--- src/reducts.rt:68:30
 add-move-words : tie.Need-add-move-words Inv-loop μ-loop
 add-move-words c = let a = c .before .before .before .before .before .before .before .before .args in let l = c .before .before .before .before .before .loop in let q = c .before .before .before .before .before .before .before .before .pre in let w = c .before .before .wide in
     let r = stretch-room (a .book .now) (a .rhs) (a .size) (a .t4) (a .t5) (a .area .now) (a .at) (a .base) (q .0) (l .to) (l .j) (l .area) (l .inv) (q .3) (c .before .before .before .before .loop-test .taken) (w .result) (w .ensures .0) (q .1) (q .2) (c .before .if1 .left) in
     omega (arith, l .inv .kept)
 
--- src/reducts.rt:68:13
 move-words-requires : tie.Need-move-words-requires Inv-loop μ-loop
 move-words-requires c κs = let a = c .before .before .before .before .before .before .before .before .args in let l = c .before .before .before .before .before .loop in let q = c .before .before .before .before .before .before .before .before .pre in let w = c .before .before .wide in
     let r = stretch-room (a .book .now) (a .rhs) (a .size) (a .t4) (a .t5) (a .area .now) (a .at) (a .base) (q .0) (l .to) (l .j) (l .area) (l .inv) (q .3) (c .before .before .before .before .loop-test .taken) (w .result) (w .ensures .0) (q .1) (q .2) (c .before .if1 .left) in
     let s = variable-room (a .book .now) (a .rhs) (a .size) (a .t4) (a .t5) (a .area .now) (a .at) (a .base) (q .0) (l .to) (l .j) (l .area) (l .inv) (q .3) (c .before .before .before .before .loop-test .taken) (w .result) (w .ensures .0) (q .1) (q .2) (c .before .if1 .left) in
     (r, omega (arith, l .inv .kept, q .2))
 
--- src/reducts.rt:69:13
 add-to-2 : tie.Need-add-to-2 Inv-loop μ-loop
 add-to-2 c = let a = c .before .before .before .before .before .before .before .before .before .before .before .args in let l = c .before .before .before .before .before .before .before .before .loop in let q = c .before .before .before .before .before .before .before .before .before .before .before .pre in let w = c .before .before .before .before .before .wide in
     let s = variable-room (a .book .now) (a .rhs) (a .size) (a .t4) (a .t5) (a .area .now) (a .at) (a .base) (q .0) (l .to) (l .j) (l .area) (l .inv) (q .3) (c .before .before .before .before .before .before .before .loop-test .taken) (w .result) (w .ensures .0) (q .1) (q .2) (c .before .before .before .before .if1 .left) in
     omega (arith, l .inv .kept, q .2)
 
--- src/reducts.rt:59:5
 loop-less-2 : tie.Need-loop-less-2 Inv-loop μ-loop
 loop-less-2 c = search needs
 
--- src/reducts.rt:59:5
 loop-again-2 : tie.Need-loop-again-2 Inv-loop μ-loop
 loop-again-2 c = let a = c .before .before .before .before .before .before .before .before .before .before .before .args in let l = c .before .before .before .before .before .before .before .before .loop in let q = c .before .before .before .before .before .before .before .before .before .before .before .pre in let w = c .before .before .before .before .before .wide in
     writes-variable (a .book .now) (a .rhs) (a .size) (a .t4) (a .t5) (a .area .now) (a .at) (a .base) (q .0) (l .to) (l .j) (l .area) (l .inv) (q .3) (c .before .before .before .before .before .before .before .loop-test .taken) (w .result) (w .ensures .0) (q .1) (q .2) (c .before .before .before .before .if1 .left) _ (c .before .before .move-words .ensures)
 
--- src/reducts.rt:44:1
 same-length : tie.Need-same-length Inv-loop μ-loop
 same-length c = search needs
 
--- src/reducts.rt:44:1
 returns : tie.Need-returns Inv-loop μ-loop
 returns c = let a = c .before .before .before .before .args in let l = c .before .loop in let q = c .before .before .before .before .pre in
     writing-ends (a .book .now) (a .rhs) (a .size) (a .t4) (a .t5) (a .area .now) (a .at) (a .base) (q .0) (l .to) (l .j) (l .area) (l .inv) (c .loop-test .left)

@@ -1,3 +1,4 @@
+-- `run::run` meets its contract.
 use Rattle.evaluation.specs.Evaluation.{evaluation}
 use Rattle.buffers.specs.Words.{over}
 use Rattle.matching.specs.Stretches.{matchOf}
@@ -8,18 +9,12 @@ use Rattle.system.specs.Terms.{WellFormed}
 use lib.ListN.{length, getD, take, drop}
 use native.Mathlib.Omega.{arith}
 use mathlib.Core.Path.{_≡_, refl, sym, ap, _∙_, subst}
-use Prim.Native.Nat.{ℕ, _-_, _≤_, _<_}
+use Prim.Native.Nat.{_-_, _<_}
 use Rattle.matching.specs.Accepted.{systemOf}
 use Rattle.evaluation.proofs.Runs.{ends-as, Running, stored-length, running-start, ends-finished, ends-deep, comes-before, ends-spent, before-room, before-position, ends-long, goes-on, Before}
 use borrow.Author.Needs.{needs}
 use Rattle.evaluation.proofs.run.run.Statement.{statement}
 use Rattle.evaluation.proofs.run.run.Tie as tie
-use Rattle.evaluation.proofs.run.run.Reads as reads
-use Rattle.evaluation.proofs.run.run.Lts as lts
-use Rattle.buffers.proofs.clear.Reads as clear-reads
-use Rattle.buffers.proofs.copy_in.Reads as copy-in-reads
-use Rattle.evaluation.proofs.machine.advance.Reads as advance-reads
-use Rattle.evaluation.proofs.reducts.rewrite.Reads as rewrite-reads
 
 abbrev Inv-loop : tie.InvT-loop
 Inv-loop book shape term limit area₀ marks positions₀ n₀ level₀ steps₀ area positions n level steps = Running (systemOf book) limit term area positions n level steps
@@ -56,49 +51,41 @@ position-is c =
     let d = c .before .before .before .before .before .advance in
     before-position (systemOf (a .args .book .now)) (wf a) (a .args .limit) (a .args .term .now) (d .last .1 .1 .1 .0) (d .last .1 .1 .1 .1 .0) (l .n) (d .result .level) (l .steps) (d .result .found) (before c)
 
--- src/run.rt:26:5
 clear-requires : tie.Need-clear-requires Inv-loop μ-loop
 clear-requires c κs = omega arith
 
--- src/run.rt:27:5
 copy-in-requires : tie.Need-copy-in-requires Inv-loop μ-loop
 copy-in-requires c κs = omega (arith, c .before .before .before .clear .kept .0)
 
 marks-requires : tie.Need-marks-requires Inv-loop μ-loop
 marks-requires c κs = c .before .before .before .before .before .before .before .before .before .before .before .pre .0
 
--- src/run.rt:32:5
 loop-holds : tie.Need-loop-holds Inv-loop μ-loop
 loop-holds c = let a = c .before .before .before .before .before .before .before .before .before .before .before .before in
     subst (λ ws. Running (systemOf (a .args .book .now)) (a .args .limit) (a .args .term .now) ws _ (length (a .args .term .now)) 0 0)
     (sym (c .before .before .before .copy-in .ensures ∙ ap (λ ws. over ws 0 (a .args .term .now)) (c .before .before .before .before .before .before .before .clear .ensures)))
     (running-start (systemOf (a .args .book .now)) (a .args .limit) (a .args .term .now) (a .args .area .now) _ (a .pre .1) (a .pre .2) (a .pre .3) refl refl)
 
--- src/run.rt:33:44
 slice-aggregate-advance : tie.Need-slice-aggregate-advance Inv-loop μ-loop
 slice-aggregate-advance c = sym (c .before .before .marks .ensures .slots)
 
 slice-aggregate-advance-2 : tie.Need-slice-aggregate-advance-2 Inv-loop μ-loop
 slice-aggregate-advance-2 c = sym (c .before .before .before .loop .inv .holds .slots)
 
--- src/run.rt:33:13
 advance-requires : tie.Need-advance-requires Inv-loop μ-loop
 advance-requires c κs =
     let p = c .before .before .before .before .before .before .before .before .before .before .before .before .before .before .before .before .pre in
     (p .0, c .before .before .before .before .marks .ensures, c .before .before .before .loop .inv .holds)
 
--- src/run.rt:37:17
 enum-told : tie.Need-enum-told Inv-loop μ-loop
 enum-told c = search needs
 
--- src/run.rt:37:17
 outcome-requires : tie.Need-outcome-requires Inv-loop μ-loop
 outcome-requires c κs = tt
 
 same-length : tie.Need-same-length Inv-loop μ-loop
 same-length c = c .before .before .before .before .before .before .advance .kept .1 .1 .1 .0 ∙ area-length (c .before .before .before .before .before .before .before .before .before .before)
 
--- src/run.rt:37:17
 returns : tie.Need-returns Inv-loop μ-loop
 returns c = let a = c .before .before .before .before .before .before .before .before .before .before .before .before .before .before .before .before .before .before .before .before .before .before .before in
     let l = c .before .before .before .before .before .before .before .before .before .before .loop in
@@ -106,18 +93,15 @@ returns c = let a = c .before .before .before .before .before .before .before .b
     ends-as (evaluation (systemOf (a .args .book .now)) (a .args .limit) (a .args .term .now)) _ (c .outcome .result) (d .last .1 .1 .1 .0) (c .outcome .ensures)
     (ends-finished (systemOf (a .args .book .now)) (wf a) (a .args .limit) (a .args .term .now) (l .area) (l .positions) (l .n) (l .level) (l .steps) (l .inv) (d .result) (d .last .1 .1 .1 .0) (d .last .1 .1 .1 .1 .0) (d .ensures) (c .before .enum-told .given .1))
 
--- src/run.rt:44:17
 enum-told-2 : tie.Need-enum-told-2 Inv-loop μ-loop
 enum-told-2 c = search needs
 
--- src/run.rt:44:17
 outcome-requires-2 : tie.Need-outcome-requires-2 Inv-loop μ-loop
 outcome-requires-2 c κs = tt
 
 same-length-2 : tie.Need-same-length-2 Inv-loop μ-loop
 same-length-2 c = c .before .before .before .before .before .before .advance .kept .1 .1 .1 .0 ∙ area-length (c .before .before .before .before .before .before .before .before .before .before)
 
--- src/run.rt:44:17
 returns-2 : tie.Need-returns-2 Inv-loop μ-loop
 returns-2 c = let a = c .before .before .before .before .before .before .before .before .before .before .before .before .before .before .before .before .before .before .before .before .before .before .before in
     let l = c .before .before .before .before .before .before .before .before .before .before .loop in
@@ -125,18 +109,15 @@ returns-2 c = let a = c .before .before .before .before .before .before .before 
     ends-as (evaluation (systemOf (a .args .book .now)) (a .args .limit) (a .args .term .now)) _ (c .outcome2 .result) (d .last .1 .1 .1 .0) (c .outcome2 .ensures)
     (ends-deep (systemOf (a .args .book .now)) (wf a) (a .args .limit) (a .args .term .now) (l .area) (l .positions) (l .n) (l .level) (l .steps) (l .inv) (d .result) (d .last .1 .1 .1 .0) (d .last .1 .1 .1 .1 .0) (d .ensures) (c .before .enum-told2 .given .1))
 
--- src/run.rt:51:20
 enum-told-3 : tie.Need-enum-told-3 Inv-loop μ-loop
 enum-told-3 c = search needs
 
--- src/run.rt:52:21
 outcome-requires-3 : tie.Need-outcome-requires-3 Inv-loop μ-loop
 outcome-requires-3 c κs = tt
 
 same-length-3 : tie.Need-same-length-3 Inv-loop μ-loop
 same-length-3 c = c .before .before .before .before .before .before .before .advance .kept .1 .1 .1 .0 ∙ area-length (c .before .before .before .before .before .before .before .before .before .before .before)
 
--- src/run.rt:52:21
 returns-3 : tie.Need-returns-3 Inv-loop μ-loop
 returns-3 c = let a = c .before .before .before .before .before .before .before .before .before .before .before .before .before .before .before .before .before .before .before .before .before .before .before .before in
     let l = c .before .before .before .before .before .before .before .before .before .before .before .loop in
@@ -144,29 +125,24 @@ returns-3 c = let a = c .before .before .before .before .before .before .before 
     ends-as (evaluation (systemOf (a .args .book .now)) (a .args .limit) (a .args .term .now)) _ (c .outcome3 .result) (d .last .1 .1 .1 .0) (c .outcome3 .ensures)
     (ends-spent (systemOf (a .args .book .now)) (wf a) (a .args .limit) (a .args .term .now) (d .last .1 .1 .1 .0) (d .last .1 .1 .1 .1 .0) (l .n) (d .result .level) (l .steps) (d .result .found) (before (c .before .before)) (c .before .if1 .taken))
 
--- src/run.rt:60:62
 mul-rewrite : tie.Need-mul-rewrite Inv-loop μ-loop
 mul-rewrite c = omega (arith, room (c .before .before .before))
 
--- src/run.rt:60:62
 array-read-rewrite : tie.Need-array-read-rewrite Inv-loop μ-loop
 array-read-rewrite c = room (c .before .before .before)
 
--- src/run.rt:60:21
 rewrite-requires : tie.Need-rewrite-requires Inv-loop μ-loop
 rewrite-requires c κs = let a = c .before .before .before .before .before .before .before .before .before .before .before .before .before .before .before .before .before .before .before .before .before .before .before .before .before in
     let b = before (c .before .before .before) in
     let p = position-is (c .before .before .before) in
     ((a .pre .0, b .holds .stored), ((p, b .found ∙ ap (λ q. matchOf (systemOf (a .args .book .now)) (drop q (take (c .before .before .before .before .before .before .before .before .before .before .before .before .loop .n) (c .before .before .before .before .before .before .before .before .advance .last .1 .1 .1 .0)))) (sym p)), (b .x, rw p (b .matched))))
 
--- src/run.rt:62:21
 outcome-requires-4 : tie.Need-outcome-requires-4 Inv-loop μ-loop
 outcome-requires-4 c κs = tt
 
 same-length-4 : tie.Need-same-length-4 Inv-loop μ-loop
 same-length-4 c = c .before .before .before .before .rewrite .kept .1 .1 .0 ∙ c .before .before .before .before .before .before .before .before .before .before .before .before .before .advance .kept .1 .1 .1 .0 ∙ area-length (c .before .before .before .before .before .before .before .before .before .before .before .before .before .before .before .before .before)
 
--- src/run.rt:62:21
 returns-4 : tie.Need-returns-4 Inv-loop μ-loop
 returns-4 c = let a = c .before .before .before .before .before .before .before .before .before .before .before .before .before .before .before .before .before .before .before .before .before .before .before .before .before .before .before .before .before .before in
     let l = c .before .before .before .before .before .before .before .before .before .before .before .before .before .before .before .before .before .loop in
@@ -177,15 +153,12 @@ returns-4 c = let a = c .before .before .before .before .before .before .before 
     ends-as (evaluation (systemOf (a .args .book .now)) (a .args .limit) (a .args .term .now)) _ (c .outcome4 .result) (r .last .1 .1 .0) (c .outcome4 .ensures)
     (ends-long (systemOf (a .args .book .now)) (wf a) (a .args .limit) (a .args .term .now) (d .last .1 .1 .1 .0) (d .last .1 .1 .1 .1 .0) (l .n) (d .result .level) (l .steps) (d .result .found) b (c .before .before .before .before .before .before .before .if1 .left) _ p (r .result) (r .last .1 .1 .0) (r .ensures (b .x) (rw p (b .matched))) (r .kept .1 .1 .0) (c .before .if2 .taken))
 
--- src/run.rt:69:17
 add-steps : tie.Need-add-steps Inv-loop μ-loop
 add-steps c = omega (arith, c .before .before .before .before .before .before .if1 .left, c .before .before .before .before .before .before .before .before .before .before .before .before .before .before .before .before .before .before .before .before .before .before .before .before .before .before .before .before .before .fits .limit)
 
--- src/run.rt:32:5
 loop-less : tie.Need-loop-less Inv-loop μ-loop
 loop-less c = let l = c .before .before .before .before .before .before .if1 .left in omega arith
 
--- src/run.rt:32:5
 loop-again : tie.Need-loop-again Inv-loop μ-loop
 loop-again c = let a = c .before .before .before .before .before .before .before .before .before .before .before .before .before .before .before .before .before .before .before .before .before .before .before .before .before .before .before .before .before in
     let l = c .before .before .before .before .before .before .before .before .before .before .before .before .before .before .before .before .loop in

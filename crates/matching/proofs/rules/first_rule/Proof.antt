@@ -1,3 +1,4 @@
+-- `rules::first_rule` meets its contract.
 use mathlib.Core.Logic.{⊎-elim}
 use Rattle.matching.proofs.Searches.{Searched, Walked, search-starts, search-ends, root-differs, walk-starts, matches-here, word-differs, symbol-matched, variable-matched}
 use Rattle.matching.proofs.Books.{Turn, room, turn-of}
@@ -7,11 +8,6 @@ use Rattle.matching.specs.Stretches.{unset}
 use borrow.Author.Needs.{needs}
 use Rattle.matching.proofs.rules.first_rule.Statement.{statement}
 use Rattle.matching.proofs.rules.first_rule.Tie as tie
-use Rattle.matching.proofs.rules.first_rule.Reads as reads
-use Rattle.matching.proofs.rules.first_rule.Lts as lts
-use Rattle.matching.proofs.rules.rule_at.Reads as rule-at-reads
-use Rattle.matching.proofs.rules.takes.Reads as takes-reads
-use Rattle.system.proofs.words.wide.Reads as wide-reads
 
 abbrev Inv-words : tie.InvT-words
 Inv-words book shape ws found starts lengths k at this r lhs width s₀ l₀ j₀ q₀ s l j q = Walked book ws this width j q s l
@@ -30,117 +26,89 @@ turn : (c : tie.After-rule-at Inv-words μ-words Inv-rules μ-rules) →
     Turn (c .before .before .before .before .before .before .args .book .now) (c .before .before .before .before .before .before .args .shape) (c .before .before .before .rules .k) (c .before .before .before .rules .at) (c .rule-at .result)
 turn c = turn-of (c .before .before .before .before .before .before .pre) (c .before .if1 .taken) (c .before .before .before .rules .inv .rest) (c .rule-at .ensures)
 
--- src/rules.rt:73:5
 rules-holds : tie.Need-rules-holds Inv-words μ-words Inv-rules μ-rules
 unfolding unset
 rules-holds c = search-starts (c .before .before .pre) (c .before .before .args .ws .now)
 
--- src/rules.rt:75:13
 rule-at-requires : tie.Need-rule-at-requires Inv-words μ-words Inv-rules μ-rules
 rule-at-requires c κs = room (c .before .before .before .before .before .pre) (c .if1 .taken) (c .before .before .rules .inv .rest)
 
--- src/rules.rt:79:9
 add-k : tie.Need-add-k Inv-words μ-words Inv-rules μ-rules
 add-k c = search needs
 
--- src/rules.rt:80:24
 mul-takes : tie.Need-mul-takes Inv-words μ-words Inv-rules μ-rules
 mul-takes c = let w = turn c .here in omega arith
 
--- src/rules.rt:80:24
 shared-slice-read-takes : tie.Need-shared-slice-read-takes Inv-words μ-words Inv-rules μ-rules
 shared-slice-read-takes c = let w = turn (c .before) .here in omega arith
 
--- src/rules.rt:80:12
 takes-requires : tie.Need-takes-requires Inv-words μ-words Inv-rules μ-rules
 takes-requires c κs = search needs
 
--- src/rules.rt:73:5
 rules-less : tie.Need-rules-less Inv-words μ-words Inv-rules μ-rules
 rules-less c = search needs
 
--- src/rules.rt:73:5
 rules-again : tie.Need-rules-again Inv-words μ-words Inv-rules μ-rules
 rules-again c = root-differs (turn (c .before .before .before)) (c .before .before .before .before .before .before .rules .inv) (c .before .takes .ensures .0) (c .if2 .taken)
 
--- src/rules.rt:87:9
 words-holds : tie.Need-words-holds Inv-words μ-words Inv-rules μ-rules
 unfolding unset
 words-holds c = walk-starts (turn (c .before .before .before)) (c .before .before .before .before .before .before .before .before .before .args .ws .now)
 
--- src/rules.rt:88:26
 add-w : tie.Need-add-w Inv-words μ-words Inv-rules μ-rules
 add-w c = let w = turn (c .before .before .before .before .before) .here in omega arith
 
--- src/rules.rt:88:21
 mul-w : tie.Need-mul-w Inv-words μ-words Inv-rules μ-rules
 mul-w c = let w = turn (c .before .before .before .before .before) .here in omega arith
 
--- src/rules.rt:88:21
 shared-slice-read-w : tie.Need-shared-slice-read-w Inv-words μ-words Inv-rules μ-rules
 shared-slice-read-w c = let w = turn (c .before .before .before .before .before .before) .here in omega arith
 
--- src/rules.rt:89:36
 mul-takes-2 : tie.Need-mul-takes-2 Inv-words μ-words Inv-rules μ-rules
 mul-takes-2 c = search needs
 
--- src/rules.rt:89:36
 sub-takes : tie.Need-sub-takes Inv-words μ-words Inv-rules μ-rules
 sub-takes c = search needs
 
--- src/rules.rt:89:36
 part-takes-start : tie.Need-part-takes-start Inv-words μ-words Inv-rules μ-rules
 part-takes-start c = search needs
 
--- src/rules.rt:89:36
 part-takes-end : tie.Need-part-takes-end Inv-words μ-words Inv-rules μ-rules
 part-takes-end c = search needs
 
--- src/rules.rt:89:17
 takes-requires-2 : tie.Need-takes-requires-2 Inv-words μ-words Inv-rules μ-rules
 takes-requires-2 c κs = search needs
 
--- src/rules.rt:73:5
 rules-less-2 : tie.Need-rules-less-2 Inv-words μ-words Inv-rules μ-rules
 rules-less-2 c = search needs
 
--- src/rules.rt:73:5
 rules-again-2 : tie.Need-rules-again-2 Inv-words μ-words Inv-rules μ-rules
 rules-again-2 c = word-differs (turn (c .before .before .before .before .before .before .before .before .before)) (c .before .before .before .before .before .before .before .before .before .before .before .before .rules .inv) (c .before .before .before .before .before .words .inv) (c .before .before .before .before .words-test .taken) (c .before .takes2 .ensures .0) (c .if3 .taken)
 
--- src/rules.rt:93:17
 wide-requires : tie.Need-wide-requires Inv-words μ-words Inv-rules μ-rules
 wide-requires c κs = search needs
 
--- src/rules.rt:95:17
 mul-s : tie.Need-mul-s Inv-words μ-words Inv-rules μ-rules
 mul-s c = search needs
 
--- src/rules.rt:95:17
 array-write-s : tie.Need-array-write-s Inv-words μ-words Inv-rules μ-rules
 array-write-s c = let w = turn (c .before .before .before .before .before .before .before .before .before .before .before) .here in omega (arith, w .low (c .before .before .before .before .before .before .before .words .j) (c .before .before .before .before .before .before .words-test .taken))
 
--- src/rules.rt:96:17
 mul-l : tie.Need-mul-l Inv-words μ-words Inv-rules μ-rules
 mul-l c = search needs
 
--- src/rules.rt:96:17
 array-write-l : tie.Need-array-write-l Inv-words μ-words Inv-rules μ-rules
 array-write-l c = let w = turn (c .before .before .before .before .before .before .before .before .before .before .before) .here in omega (arith, w .low (c .before .before .before .before .before .before .before .words .j) (c .before .before .before .before .before .before .words-test .taken))
 
--- src/rules.rt:98:13
 add-q : tie.Need-add-q Inv-words μ-words Inv-rules μ-rules
 add-q c = search needs
 
--- src/rules.rt:99:13
 add-j : tie.Need-add-j Inv-words μ-words Inv-rules μ-rules
 add-j c = search needs
 
--- src/rules.rt:87:9
 words-less : tie.Need-words-less Inv-words μ-words Inv-rules μ-rules
 words-less c = search needs
 
--- src/rules.rt:87:9
 words-again : tie.Need-words-again Inv-words μ-words Inv-rules μ-rules
 words-again c = let t = turn (c .before .before .before .before .before .before .before .before .before .before .before) in
     let wo = c .before .before .before .before .before .before .before .words .inv in
@@ -152,11 +120,9 @@ words-again c = let t = turn (c .before .before .before .before .before .before 
     (λ e. symbol-matched t wo here (n .ensures) (c .before .before .if3 .left) (v .ensures .0) (e .0 .left) (e .1) (e .2))
     (c .if4 .came)
 
--- src/rules.rt:64:1
 returns : tie.Need-returns Inv-words μ-words Inv-rules μ-rules
 returns c = search-ends (c .before .before .before .before .before .pre) (c .before .before .rules .inv) (c .if1 .left)
 
--- src/rules.rt:64:1
 returns-2 : tie.Need-returns-2 Inv-words μ-words Inv-rules μ-rules
 returns-2 c = matches-here (turn (c .before .before .before .before .before)) (c .before .before .before .before .before .before .before .before .rules .inv) (c .before .words .inv) (c .words-test .left)
 

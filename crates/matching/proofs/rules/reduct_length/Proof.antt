@@ -1,3 +1,4 @@
+-- `rules::reduct_length` meets its contract.
 use mathlib.Core.Path.{_≡_}
 use native.Mathlib.Omega.{arith}
 use Prim.Native.Nat.{_+_, _-_, _*_, _≤_}
@@ -7,9 +8,6 @@ use Rattle.matching.proofs.Reducts.{length-done, length-symbol, length-
 use borrow.Author.Needs.{needs}
 use Rattle.matching.proofs.rules.reduct_length.Statement.{statement}
 use Rattle.matching.proofs.rules.reduct_length.Tie as tie
-use Rattle.matching.proofs.rules.reduct_length.Reads as reads
-use Rattle.matching.proofs.rules.reduct_length.Lts as lts
-use Rattle.system.proofs.words.wide.Reads as wide-reads
 
 abbrev Inv-loop : tie.InvT-loop
 Inv-loop book rhs size lengths total₀ j₀ total j = (j ≤ size) × (total ≤ j * 65535) × (total + reductLength lengths (drop j (take size (drop rhs book))) ≡ reductLength lengths (take size (drop rhs book)))
@@ -17,66 +15,51 @@ Inv-loop book rhs size lengths total₀ j₀ total j = (j ≤ size) × (total �
 abbrev μ-loop : tie.MeasureT-loop
 μ-loop book rhs size lengths total₀ j₀ total j = size - j
 
--- src/rules.rt:124:5
 loop-holds : tie.Need-loop-holds Inv-loop μ-loop
 loop-holds c = search needs
 
--- src/rules.rt:125:27
 add-wide : tie.Need-add-wide Inv-loop μ-loop
 add-wide c = search needs
 
--- src/rules.rt:125:22
 mul-wide : tie.Need-mul-wide Inv-loop μ-loop
 mul-wide c = search needs
 
--- src/rules.rt:125:22
 shared-slice-read-wide : tie.Need-shared-slice-read-wide Inv-loop μ-loop
 shared-slice-read-wide c = search needs
 
--- src/rules.rt:125:13
 wide-requires : tie.Need-wide-requires Inv-loop μ-loop
 wide-requires c κs = search needs
 
--- src/rules.rt:126:9
 add-j : tie.Need-add-j Inv-loop μ-loop
 add-j c = search needs
 
--- src/rules.rt:128:13
 add-total : tie.Need-add-total Inv-loop μ-loop
 add-total c = search needs
 
--- src/rules.rt:124:5
 loop-less : tie.Need-loop-less Inv-loop μ-loop
 loop-less c = search needs
 
--- src/rules.rt:124:5
 loop-again : tie.Need-loop-again Inv-loop μ-loop
 loop-again c = let a = c .before .before .before .before .before .before .args in let l = c .before .before .before .before .loop in let w = c .before .wide in let r = c .before .before .before .before .before .before .pre .0 in
     (omega arith, omega arith, omega (arith, length-symbol (a .t4) (a .book .now) (a .rhs) (a .size) (l .j) (r .fits) (c .before .before .before .loop-test .taken) (w .result) (w .ensures .0) (c .if1 .taken)))
 
--- src/rules.rt:130:22
 mul-total : tie.Need-mul-total Inv-loop μ-loop
 mul-total c = search needs
 
--- src/rules.rt:130:22
 array-read-total : tie.Need-array-read-total Inv-loop μ-loop
 array-read-total c = let a = c .before .before .before .before .before .before .args in let l = c .before .before .before .before .loop in omega (arith, c .before .before .before .before .before .before .pre .0 .known (l .j) (c .before .before .before .loop-test .taken), c .before .wide .ensures .0)
 
--- src/rules.rt:130:13
 add-total-2 : tie.Need-add-total-2 Inv-loop μ-loop
 add-total-2 c = let w = c .before .wide in omega (arith, c .before .before .before .before .before .before .pre .1 (w .result - 32768))
 
--- src/rules.rt:124:5
 loop-less-2 : tie.Need-loop-less-2 Inv-loop μ-loop
 loop-less-2 c = search needs
 
--- src/rules.rt:124:5
 loop-again-2 : tie.Need-loop-again-2 Inv-loop μ-loop
 loop-again-2 c = let a = c .before .before .before .before .before .before .args in let l = c .before .before .before .before .loop in let w = c .before .wide in let r = c .before .before .before .before .before .before .pre .0 in
     let u = c .before .before .before .before .before .before .pre .1 (w .result - 32768) in
     (omega arith, omega arith, omega (arith, length-variable (a .t4) (a .book .now) (a .rhs) (a .size) (l .j) (r .fits) (c .before .before .before .loop-test .taken) (w .result) (w .ensures .0) (c .if1 .left)))
 
--- src/rules.rt:118:1
 returns : tie.Need-returns Inv-loop μ-loop
 returns c = let a = c .before .before .before .args in let l = c .before .loop in omega (arith, length-done (a .t4) (a .book .now) (a .rhs) (a .size) (l .j) (c .loop-test .left))
 

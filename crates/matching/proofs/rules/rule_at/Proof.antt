@@ -1,52 +1,39 @@
+-- `rules::rule_at` meets its contract.
 use Rattle.matching.proofs.Books.{place-made}
 use borrow.Author.Needs.{needs}
 use Rattle.matching.proofs.rules.rule_at.Statement.{statement}
 use Rattle.matching.proofs.rules.rule_at.Tie as tie
-use Rattle.matching.proofs.rules.rule_at.Reads as reads
-use Rattle.matching.proofs.rules.rule_at.Lts as lts
-use Rattle.system.proofs.words.wide.Reads as wide-reads
 
--- src/rules.rt:32:15
 add-lhs : tie.Need-add-lhs
 add-lhs c = search needs
 
--- src/rules.rt:33:22
 mul-wide : tie.Need-mul-wide
 mul-wide c = search needs
 
--- src/rules.rt:33:22
 shared-slice-read-wide : tie.Need-shared-slice-read-wide
 shared-slice-read-wide c = search needs
 
--- src/rules.rt:33:9
 wide-requires : tie.Need-wide-requires
 wide-requires c κs = search needs
 
--- src/rules.rt:34:18
 add-second : tie.Need-add-second
 add-second c = search needs
 
--- src/rules.rt:35:21
 mul-wide-2 : tie.Need-mul-wide-2
 mul-wide-2 c = search needs
 
--- src/rules.rt:35:21
 shared-slice-read-wide-2 : tie.Need-shared-slice-read-wide-2
 shared-slice-read-wide-2 c = search needs
 
--- src/rules.rt:35:9
 wide-requires-2 : tie.Need-wide-requires-2
 wide-requires-2 c κs = search needs
 
--- src/rules.rt:36:15
 add-rhs : tie.Need-add-rhs
 add-rhs c = search needs
 
--- src/rules.rt:42:15
 add-t8 : tie.Need-add-t8
 add-t8 c = search needs
 
--- src/rules.rt:28:1
 returns : tie.Need-returns
 returns c = let a = c .before .before .before .before .before .args in place-made (a .book .now) (a .at) (c .before .before .wide .result) (c .wide2 .result) (c .before .before .wide .ensures .0) (c .wide2 .ensures .0)
 

@@ -1,3 +1,4 @@
+-- `rules::takes` meets its contract.
 use mathlib.Core.Path.{sym, _∙_}
 use native.Mathlib.Omega.{arith}
 use Rattle.system.specs.Answers.{signatureOf}
@@ -5,36 +6,25 @@ use Rattle.matching.proofs.MatchSteps.{takes-end, takes-variable, takes
 use borrow.Author.Needs.{needs}
 use Rattle.matching.proofs.rules.takes.Statement.{statement}
 use Rattle.matching.proofs.rules.takes.Tie as tie
-use Rattle.matching.proofs.rules.takes.Reads as reads
-use Rattle.matching.proofs.rules.takes.Lts as lts
-use Rattle.system.proofs.words.span.Reads as span-reads
-use Rattle.system.proofs.words.wide.Reads as wide-reads
 
--- src/rules.rt:51:9
 returns : tie.Need-returns
 returns c = let a = c .before .before .before .args in (sym (takes-end (signatureOf (a .book .now)) (a .l) (a .ws .now) (c .if1 .taken)), omega arith)
 
--- src/rules.rt:53:20
 wide-requires : tie.Need-wide-requires
 wide-requires c κs = search needs
 
--- src/rules.rt:54:9
 span-requires : tie.Need-span-requires
 span-requires c κs = search needs
 
--- src/rules.rt:54:9
 returns-2 : tie.Need-returns-2
 returns-2 c = let a = c .before .before .before .before .before .before .args in (c .span .ensures .0 ∙ sym (takes-variable (signatureOf (a .book .now)) (a .l) (a .ws .now) (omega arith) (omega arith)), omega arith)
 
--- src/rules.rt:56:13
 shared-slice-read-if3 : tie.Need-shared-slice-read-if3
 shared-slice-read-if3 c = search needs
 
--- src/rules.rt:57:9
 returns-3 : tie.Need-returns-3
 returns-3 c = let a = c .before .before .before .before .before .before .before .args in (sym (takes-differ (signatureOf (a .book .now)) (a .l) (a .ws .now) (omega arith) (omega arith) (c .if3 .taken)), omega arith)
 
--- src/rules.rt:47:1
 returns-4 : tie.Need-returns-4
 returns-4 c = let a = c .before .before .before .before .before .before .before .args in (sym (takes-same (signatureOf (a .book .now)) (a .l) (a .ws .now) (omega arith) (omega arith) (c .if3 .left)), omega arith)
 

@@ -1,3 +1,4 @@
+-- `safety::closes` meets its contract.
 use borrow.Author.Tests.{not-true, not-false}
 use Rattle.matching.specs.Safety.{idleTest}
 use Rattle.matching.proofs.SafetySteps.{Looked, look-starts, look-ends, look-zero, look-busy, look-idle}
@@ -6,10 +7,6 @@ use Rattle.matching.specs.Accepted.{systemOf}
 use borrow.Author.Needs.{needs}
 use Rattle.matching.proofs.safety.closes.Statement.{statement}
 use Rattle.matching.proofs.safety.closes.Tie as tie
-use Rattle.matching.proofs.safety.closes.Reads as reads
-use Rattle.matching.proofs.safety.closes.Lts as lts
-use Rattle.matching.proofs.safety.idle.Reads as idle-reads
-use Rattle.system.proofs.words.wide.Reads as wide-reads
 
 abbrev Inv-loop : tie.InvT-loop
 Inv-loop book shape f at i₀ i = Looked book f at (idleTest (systemOf book) f) i
@@ -17,72 +14,56 @@ Inv-loop book shape f at i₀ i = Looked book f at (idleTest (systemOf book) f) 
 abbrev μ-loop : tie.MeasureT-loop
 μ-loop book shape f at i₀ i = i
 
--- src/safety.rt:74:22
 mul-wide : tie.Need-mul-wide Inv-loop μ-loop
 mul-wide c = search needs
 
--- src/safety.rt:74:22
 shared-slice-read-wide : tie.Need-shared-slice-read-wide Inv-loop μ-loop
 shared-slice-read-wide c = search needs
 
--- src/safety.rt:74:9
 wide-requires : tie.Need-wide-requires Inv-loop μ-loop
 wide-requires c κs = search needs
 
--- src/safety.rt:75:5
 loop-holds : tie.Need-loop-holds Inv-loop μ-loop
 loop-holds c = let a = c .before .before .before .args in look-starts (c .before .before .before .pre .1) (idleTest (systemOf (a .book .now)) (a .f)) (c .wide .ensures .0)
 
--- src/safety.rt:76:27
 add-wide : tie.Need-add-wide Inv-loop μ-loop
 add-wide c = search needs
 
--- src/safety.rt:76:22
 mul-wide-2 : tie.Need-mul-wide-2 Inv-loop μ-loop
 mul-wide-2 c = search needs
 
--- src/safety.rt:76:22
 shared-slice-read-wide-2 : tie.Need-shared-slice-read-wide-2 Inv-loop μ-loop
 shared-slice-read-wide-2 c = search needs
 
--- src/safety.rt:76:13
 wide-requires-2 : tie.Need-wide-requires-2 Inv-loop μ-loop
 wide-requires-2 c κs = search needs
 
--- src/safety.rt:78:13
 returns : tie.Need-returns Inv-loop μ-loop
 returns c = let a = c .before .before .before .before .before .before .before .before .args in
     sym (look-zero (c .before .before .before .before .before .before .before .before .pre .1) (idleTest (systemOf (a .book .now)) (a .f)) (c .before .before .before .before .loop .inv) (c .before .before .before .loop-test .taken) (c .before .wide2 .ensures .0) (c .if1 .taken))
 
--- src/safety.rt:80:34
 sub-idle : tie.Need-sub-idle Inv-loop μ-loop
 sub-idle c = search needs
 
--- src/safety.rt:80:13
 idle-requires : tie.Need-idle-requires Inv-loop μ-loop
 idle-requires c κs = c .before .before .before .before .before .before .before .before .pre .0
 
--- src/safety.rt:81:13
 returns-2 : tie.Need-returns-2 Inv-loop μ-loop
 returns-2 c = let a = c .before .before .before .before .before .before .before .before .before .before .args in
     sym (look-busy (c .before .before .before .before .before .before .before .before .before .before .pre .1) (idleTest (systemOf (a .book .now)) (a .f)) (c .before .before .before .before .before .before .loop .inv) (c .before .before .before .before .before .loop-test .taken) (c .before .before .before .wide2 .ensures .0)
     (c .before .before .if1 .left) (sym (c .before .idle .ensures) ∙ not-true _ (c .if2 .taken)))
 
--- src/safety.rt:83:9
 sub-i : tie.Need-sub-i Inv-loop μ-loop
 sub-i c = search needs
 
--- src/safety.rt:75:5
 loop-less : tie.Need-loop-less Inv-loop μ-loop
 loop-less c = search needs
 
--- src/safety.rt:75:5
 loop-again : tie.Need-loop-again Inv-loop μ-loop
 loop-again c = let a = c .before .before .before .before .before .before .before .before .before .before .args in
     look-idle (c .before .before .before .before .before .before .before .before .before .before .pre .1) (idleTest (systemOf (a .book .now)) (a .f)) (c .before .before .before .before .before .before .loop .inv) (c .before .before .before .before .before .loop-test .taken) (c .before .before .before .wide2 .ensures .0)
     (c .before .before .if1 .left) (sym (c .before .idle .ensures) ∙ not-false _ (c .if2 .left))
 
--- src/safety.rt:70:1
 returns-3 : tie.Need-returns-3 Inv-loop μ-loop
 returns-3 c = let a = c .before .before .before .before .before .args in sym (look-ends (c .before .before .before .before .before .pre .1) (idleTest (systemOf (a .book .now)) (a .f)) (c .before .loop .inv) (c .loop-test .left))
 

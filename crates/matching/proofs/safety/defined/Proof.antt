@@ -1,3 +1,4 @@
+-- `safety::defined` meets its contract.
 use Rattle.matching.proofs.SafetySteps.{Passed, every-starts, every-ends, every-fails, every-goes, otherHead, defined-every, head-other, head-same}
 use Rattle.matching.proofs.Books.{Turn, room, turn-of}
 use mathlib.Core.Bool.{true, false}
@@ -8,10 +9,6 @@ use Rattle.matching.specs.Accepted.{systemOf}
 use borrow.Author.Needs.{needs}
 use Rattle.matching.proofs.safety.defined.Statement.{statement}
 use Rattle.matching.proofs.safety.defined.Tie as tie
-use Rattle.matching.proofs.safety.defined.Reads as reads
-use Rattle.matching.proofs.safety.defined.Lts as lts
-use Rattle.matching.proofs.rules.rule_at.Reads as rule-at-reads
-use Rattle.system.proofs.words.wide.Reads as wide-reads
 
 abbrev Inv-loop : tie.InvT-loop
 Inv-loop book shape f k₀ at₀ k at = Passed book shape (otherHead f) k at
@@ -24,44 +21,34 @@ turn : (c : tie.After-rule-at Inv-loop μ-loop) →
     Turn (c .before .before .before .before .before .args .book .now) (c .before .before .before .before .before .args .shape) (c .before .before .before .loop .k) (c .before .before .before .loop .at) (c .rule-at .result)
 turn c = turn-of (c .before .before .before .before .before .pre) (c .before .if1 .taken) (c .before .before .before .loop .inv .rest) (c .rule-at .ensures)
 
--- src/safety.rt:57:5
 loop-holds : tie.Need-loop-holds Inv-loop μ-loop
 loop-holds c = every-starts (otherHead (c .before .args .f)) (c .before .pre)
 
--- src/safety.rt:58:13
 rule-at-requires : tie.Need-rule-at-requires Inv-loop μ-loop
 rule-at-requires c κs = room (c .before .before .before .before .pre) (c .if1 .taken) (c .before .before .loop .inv .rest)
 
--- src/safety.rt:61:9
 add-k : tie.Need-add-k Inv-loop μ-loop
 add-k c = search needs
 
--- src/safety.rt:62:17
 mul-wide : tie.Need-mul-wide Inv-loop μ-loop
 mul-wide c = let w = turn c .here in omega arith
 
--- src/safety.rt:62:17
 shared-slice-read-wide : tie.Need-shared-slice-read-wide Inv-loop μ-loop
 shared-slice-read-wide c = let w = turn (c .before) .here in omega arith
 
--- src/safety.rt:62:12
 wide-requires : tie.Need-wide-requires Inv-loop μ-loop
 wide-requires c κs = search needs
 
--- src/safety.rt:63:13
 returns : tie.Need-returns Inv-loop μ-loop
 returns c = let f = c .before .before .before .before .before .before .before .before .args .f in let t = turn (c .before .before .before) in
     sym (defined-every (systemOf (c .before .before .before .before .before .before .before .before .args .book .now)) f false (every-fails (otherHead f) t (c .before .before .before .before .before .before .loop .inv) (head-same t f (c .before .wide .ensures .0) (c .if2 .taken))))
 
--- src/safety.rt:57:5
 loop-less : tie.Need-loop-less Inv-loop μ-loop
 loop-less c = search needs
 
--- src/safety.rt:57:5
 loop-again : tie.Need-loop-again Inv-loop μ-loop
 loop-again c = let f = c .before .before .before .before .before .before .before .before .args .f in let t = turn (c .before .before .before) in every-goes (otherHead f) t (c .before .before .before .before .before .before .loop .inv) (head-other t f (c .before .wide .ensures .0) (c .if2 .left))
 
--- src/safety.rt:51:1
 returns-2 : tie.Need-returns-2 Inv-loop μ-loop
 returns-2 c = let a = c .before .before .before .before .args in sym (defined-every (systemOf (a .book .now)) (a .f) true (every-ends (otherHead (a .f)) (c .before .before .before .before .pre) (c .before .before .loop .inv) (c .if1 .left)))
 

@@ -1,3 +1,4 @@
+-- `safety::idle` meets its contract.
 use borrow.Author.Tests.{not-true, not-false}
 use Rattle.matching.proofs.SafetySteps.{Passed, every-starts, every-ends, every-fails, every-goes, idleIn, idle-every, idle-other, idle-same}
 use Rattle.matching.proofs.Books.{Turn, room, turn-of}
@@ -8,11 +9,6 @@ use Rattle.system.specs.Answers.{signatureOf}
 use borrow.Author.Needs.{needs}
 use Rattle.matching.proofs.safety.idle.Statement.{statement}
 use Rattle.matching.proofs.safety.idle.Tie as tie
-use Rattle.matching.proofs.safety.idle.Reads as reads
-use Rattle.matching.proofs.safety.idle.Lts as lts
-use Rattle.matching.proofs.rules.rule_at.Reads as rule-at-reads
-use Rattle.matching.proofs.safety.is_variable.Reads as is-variable-reads
-use Rattle.system.proofs.words.wide.Reads as wide-reads
 
 abbrev Inv-loop : tie.InvT-loop
 Inv-loop book shape f i k₀ at₀ k at = Passed book shape (idleIn (signatureOf book) f i) k at
@@ -25,80 +21,62 @@ turn : (c : tie.After-rule-at Inv-loop μ-loop) →
     Turn (c .before .before .before .before .before .args .book .now) (c .before .before .before .before .before .args .shape) (c .before .before .before .loop .k) (c .before .before .before .loop .at) (c .rule-at .result)
 turn c = turn-of (c .before .before .before .before .before .pre) (c .before .if1 .taken) (c .before .before .before .loop .inv .rest) (c .rule-at .ensures)
 
--- src/safety.rt:35:5
 loop-holds : tie.Need-loop-holds Inv-loop μ-loop
 loop-holds c = let a = c .before .args in every-starts (idleIn (signatureOf (a .book .now)) (a .f) (a .i)) (c .before .pre)
 
--- src/safety.rt:36:13
 rule-at-requires : tie.Need-rule-at-requires Inv-loop μ-loop
 rule-at-requires c κs = room (c .before .before .before .before .pre) (c .if1 .taken) (c .before .before .loop .inv .rest)
 
--- src/safety.rt:38:19
 add-end : tie.Need-add-end Inv-loop μ-loop
 add-end c = let w = turn (c .before) .here in omega arith
 
--- src/safety.rt:40:9
 add-k : tie.Need-add-k Inv-loop μ-loop
 add-k c = search needs
 
--- src/safety.rt:41:17
 mul-wide : tie.Need-mul-wide Inv-loop μ-loop
 mul-wide c = let w = turn (c .before) .here in omega arith
 
--- src/safety.rt:41:17
 shared-slice-read-wide : tie.Need-shared-slice-read-wide Inv-loop μ-loop
 shared-slice-read-wide c = let w = turn (c .before .before) .here in omega arith
 
--- src/safety.rt:41:12
 wide-requires : tie.Need-wide-requires Inv-loop μ-loop
 wide-requires c κs = search needs
 
--- src/safety.rt:42:35
 mul-is-variable : tie.Need-mul-is-variable Inv-loop μ-loop
 mul-is-variable c = let w = turn (c .before .before .before .before) .here in omega arith
 
--- src/safety.rt:42:35
 sub-is-variable : tie.Need-sub-is-variable Inv-loop μ-loop
 sub-is-variable c = search needs
 
--- src/safety.rt:42:35
 part-is-variable-start : tie.Need-part-is-variable-start Inv-loop μ-loop
 part-is-variable-start c = search needs
 
--- src/safety.rt:42:35
 part-is-variable-end : tie.Need-part-is-variable-end Inv-loop μ-loop
 part-is-variable-end c = let w = turn (c .before .before .before .before) .here in omega arith
 
--- src/safety.rt:42:17
 is-variable-requires : tie.Need-is-variable-requires Inv-loop μ-loop
 is-variable-requires c κs = search needs
 
--- src/safety.rt:43:17
 returns : tie.Need-returns Inv-loop μ-loop
 returns c = let a = c .before .before .before .before .before .before .before .before .before .before .before .before .args in let t = turn (c .before .before .before .before .before .before .before) in
     sym (idle-every (c .before .before .before .before .before .before .before .before .before .before .before .before .pre) (a .f) (a .i) ∙ every-fails (idleIn (signatureOf (a .book .now)) (a .f) (a .i)) t (c .before .before .before .before .before .before .before .before .before .before .loop .inv)
     (idle-same t (a .f) (c .before .before .before .before .wide .ensures .0) (a .i) (c .before .before .before .if2 .taken) (c .before .is-variable .ensures) (not-true _ (c .if3 .taken))))
 
--- src/safety.rt:35:5
 loop-less : tie.Need-loop-less Inv-loop μ-loop
 loop-less c = search needs
 
--- src/safety.rt:35:5
 loop-again : tie.Need-loop-again Inv-loop μ-loop
 loop-again c = let a = c .before .before .before .before .before .before .before .before .before .before .before .before .args in let t = turn (c .before .before .before .before .before .before .before) in
     every-goes (idleIn (signatureOf (a .book .now)) (a .f) (a .i)) t (c .before .before .before .before .before .before .before .before .before .before .loop .inv)
     (idle-same t (a .f) (c .before .before .before .before .wide .ensures .0) (a .i) (c .before .before .before .if2 .taken) (c .before .is-variable .ensures) (not-false _ (c .if3 .left)))
 
--- src/safety.rt:35:5
 loop-less-2 : tie.Need-loop-less-2 Inv-loop μ-loop
 loop-less-2 c = search needs
 
--- src/safety.rt:35:5
 loop-again-2 : tie.Need-loop-again-2 Inv-loop μ-loop
 loop-again-2 c = let a = c .before .before .before .before .before .before .before .before .before .args in let t = turn (c .before .before .before .before) in
     every-goes (idleIn (signatureOf (a .book .now)) (a .f) (a .i)) t (c .before .before .before .before .before .before .before .loop .inv) (idle-other t (a .f) (c .before .wide .ensures .0) (a .i) (c .if2 .left))
 
--- src/safety.rt:29:1
 returns-2 : tie.Need-returns-2 Inv-loop μ-loop
 returns-2 c = let a = c .before .before .before .before .args in
     sym (idle-every (c .before .before .before .before .pre) (a .f) (a .i) ∙ every-ends (idleIn (signatureOf (a .book .now)) (a .f) (a .i)) (c .before .before .before .before .pre) (c .before .before .loop .inv) (c .if1 .left))

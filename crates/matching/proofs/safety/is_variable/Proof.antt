@@ -1,3 +1,4 @@
+-- `safety::is_variable` meets its contract.
 use lib.Dec.{leb}
 use Rattle.matching.proofs.SafetySteps.{variable-none, variable-past, variable-here}
 use mathlib.Core.Path.{sym, ap, _∙_}
@@ -5,52 +6,37 @@ use Rattle.system.specs.Answers.{signatureOf}
 use borrow.Author.Needs.{needs}
 use Rattle.matching.proofs.safety.is_variable.Statement.{statement}
 use Rattle.matching.proofs.safety.is_variable.Tie as tie
-use Rattle.matching.proofs.safety.is_variable.Reads as reads
-use Rattle.matching.proofs.safety.is_variable.Lts as lts
-use Rattle.system.proofs.words.spans.Reads as spans-reads
-use Rattle.system.proofs.words.wide.Reads as wide-reads
 
--- src/safety.rt:19:9
 returns : tie.Need-returns
 returns c = let a = c .before .before .before .args in sym (variable-none (signatureOf (a .book .now)) (a .lhs .now) (a .i) (c .if1 .taken))
 
--- src/safety.rt:21:29
 sub-spans : tie.Need-sub-spans
 sub-spans c = search needs
 
--- src/safety.rt:21:29
 part-spans-start : tie.Need-part-spans-start
 part-spans-start c = search needs
 
--- src/safety.rt:21:29
 part-spans-end : tie.Need-part-spans-end
 part-spans-end c = search needs
 
--- src/safety.rt:21:17
 spans-requires : tie.Need-spans-requires
 spans-requires c κs = search needs
 
--- src/safety.rt:21:13
 add-p : tie.Need-add-p
 add-p c = search needs
 
--- src/safety.rt:23:9
 returns-2 : tie.Need-returns-2
 returns-2 c = let a = c .before .before .before .before .before .before .args in let x = c .before .spans in sym (variable-past (signatureOf (a .book .now)) (a .lhs .now) (a .i) (x .result) (x .ensures .0) (c .if2 .taken))
 
--- src/safety.rt:25:22
 mul-wide : tie.Need-mul-wide
 mul-wide c = search needs
 
--- src/safety.rt:25:22
 shared-slice-read-wide : tie.Need-shared-slice-read-wide
 shared-slice-read-wide c = search needs
 
--- src/safety.rt:25:17
 wide-requires : tie.Need-wide-requires
 wide-requires c κs = search needs
 
--- src/safety.rt:15:1
 returns-3 : tie.Need-returns-3
 returns-3 c = let a = c .before .before .before .before .before .before .before .before .args in let x = c .before .before .before .spans in ap (λ y. leb 32768 y) (c .wide .ensures .0) ∙ sym (variable-here (signatureOf (a .book .now)) (a .lhs .now) (a .i) (x .result) (x .ensures .0))
 

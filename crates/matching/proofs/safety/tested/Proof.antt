@@ -1,3 +1,4 @@
+-- `safety::tested` meets its contract.
 use borrow.Author.Tests.{not-true, not-false}
 use Rattle.matching.proofs.SafetySteps.{Through, test-starts, test-ends, test-strategy, test-fails, test-goes}
 use native.Mathlib.Omega.{arith}
@@ -5,10 +6,6 @@ use Prim.Native.Nat.{_-_}
 use borrow.Author.Needs.{needs}
 use Rattle.matching.proofs.safety.tested.Statement.{statement}
 use Rattle.matching.proofs.safety.tested.Tie as tie
-use Rattle.matching.proofs.safety.tested.Reads as reads
-use Rattle.matching.proofs.safety.tested.Lts as lts
-use Rattle.matching.proofs.safety.passes.Reads as passes-reads
-use Rattle.system.proofs.words.wide.Reads as wide-reads
 
 abbrev Inv-loop : tie.InvT-loop
 Inv-loop book shape f₀ at₀ f at = Through book shape f at
@@ -16,51 +13,39 @@ Inv-loop book shape f₀ at₀ f at = Through book shape f at
 abbrev μ-loop : tie.MeasureT-loop
 μ-loop book shape f₀ at₀ f at = shape .symbols - f
 
--- src/safety.rt:106:5
 loop-holds : tie.Need-loop-holds Inv-loop μ-loop
 loop-holds c = test-starts (c .before .pre)
 
--- src/safety.rt:107:13
 passes-requires : tie.Need-passes-requires Inv-loop μ-loop
 passes-requires c κs = (c .before .before .before .before .pre, test-strategy (c .before .before .before .before .pre) (c .before .before .loop .inv) (c .if1 .taken))
 
--- src/safety.rt:108:13
 returns : tie.Need-returns Inv-loop μ-loop
 returns c = test-fails (c .before .before .before .before .before .before .pre) (c .before .before .before .before .loop .inv) (c .before .before .if1 .taken) (c .before .passes .ensures) (not-true _ (c .if2 .taken))
 
--- src/safety.rt:114:14
 add-at : tie.Need-add-at Inv-loop μ-loop
 add-at c = let w = test-strategy (c .before .before .before .before .before .before .pre) (c .before .before .before .before .loop .inv) (c .before .before .if1 .taken) in omega arith
 
--- src/safety.rt:114:28
 mul-wide : tie.Need-mul-wide Inv-loop μ-loop
 mul-wide c = let w = test-strategy (c .before .before .before .before .before .before .pre) (c .before .before .before .before .loop .inv) (c .before .before .if1 .taken) in omega arith
 
--- src/safety.rt:114:28
 shared-slice-read-wide : tie.Need-shared-slice-read-wide Inv-loop μ-loop
 shared-slice-read-wide c = let w = test-strategy (c .before .before .before .before .before .before .before .pre) (c .before .before .before .before .before .loop .inv) (c .before .before .before .if1 .taken) in omega arith
 
--- src/safety.rt:114:23
 wide-requires : tie.Need-wide-requires Inv-loop μ-loop
 wide-requires c κs = search needs
 
--- src/safety.rt:114:14
 add-at-2 : tie.Need-add-at-2 Inv-loop μ-loop
 add-at-2 c = let w = test-strategy (c .before .before .before .before .before .before .before .before .pre) (c .before .before .before .before .before .before .loop .inv) (c .before .before .before .before .if1 .taken) in omega arith
 
--- src/safety.rt:115:9
 add-f : tie.Need-add-f Inv-loop μ-loop
 add-f c = search needs
 
--- src/safety.rt:106:5
 loop-less : tie.Need-loop-less Inv-loop μ-loop
 loop-less c = search needs
 
--- src/safety.rt:106:5
 loop-again : tie.Need-loop-again Inv-loop μ-loop
 loop-again c = test-goes (c .before .before .before .before .before .before .before .before .pre) (c .before .before .before .before .before .before .loop .inv) (c .before .before .before .before .if1 .taken) (c .before .before .before .passes .ensures) (not-false _ (c .before .before .if2 .left)) (c .wide .ensures .0)
 
--- src/safety.rt:100:1
 returns-2 : tie.Need-returns-2 Inv-loop μ-loop
 returns-2 c = test-ends (c .before .before .before .before .pre) (c .before .before .loop .inv) (c .if1 .left)
 

@@ -8,36 +8,29 @@ use borrow.Author.Needs.{needs}
 use Rattle.system.proofs.reader.check.Statement.{statement}
 use Rattle.system.proofs.reader.check.Tie as tie
 
--- src/reader.rt:45:9
 returns : tie.Need-returns
 returns c = let a = c .before .before .args in
     (λ f e. sym (ap (λ o. sectionOf o .number) (number-missing (a .book .now) f (a .low) (a .high) (a .at) (c .if1 .taken))), λ z. absurd (omega arith))
 
--- src/reader.rt:47:18
 mul-wide : tie.Need-mul-wide
 mul-wide c = search needs
 
--- src/reader.rt:47:18
 shared-slice-read-wide : tie.Need-shared-slice-read-wide
 shared-slice-read-wide c = search needs
 
--- src/reader.rt:47:9
 wide-requires : tie.Need-wide-requires
 wide-requires c κs = search needs
 
--- src/reader.rt:49:9
 returns-2 : tie.Need-returns-2
 returns-2 c = let a = c .before .before .before .before .before .args in
     let w = c .before .wide .ensures in
     (λ f e. sym e ∙ sym (ap (λ o. sectionOf o .number) (number-below (a .book .now) f (a .low) (a .high) (a .at) (omega arith) (omega arith))), λ z. absurd (omega arith))
 
--- src/reader.rt:52:9
 returns-3 : tie.Need-returns-3
 returns-3 c = let a = c .before .before .before .before .before .before .args in
     let w = c .before .before .wide .ensures in
     (λ f e. sym e ∙ sym (ap (λ o. sectionOf o .number) (number-above (a .book .now) f (a .low) (a .high) (a .at) (omega arith) (omega arith) (omega arith))), λ z. absurd (omega arith))
 
--- src/reader.rt:41:1
 returns-4 : tie.Need-returns-4
 returns-4 c = let a = c .before .before .before .before .before .before .args in
     let w = c .before .before .wide .ensures in

@@ -7,29 +7,23 @@ use borrow.Author.Needs.{needs}
 use Rattle.system.proofs.reader.learn.Statement.{statement}
 use Rattle.system.proofs.reader.learn.Tie as tie
 
--- src/reader.rt:171:16
 enum-told : tie.Need-enum-told
 enum-told c = search needs
 
--- src/reader.rt:172:24
 add-result : tie.Need-add-result
 add-result c = search needs
 
--- src/reader.rt:172:17
 returns : tie.Need-returns
 returns c = let a = c .before .before .before .args in
     (add-one (a .known) ∙ sym (learn-variable (a .hand) (a .known) (a .w) (c .before .enum-told .given .1) (c .if1 .taken)), omega arith)
 
--- src/reader.rt:176:24
 enum-told-2 : tie.Need-enum-told-2
 enum-told-2 c = search needs
 
--- src/reader.rt:165:1
 returns-2 : tie.Need-returns-2
 returns-2 c = let a = c .before .before .before .args in
     (sym (learn-symbol (a .hand) (a .known) (a .w) (c .if1 .left)), omega arith)
 
--- src/reader.rt:165:1
 returns-3 : tie.Need-returns-3
 returns-3 c = let a = c .before .before .args in
     (sym (learn-right (a .hand) (a .known) (a .w) (c .enum-told2 .given .1)), omega arith)

@@ -18,40 +18,32 @@ Inv-loop book at n high otherwise i₀ left₀ i left = (i ≤ length book) × (
 abbrev μ-loop : tie.MeasureT-loop
 μ-loop book at n high otherwise i₀ left₀ i left = left
 
--- src/reader.rt:65:5
 loop-holds : tie.Need-loop-holds Inv-loop μ-loop
 loop-holds c = (omega arith, λ f e. refl)
 
--- src/reader.rt:66:13
 check-requires : tie.Need-check-requires Inv-loop μ-loop
 check-requires c κs = search needs
 
--- src/reader.rt:68:13
 returns : tie.Need-returns Inv-loop μ-loop
 returns c = let l = c .before .before .before .loop in
     let a = c .before .before .before .before .before .args in
     (λ f e. sym (numbers-stop (a .book .now) f 0 (a .high) (l .i) (l .left) (omega arith) (c .before .check .result) (c .before .check .ensures .0 f e) (c .if1 .taken)) ∙ l .inv .1 f e, omega arith)
 
--- src/reader.rt:73:9
 add-i : tie.Need-add-i Inv-loop μ-loop
 add-i c = search needs
 
--- src/reader.rt:74:9
 sub-left : tie.Need-sub-left Inv-loop μ-loop
 sub-left c = search needs
 
--- src/reader.rt:65:5
 loop-less : tie.Need-loop-less Inv-loop μ-loop
 loop-less c = search needs
 
--- src/reader.rt:65:5
 loop-again : tie.Need-loop-again Inv-loop μ-loop
 loop-again c = let l = c .before .before .before .loop in
     let a = c .before .before .before .before .before .args in
     let n = c .before .check .ensures .1 (c .if1 .left) in
     (let h = n .here in omega arith, λ f e. sym (numbers-next (a .book .now) f 0 (a .high) (l .i) (l .left) (omega arith) n) ∙ l .inv .1 f e)
 
--- src/reader.rt:58:1
 returns-2 : tie.Need-returns-2 Inv-loop μ-loop
 returns-2 c = let l = c .before .loop in
     let a = c .before .before .before .args in

@@ -7,23 +7,19 @@ use borrow.Author.Needs.{needs}
 use Rattle.system.proofs.reader.read_rule.Statement.{statement}
 use Rattle.system.proofs.reader.read_rule.Tie as tie
 
--- src/reader.rt:250:9
 read-side-requires : tie.Need-read-side-requires
 read-side-requires c κs = search needs
 
--- src/reader.rt:252:9
 returns : tie.Need-returns
 returns c = let a = c .before .before .before .before .args in
     let l = c .before .before .read-side in
     (sym (rule-refused (a .book .now) (signatureOf (a .book .now)) (a .at) (l .result) (l .ensures .0) (c .if1 .taken)), l .ensures .1 .0)
 
--- src/reader.rt:257:9
 read-side-requires-2 : tie.Need-read-side-requires-2
 read-side-requires-2 c κs = let l = c .before .before .read-side in
     let h = l .ensures .1 in
     omega arith
 
--- src/reader.rt:245:1
 returns-2 : tie.Need-returns-2
 returns-2 c = let a = c .before .before .before .before .before .args in
     let l = c .before .before .before .read-side in

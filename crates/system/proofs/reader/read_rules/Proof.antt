@@ -16,37 +16,30 @@ Inv-loop book at n i₀ left₀ i left = (i ≤ length book) × (sectionOf (time
 abbrev μ-loop : tie.MeasureT-loop
 μ-loop book at n i₀ left₀ i left = left
 
--- src/reader.rt:272:5
 loop-holds : tie.Need-loop-holds Inv-loop μ-loop
 loop-holds c = (omega arith, refl)
 
--- src/reader.rt:273:13
 read-rule-requires : tie.Need-read-rule-requires Inv-loop μ-loop
 read-rule-requires c κs = search needs
 
--- src/reader.rt:275:13
 returns : tie.Need-returns Inv-loop μ-loop
 returns c = let l = c .before .before .before .before .loop in
     let a = c .before .before .before .before .before .before .args in
     let r = c .before .before .read-rule in
     (sym (times-stop (readRule (a .book .now) (signatureOf (a .book .now))) (l .left) (l .i) (omega arith) (r .result) (r .ensures .0) (c .if1 .taken)) ∙ l .inv .1, r .ensures .1)
 
--- src/reader.rt:278:9
 sub-left : tie.Need-sub-left Inv-loop μ-loop
 sub-left c = search needs
 
--- src/reader.rt:272:5
 loop-less : tie.Need-loop-less Inv-loop μ-loop
 loop-less c = search needs
 
--- src/reader.rt:272:5
 loop-again : tie.Need-loop-again Inv-loop μ-loop
 loop-again c = let l = c .before .before .before .before .loop in
     let a = c .before .before .before .before .before .before .args in
     let r = c .before .before .read-rule in
     (r .ensures .1, sym (times-next (readRule (a .book .now) (signatureOf (a .book .now))) (l .left) (l .i) (omega arith) (r .result) (r .ensures .0) (c .if1 .left)) ∙ l .inv .1)
 
--- src/reader.rt:265:1
 returns-2 : tie.Need-returns-2 Inv-loop μ-loop
 returns-2 c = let l = c .before .loop in
     let a = c .before .before .before .args in

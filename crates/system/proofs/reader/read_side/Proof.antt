@@ -15,39 +15,31 @@ use Rattle.system.proofs.reader.read_side.Tie as tie
 size : (c : tie.Else1) → Inside (c .before .before .before .args .book .now) (c .before .before .before .args .at) 1 64
 size c = c .before .check .ensures .1 (c .if1 .left)
 
--- src/reader.rt:233:9
 check-requires : tie.Need-check-requires
 check-requires c κs = search needs
 
--- src/reader.rt:235:9
 returns : tie.Need-returns
 returns c = let a = c .before .before .before .args in
     (sym (side-refused (a .book .now) (signatureOf (a .book .now)) (a .hand) (a .known) (a .at) (c .before .check .result) (c .before .check .ensures .0 range refl) (c .if1 .taken)), (omega arith, omega arith))
 
--- src/reader.rt:241:22
 add-read-words : tie.Need-add-read-words
 add-read-words c = let h = size c .here in omega arith
 
--- src/reader.rt:241:35
 mul-wide : tie.Need-mul-wide
 mul-wide c = let h = size c .here in search needs
 
--- src/reader.rt:241:35
 shared-slice-read-wide : tie.Need-shared-slice-read-wide
 shared-slice-read-wide c = size (c .before) .here
 
--- src/reader.rt:241:30
 wide-requires : tie.Need-wide-requires
 wide-requires c κs = search needs
 
--- src/reader.rt:241:5
 read-words-requires : tie.Need-read-words-requires
 read-words-requires c κs = let h = size (c .before .before) .here in
     let b = size (c .before .before) .below in
     let w = c .wide .ensures in
     omega arith
 
--- src/reader.rt:228:1
 returns-2 : tie.Need-returns-2
 returns-2 c = let a = c .before .before .before .before .before .before .args in
     let w = c .before .wide .ensures .0 in (

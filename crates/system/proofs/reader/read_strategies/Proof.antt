@@ -18,40 +18,32 @@ Inv-loop book at n i₀ k₀ i k = (k ≤ n) × (n ≡ length (signatureOf book)
 abbrev μ-loop : tie.MeasureT-loop
 μ-loop book at n i₀ k₀ i k = n - k
 
--- src/reader.rt:106:9
 symbols-requires : tie.Need-symbols-requires Inv-loop μ-loop
 symbols-requires c κs = search needs
 
--- src/reader.rt:109:5
 loop-holds : tie.Need-loop-holds Inv-loop μ-loop
 loop-holds c = (omega arith, c .symbols .ensures, omega arith, refl)
 
--- src/reader.rt:110:50
 add-wide : tie.Need-add-wide Inv-loop μ-loop
 add-wide c = search needs
 
--- src/reader.rt:110:45
 mul-wide : tie.Need-mul-wide Inv-loop μ-loop
 mul-wide c = let l = c .before .loop in
     let a = c .before .before .before .before .args in
     let h = signature-room (a .book .now) (l .k) (omega arith) in
     search needs
 
--- src/reader.rt:110:45
 shared-slice-read-wide : tie.Need-shared-slice-read-wide Inv-loop μ-loop
 shared-slice-read-wide c = let l = c .before .before .loop in
     let a = c .before .before .before .before .before .args in
     signature-room (a .book .now) (l .k) (omega arith)
 
--- src/reader.rt:110:40
 wide-requires : tie.Need-wide-requires Inv-loop μ-loop
 wide-requires c κs = search needs
 
--- src/reader.rt:110:13
 read-strategy-requires : tie.Need-read-strategy-requires Inv-loop μ-loop
 read-strategy-requires c κs = search needs
 
--- src/reader.rt:112:13
 returns : tie.Need-returns Inv-loop μ-loop
 returns c = let l = c .before .before .before .before .before .before .loop in
     let a = c .before .before .before .before .before .before .before .before .before .args in
@@ -60,15 +52,12 @@ returns c = let l = c .before .before .before .before .before .before .loop in
     let e = c .before .before .read-strategy .ensures .0 ∙ ap (λ n. sectionOf (readStrategy ws n (l .i))) (c .before .before .before .wide .ensures .0 ∙ sym (signature-word ws (l .k) h)) in
     (sym (each-stop (readStrategy ws) (signatureOf ws) (l .k) (l .i) h (c .before .before .read-strategy .result) e (c .if1 .taken)) ∙ l .inv .3, c .before .before .read-strategy .ensures .1)
 
--- src/reader.rt:115:9
 add-k : tie.Need-add-k Inv-loop μ-loop
 add-k c = search needs
 
--- src/reader.rt:109:5
 loop-less : tie.Need-loop-less Inv-loop μ-loop
 loop-less c = search needs
 
--- src/reader.rt:109:5
 loop-again : tie.Need-loop-again Inv-loop μ-loop
 loop-again c = let l = c .before .before .before .before .before .before .loop in
     let a = c .before .before .before .before .before .before .before .before .before .args in
@@ -81,7 +70,6 @@ loop-again c = let l = c .before .before .before .before .before .before .loop i
       sym (each-next (readStrategy ws) (signatureOf ws) (l .k) (l .i) h (c .before .before .read-strategy .result) e (c .if1 .left)) ∙ l .inv .3,
     )
 
--- src/reader.rt:101:1
 returns-2 : tie.Need-returns-2 Inv-loop μ-loop
 returns-2 c = let l = c .before .loop in
     let a = c .before .before .before .before .args in

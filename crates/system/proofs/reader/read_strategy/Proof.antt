@@ -14,38 +14,30 @@ use Rattle.system.proofs.reader.read_strategy.Tie as tie
 size : (c : tie.Else1) → Inside (c .before .before .before .args .book .now) (c .before .before .before .args .at) 0 16
 size c = c .before .check .ensures .1 (c .if1 .left)
 
--- src/reader.rt:90:9
 check-requires : tie.Need-check-requires
 check-requires c κs = search needs
 
--- src/reader.rt:92:9
 returns : tie.Need-returns
 returns c = let a = c .before .before .before .args in
     (sym (strategy-refused (a .book .now) (a .arity) (a .at) (c .before .check .result) (c .before .check .ensures .0 range refl) (c .if1 .taken)), omega arith)
 
--- src/reader.rt:97:24
 add-read-numbers : tie.Need-add-read-numbers
 add-read-numbers c = let h = size c .here in omega arith
 
--- src/reader.rt:97:37
 mul-wide : tie.Need-mul-wide
 mul-wide c = let h = size c .here in search needs
 
--- src/reader.rt:97:37
 shared-slice-read-wide : tie.Need-shared-slice-read-wide
 shared-slice-read-wide c = size (c .before) .here
 
--- src/reader.rt:97:32
 wide-requires : tie.Need-wide-requires
 wide-requires c κs = search needs
 
--- src/reader.rt:97:5
 read-numbers-requires : tie.Need-read-numbers-requires
 read-numbers-requires c κs = let h = size (c .before .before) .here in
     let w = c .wide .ensures in
     omega arith
 
--- src/reader.rt:85:1
 returns-2 : tie.Need-returns-2
 returns-2 c = let a = c .before .before .before .before .before .before .args in
     let w = c .before .wide .ensures .0 in (

@@ -22,50 +22,40 @@ rules c =
     let a = c .before .before .before .before .before .before .args in
     c .read-rules .ensures .0 ∙ ap (λ k. sectionOf (times k (readRule (a .book .now) (signatureOf (a .book .now))) (a .at + 1))) (c .before .wide .ensures .0)
 
--- src/reader.rt:292:9
 check-requires : tie.Need-check-requires
 check-requires c κs = search needs
 
--- src/reader.rt:294:9
 returns : tie.Need-returns
 returns c = let a = c .before .before .before .args in
     (sym (rules-refused (a .book .now) (signatureOf (a .book .now)) (a .at) (c .before .check .result) (c .before .check .ensures .0 range refl) (c .if1 .taken)), omega arith)
 
--- src/reader.rt:299:30
 add-read-rules : tie.Need-add-read-rules
 add-read-rules c = let h = count c .here in omega arith
 
--- src/reader.rt:299:43
 mul-wide : tie.Need-mul-wide
 mul-wide c = let h = count c .here in search needs
 
--- src/reader.rt:299:43
 shared-slice-read-wide : tie.Need-shared-slice-read-wide
 shared-slice-read-wide c = count (c .before) .here
 
--- src/reader.rt:299:38
 wide-requires : tie.Need-wide-requires
 wide-requires c κs = search needs
 
--- src/reader.rt:299:9
 read-rules-requires : tie.Need-read-rules-requires
 read-rules-requires c κs = let h = count (c .before .before) .here in
     let w = c .wide .ensures in
     omega arith
 
--- src/reader.rt:301:9
 returns-2 : tie.Need-returns-2
 returns-2 c = let a = c .before .before .before .before .before .before .before .before .args in
     let t = c .before .before .read-rules in
     (sym (rules-bad (a .book .now) (signatureOf (a .book .now)) (a .at) (count (c .before .before .before .before .before)) (t .result) (rules (c .before .before)) (c .if2 .taken)), t .ensures .1)
 
--- src/reader.rt:304:9
 returns-3 : tie.Need-returns-3
 returns-3 c = let a = c .before .before .before .before .before .before .before .before .before .before .args in
     let t = c .before .before .before .before .read-rules in
     (sym (rules-surplus (a .book .now) (signatureOf (a .book .now)) (a .at) (count (c .before .before .before .before .before .before .before)) (t .result) (rules (c .before .before .before .before)) (c .before .before .if2 .left) (c .if3 .taken)), t .ensures .1)
 
--- src/reader.rt:287:1
 returns-4 : tie.Need-returns-4
 returns-4 c = let a = c .before .before .before .before .before .before .before .before .before .before .args in
     let t = c .before .before .before .before .read-rules in

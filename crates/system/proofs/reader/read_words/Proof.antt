@@ -20,67 +20,53 @@ Inv-loop book at n hand known due₀ seen₀ j₀ due seen j = (j ≤ n) × (at 
 abbrev μ-loop : tie.MeasureT-loop
 μ-loop book at n hand known due₀ seen₀ j₀ due seen j = n - j
 
--- src/reader.rt:189:5
 loop-holds : tie.Need-loop-holds Inv-loop μ-loop
 loop-holds c = let a = c .before .args in
     (omega arith, omega arith, omega arith, omega arith, words-start (a .book .now) (signatureOf (a .book .now)) (a .hand) (a .n) 1 (a .known) (a .at) 0 refl)
 
--- src/reader.rt:190:17
 add-i : tie.Need-add-i Inv-loop μ-loop
 add-i c = search needs
 
--- src/reader.rt:192:13
 returns : tie.Need-returns Inv-loop μ-loop
 returns c = let l = c .before .before .loop in
     let a = c .before .before .before .before .args in
     (sym (words-missing (a .book .now) (signatureOf (a .book .now)) (a .hand) (eqb (l .j) 0) (a .n - l .j) (l .due) (l .seen) (a .at + l .j) (omega arith) (c .if1 .taken)) ∙ l .inv .4, (omega arith, omega arith))
 
--- src/reader.rt:198:17
 mul-w : tie.Need-mul-w Inv-loop μ-loop
 mul-w c = search needs
 
--- src/reader.rt:198:17
 shared-slice-read-w : tie.Need-shared-slice-read-w Inv-loop μ-loop
 shared-slice-read-w c = search needs
 
--- src/reader.rt:199:13
 side-fault-requires : tie.Need-side-fault-requires Inv-loop μ-loop
 side-fault-requires c κs = search needs
 
--- src/reader.rt:201:13
 returns-2 : tie.Need-returns-2 Inv-loop μ-loop
 returns-2 c = let l = c .before .before .before .before .before .loop in
     let a = c .before .before .before .before .before .before .before .args in
     (sym (words-fault (a .book .now) (signatureOf (a .book .now)) (a .hand) (eqb (l .j) 0) (a .n - l .j) (l .due) (l .seen) (a .at + l .j) (omega arith) (omega arith) (c .before .side-fault .result) (c .before .side-fault .ensures) (c .if2 .taken)) ∙ l .inv .4, (omega arith, omega arith))
 
--- src/reader.rt:207:15
 sub-due : tie.Need-sub-due Inv-loop μ-loop
 sub-due c = let l = c .before .before .before .before .before .loop in
     let a = c .before .before .before .before .before .before .before .args in
     let h = side-open (signatureOf (a .book .now)) (a .hand) (eqb (l .j) 0) (l .due) (l .seen) (getD (a .book .now) (a .at + l .j) 0) (sym (c .before .side-fault .ensures) ∙ c .if2 .left) in
     omega arith
 
--- src/reader.rt:207:25
 arity-requires : tie.Need-arity-requires Inv-loop μ-loop
 arity-requires c κs = search needs
 
--- src/reader.rt:207:15
 add-due : tie.Need-add-due Inv-loop μ-loop
 add-due c = search needs
 
--- src/reader.rt:208:9
 learn-requires : tie.Need-learn-requires Inv-loop μ-loop
 learn-requires c κs = search needs
 
--- src/reader.rt:209:9
 add-j : tie.Need-add-j Inv-loop μ-loop
 add-j c = search needs
 
--- src/reader.rt:189:5
 loop-less : tie.Need-loop-less Inv-loop μ-loop
 loop-less c = search needs
 
--- src/reader.rt:189:5
 loop-again : tie.Need-loop-again Inv-loop μ-loop
 loop-again c = let l = c .before .before .before .before .before .before .before .loop in
     let a = c .before .before .before .before .before .before .before .before .before .args in
@@ -93,22 +79,18 @@ loop-again c = let l = c .before .before .before .before .before .before .before
     let r = c .before .arity .ensures .1 in
     (omega arith, omega arith, omega arith, omega arith, sym t ∙ l .inv .4)
 
--- src/reader.rt:214:20
 add-t18 : tie.Need-add-t18 Inv-loop μ-loop
 add-t18 c = search needs
 
--- src/reader.rt:212:9
 returns-3 : tie.Need-returns-3 Inv-loop μ-loop
 returns-3 c = let l = c .before .before .loop in
     let a = c .before .before .before .before .args in
     let e : a .at + l .j ≡ a .at + a .n = omega arith in
     (rw (← e) (sym (words-short (a .book .now) (signatureOf (a .book .now)) (a .hand) (eqb (l .j) 0) (a .n - l .j) (l .due) (l .seen) (a .at + l .j) (omega arith) (omega arith)) ∙ l .inv .4), (omega arith, omega arith))
 
--- src/reader.rt:220:16
 add-t19 : tie.Need-add-t19 Inv-loop μ-loop
 add-t19 c = search needs
 
--- src/reader.rt:181:1
 returns-4 : tie.Need-returns-4 Inv-loop μ-loop
 returns-4 c = let l = c .before .before .loop in
     let a = c .before .before .before .before .args in

@@ -38,101 +38,80 @@ rules-left c =
 
 -- ---- the needs
 
--- src/reader.rt:326:9
 check-requires : tie.Need-check-requires
 check-requires c κs = search needs
 
--- src/reader.rt:328:9
 refused-requires : tie.Need-refused-requires
 refused-requires c κs = search needs
 
--- src/reader.rt:328:9
 returns : tie.Need-returns
 returns c = let ws = c .before .before .before .before .args .book .now in
     let k = c .before .before .check in
     c .refused .ensures ∙ sym (number-bad ws range 1 256 0 (afterFirst ws) (scan-start ws) (k .result) (k .ensures .0 range refl) (c .before .if1 .taken))
 
--- src/reader.rt:330:18
 shared-slice-read-wide : tie.Need-shared-slice-read-wide
 shared-slice-read-wide c = let n = c .before .before .check .ensures .1 (c .before .if1 .left) in let h = n .here in omega arith
 
--- src/reader.rt:330:9
 wide-requires : tie.Need-wide-requires
 wide-requires c κs = search needs
 
--- src/reader.rt:331:9
 read-numbers-requires : tie.Need-read-numbers-requires
 read-numbers-requires c κs = let n = c .before .before .before .check .ensures .1 (c .before .before .if1 .left) in let h = n .here in let w = c .wide .ensures in omega arith
 
--- src/reader.rt:333:9
 refused-requires-2 : tie.Need-refused-requires-2
 refused-requires-2 c κs = search needs
 
--- src/reader.rt:333:9
 returns-2 : tie.Need-returns-2
 returns-2 c = let w = c .before .before .before .before in
     let ws = book w in
     let a = c .before .before .before .read-numbers in
     c .refused2 .ensures ∙ sym (scan-refused ws (times (count w) (number ws range 0 8) 1) (afterArities ws (count w)) (arities-left w) (a .result) (a .ensures .0 range refl) (c .before .if2 .taken))
 
--- src/reader.rt:335:25
 add-check : tie.Need-add-check
 add-check c = let w = c .before .before .before .wide .ensures in omega arith
 
--- src/reader.rt:335:9
 check-requires-2 : tie.Need-check-requires-2
 check-requires-2 c κs = omega arith
 
--- src/reader.rt:337:27
 add-refused : tie.Need-add-refused
 add-refused c = let w = c .before .before .before .before .before .wide .ensures in omega arith
 
--- src/reader.rt:337:9
 refused-requires-3 : tie.Need-refused-requires-3
 refused-requires-3 c κs = search needs
 
--- src/reader.rt:337:9
 returns-3 : tie.Need-returns-3
 returns-3 c = let ws = book (c .before .before .before .before .before .before) in
     let n = count (c .before .before .before .before .before .before) in
     let k = c .before .before .check2 in
     c .refused3 .ensures ∙ sym (number-bad ws range n n (n + 1) (afterCount ws (signatureOf ws)) (count-left (c .before .before .before) .0) (k .result) (k .ensures .0 range refl) (c .before .if3 .taken))
 
--- src/reader.rt:339:35
 add-read-strategies : tie.Need-add-read-strategies
 add-read-strategies c = let w = c .before .before .before .before .before .wide .ensures in omega arith
 
--- src/reader.rt:339:9
 read-strategies-requires : tie.Need-read-strategies-requires
 read-strategies-requires c κs = let s = c .before .check2 .ensures .1 (c .if3 .left) in let h = s .here in omega arith
 
--- src/reader.rt:341:9
 refused-requires-4 : tie.Need-refused-requires-4
 refused-requires-4 c κs = search needs
 
--- src/reader.rt:341:9
 returns-4 : tie.Need-returns-4
 returns-4 c = let ws = book (c .before .before .before .before .before .before .before .before .before) in
     let n = count (c .before .before .before .before .before .before .before .before .before) in
     let o = c .before .before .before .read-strategies in
     c .refused4 .ensures ∙ sym (scan-refused ws (each (readStrategy ws) (signatureOf ws) (n + 2)) (afterStrategies ws (signatureOf ws)) (strategies-left (c .before .before .before .before)) (o .result) (o .ensures .0) (c .before .if4 .taken))
 
--- src/reader.rt:343:9
 read-tail-requires : tie.Need-read-tail-requires
 read-tail-requires c κs = c .before .before .read-strategies .ensures .1
 
--- src/reader.rt:345:9
 refused-requires-5 : tie.Need-refused-requires-5
 refused-requires-5 c κs = search needs
 
--- src/reader.rt:345:9
 returns-5 : tie.Need-returns-5
 returns-5 c = let ws = book (c .before .before .before .before .before .before .before .before .before .before .before .before) in
     let o = c .before .before .before .before .before .before .read-strategies .result in
     let t = c .before .before .before .read-tail in
     c .refused5 .ensures ∙ sym (scan-refused ws (readRules ws (signatureOf ws) (o .place)) _ (rules-left (c .before .before .before .before) .rest) (t .result) (t .ensures .0) (c .before .if5 .taken))
 
--- src/reader.rt:323:1
 returns-6 : tie.Need-returns-6
 returns-6 c = let o = c .before .before .before .before .before .read-strategies .result in
     let t = c .before .before .read-tail in

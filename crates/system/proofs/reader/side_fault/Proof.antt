@@ -9,41 +9,33 @@ use borrow.Author.Needs.{needs}
 use Rattle.system.proofs.reader.side_fault.Statement.{statement}
 use Rattle.system.proofs.reader.side_fault.Tie as tie
 
--- src/reader.rt:149:9
 returns : tie.Need-returns
 returns c = let a = c .before .before .args in
     sym (ap numberOr0 (side-complete (signatureOf (a .book .now)) (a .hand) (a .first) (a .due) (a .known) (a .w) (c .if1 .taken)))
 
--- src/reader.rt:151:8
 is-symbol-requires : tie.Need-is-symbol-requires
 is-symbol-requires c κs = search needs
 
--- src/reader.rt:152:9
 returns-2 : tie.Need-returns-2
 returns-2 c = let a = c .before .before .before .before .args in
     sym (ap numberOr0 (side-symbol (signatureOf (a .book .now)) (a .hand) (a .first) (a .due) (a .known) (a .w) (omega arith) (sym (c .before .is-symbol .ensures) ∙ c .if2 .taken)))
 
--- src/reader.rt:154:9
 wide-requires : tie.Need-wide-requires
 wide-requires c κs = search needs
 
--- src/reader.rt:156:9
 returns-3 : tie.Need-returns-3
 returns-3 c = let a = c .before .before .before .before .before .before .args in
     let w = c .before .wide .ensures in
     sym (ap numberOr0 (side-low (signatureOf (a .book .now)) (a .hand) (a .first) (a .due) (a .known) (a .w) (omega arith) (sym (c .before .before .before .is-symbol .ensures) ∙ c .before .before .if2 .left) (omega arith)))
 
--- src/reader.rt:159:9
 returns-4 : tie.Need-returns-4
 returns-4 c = let a = c .before .before .before .before .before .before .before .args in
     let w = c .before .before .wide .ensures in
     sym (ap numberOr0 (side-high (signatureOf (a .book .now)) (a .hand) (a .first) (a .due) (a .known) (a .w) (omega arith) (sym (c .before .before .before .before .is-symbol .ensures) ∙ c .before .before .before .if2 .left) (omega arith)))
 
--- src/reader.rt:161:5
 variable-fault-requires : tie.Need-variable-fault-requires
 variable-fault-requires c κs = search needs
 
--- src/reader.rt:145:1
 returns-5 : tie.Need-returns-5
 returns-5 c = let a = c .before .before .before .before .before .before .before .before .args in
     let w = c .before .before .before .wide .ensures in

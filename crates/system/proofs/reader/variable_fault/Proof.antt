@@ -6,35 +6,28 @@ use borrow.Author.Needs.{needs}
 use Rattle.system.proofs.reader.variable_fault.Statement.{statement}
 use Rattle.system.proofs.reader.variable_fault.Tie as tie
 
--- src/reader.rt:127:16
 enum-told : tie.Need-enum-told
 enum-told c = search needs
 
--- src/reader.rt:128:17
 returns : tie.Need-returns
 returns c = let a = c .before .before .before .args in
     sym (ap numberOr0 (variable-head (a .hand) (a .first) (a .known) (a .k) (c .before .enum-told .given .1) (c .if1 .taken)))
 
--- src/reader.rt:131:17
 returns-2 : tie.Need-returns-2
 returns-2 c = let a = c .before .before .before .before .args in
     sym (ap numberOr0 (variable-next (a .hand) (a .first) (a .known) (a .k) (c .before .before .enum-told .given .1) (c .before .if1 .left) (c .if2 .taken)))
 
--- src/reader.rt:136:16
 enum-told-2 : tie.Need-enum-told-2
 enum-told-2 c = search needs
 
--- src/reader.rt:137:17
 returns-3 : tie.Need-returns-3
 returns-3 c = let a = c .before .before .before .args in
     sym (ap numberOr0 (variable-known (a .hand) (a .first) (a .known) (a .k) (c .before .enum-told2 .given .1) (c .if3 .taken)))
 
--- src/reader.rt:122:1
 returns-4 : tie.Need-returns-4
 returns-4 c = let a = c .before .before .before .before .args in
     sym (ap numberOr0 (variable-skips (a .hand) (a .first) (a .known) (a .k) (c .before .before .enum-told .given .1) (c .before .if1 .left) (c .if2 .left)))
 
--- src/reader.rt:122:1
 returns-5 : tie.Need-returns-5
 returns-5 c = let a = c .before .before .before .args in
     sym (ap numberOr0 (variable-unbound (a .hand) (a .first) (a .known) (a .k) (c .before .enum-told2 .given .1) (c .if3 .left)))

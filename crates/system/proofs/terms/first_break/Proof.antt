@@ -18,61 +18,48 @@ Inv-loop book term due₀ i₀ due i = (i ≤ length term) × (i ≤ 4096) × (d
 abbrev μ-loop : tie.MeasureT-loop
 μ-loop book term due₀ i₀ due i = length term - i
 
--- src/terms.rt:18:5
 loop-holds : tie.Need-loop-holds Inv-loop μ-loop
 loop-holds c = (omega arith, omega arith, omega arith, refl)
 
--- src/terms.rt:20:13
 returns : tie.Need-returns Inv-loop μ-loop
 returns c = let l = c .before .before .loop in
     let a = c .before .before .before .before .before .args in
     ap (brokenAt (a .term .now)) (sym (break-complete (signatureOf (a .book .now)) (a .term .now) (l .due) (l .i) (omega arith) (c .if1 .taken)) ∙ l .inv .3)
 
--- src/terms.rt:26:13
 returns-2 : tie.Need-returns-2 Inv-loop μ-loop
 returns-2 c = let l = c .before .before .before .loop in
     let a = c .before .before .before .before .before .before .args in
     ap (brokenAt (a .term .now)) (sym (break-long (signatureOf (a .book .now)) (a .term .now) (l .due) (l .i) (omega arith) (omega arith)) ∙ l .inv .3)
 
--- src/terms.rt:31:17
 mul-w : tie.Need-mul-w Inv-loop μ-loop
 mul-w c = search needs
 
--- src/terms.rt:31:17
 shared-slice-read-w : tie.Need-shared-slice-read-w Inv-loop μ-loop
 shared-slice-read-w c = search needs
 
--- src/terms.rt:32:13
 is-symbol-requires : tie.Need-is-symbol-requires Inv-loop μ-loop
 is-symbol-requires c κs = search needs
 
--- src/terms.rt:33:13
 returns-3 : tie.Need-returns-3 Inv-loop μ-loop
 returns-3 c = let l = c .before .before .before .before .before .before .loop in
     let a = c .before .before .before .before .before .before .before .before .before .args in
     ap (brokenAt (a .term .now)) (sym (break-unknown (signatureOf (a .book .now)) (a .term .now) (l .due) (l .i) (omega arith) (sym (c .before .is-symbol .ensures) ∙ not-true _ (c .if3 .taken))) ∙ l .inv .3)
 
--- src/terms.rt:38:15
 sub-due : tie.Need-sub-due Inv-loop μ-loop
 sub-due c = search needs
 
--- src/terms.rt:38:25
 arity-requires : tie.Need-arity-requires Inv-loop μ-loop
 arity-requires c κs = search needs
 
--- src/terms.rt:38:15
 add-due : tie.Need-add-due Inv-loop μ-loop
 add-due c = search needs
 
--- src/terms.rt:39:9
 add-i : tie.Need-add-i Inv-loop μ-loop
 add-i c = search needs
 
--- src/terms.rt:18:5
 loop-less : tie.Need-loop-less Inv-loop μ-loop
 loop-less c = search needs
 
--- src/terms.rt:18:5
 loop-again : tie.Need-loop-again Inv-loop μ-loop
 loop-again c = let l = c .before .before .before .before .before .before .before .loop in
     let a = c .before .before .before .before .before .before .before .before .before .before .args in (
@@ -82,13 +69,11 @@ loop-again c = let l = c .before .before .before .before .before .before .before
       rw (c .arity .ensures .0) (sym (break-next (signatureOf (a .book .now)) (a .term .now) (l .due) (l .i) (omega arith) (omega arith) (omega arith) (sym (c .before .before .is-symbol .ensures) ∙ not-false _ (c .before .if3 .left))) ∙ l .inv .3),
     )
 
--- src/terms.rt:42:9
 returns-4 : tie.Need-returns-4 Inv-loop μ-loop
 returns-4 c = let l = c .before .before .loop in
     let a = c .before .before .before .before .before .args in
     ap (brokenAt (a .term .now)) (sym (break-short (signatureOf (a .book .now)) (a .term .now) (l .due) (l .i) (omega arith) (omega arith)) ∙ l .inv .3)
 
--- src/terms.rt:13:1
 returns-5 : tie.Need-returns-5 Inv-loop μ-loop
 returns-5 c = let l = c .before .before .loop in
     let a = c .before .before .before .before .before .args in

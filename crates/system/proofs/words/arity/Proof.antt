@@ -11,32 +11,25 @@ use borrow.Author.Needs.{needs}
 use Rattle.system.proofs.words.arity.Statement.{statement}
 use Rattle.system.proofs.words.arity.Tie as tie
 
--- src/words.rt:40:9
 wide-requires : tie.Need-wide-requires
 wide-requires c κs = search needs
 
--- src/words.rt:41:12
 symbols-requires : tie.Need-symbols-requires
 symbols-requires c κs = search needs
 
--- src/words.rt:42:26
 add-wide : tie.Need-add-wide
 add-wide c = search needs
 
--- src/words.rt:42:21
 mul-wide : tie.Need-mul-wide
 mul-wide c = search needs
 
--- src/words.rt:42:21
 shared-slice-read-wide : tie.Need-shared-slice-read-wide
 shared-slice-read-wide c = let ws = c .before .before .before .before .before .args .book .now in
     signature-room ws (c .before .before .before .wide .result) (omega arith)
 
--- src/words.rt:42:9
 wide-requires-2 : tie.Need-wide-requires-2
 wide-requires-2 c κs = search needs
 
--- src/words.rt:42:9
 returns : tie.Need-returns
 returns c = let a = c .before .before .before .before .before .before .args in
     let ws = a .book .now in
@@ -45,7 +38,6 @@ returns c = let a = c .before .before .before .before .before .before .args in
       c .wide2 .ensures .1,
     )
 
--- src/words.rt:37:1
 returns-2 : tie.Need-returns-2
 returns-2 c = let a = c .before .before .before .before .args in
     (sym (arity-none (signatureOf (a .book .now)) (a .w) (let e = c .before .before .wide .ensures in omega arith)), omega arith)

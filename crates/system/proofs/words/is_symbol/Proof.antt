@@ -7,15 +7,12 @@ use borrow.Author.Needs.{needs}
 use Rattle.system.proofs.words.is_symbol.Statement.{statement}
 use Rattle.system.proofs.words.is_symbol.Tie as tie
 
--- src/words.rt:33:5
 wide-requires : tie.Need-wide-requires
 wide-requires c κs = search needs
 
--- src/words.rt:33:15
 symbols-requires : tie.Need-symbols-requires
 symbols-requires c κs = search needs
 
--- src/words.rt:30:1
 returns : tie.Need-returns
 returns c = let a = c .before .before .before .args in
     ap (λ n. ltb n (c .symbols .result)) (c .before .wide .ensures .0)

@@ -16,61 +16,48 @@ Inv-loop book ws k due₀ i₀ due i = (i ≤ length ws) × (i + span (signature
 abbrev μ-loop : tie.MeasureT-loop
 μ-loop book ws k due₀ i₀ due i = length ws - i
 
--- src/words.rt:53:5
 loop-holds : tie.Need-loop-holds Inv-loop μ-loop
 loop-holds c = search needs
 
--- src/words.rt:55:13
 returns : tie.Need-returns Inv-loop μ-loop
 returns c = let l = c .before .before .loop in
     let a = c .before .before .before .before .before .args in
     omega (arith, span-none (signatureOf (a .book .now)) (a .ws .now) (l .i) (l .due) (c .if1 .taken))
 
--- src/words.rt:57:12
 sub-if2 : tie.Need-sub-if2 Inv-loop μ-loop
 sub-if2 c = search needs
 
--- src/words.rt:58:13
 returns-2 : tie.Need-returns-2 Inv-loop μ-loop
 returns-2 c = let l = c .before .before .before .loop in
     let a = c .before .before .before .before .before .before .args in
     omega (arith, span-rest (signatureOf (a .book .now)) (a .ws .now) (l .i) (l .due) (omega arith) (c .if2 .taken))
 
--- src/words.rt:60:15
 sub-due : tie.Need-sub-due Inv-loop μ-loop
 sub-due c = search needs
 
--- src/words.rt:60:37
 mul-arity : tie.Need-mul-arity Inv-loop μ-loop
 mul-arity c = search needs
 
--- src/words.rt:60:37
 shared-slice-read-arity : tie.Need-shared-slice-read-arity Inv-loop μ-loop
 shared-slice-read-arity c = search needs
 
--- src/words.rt:60:25
 arity-requires : tie.Need-arity-requires Inv-loop μ-loop
 arity-requires c κs = search needs
 
--- src/words.rt:60:15
 add-due : tie.Need-add-due Inv-loop μ-loop
 add-due c = search needs
 
--- src/words.rt:61:9
 add-i : tie.Need-add-i Inv-loop μ-loop
 add-i c = search needs
 
--- src/words.rt:53:5
 loop-less : tie.Need-loop-less Inv-loop μ-loop
 loop-less c = search needs
 
--- src/words.rt:53:5
 loop-again : tie.Need-loop-again Inv-loop μ-loop
 loop-again c = let l = c .before .before .before .before .before .loop in
     let a = c .before .before .before .before .before .before .before .before .args in
     (search needs, rw (c .arity .ensures .0) (omega (arith, span-word (signatureOf (a .book .now)) (a .ws .now) (l .i) (l .due) (omega arith) (omega arith))))
 
--- src/words.rt:48:1
 returns-3 : tie.Need-returns-3 Inv-loop μ-loop
 returns-3 c = let l = c .before .loop in
     let a = c .before .before .before .before .args in

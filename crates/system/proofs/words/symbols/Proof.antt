@@ -5,27 +5,21 @@ use borrow.Author.Needs.{needs}
 use Rattle.system.proofs.words.symbols.Statement.{statement}
 use Rattle.system.proofs.words.symbols.Tie as tie
 
--- src/words.rt:19:9
 returns : tie.Need-returns
 returns c = omega (arith, signature-length (c .before .before .args .book .now))
 
--- src/words.rt:21:18
 shared-slice-read-wide : tie.Need-shared-slice-read-wide
 shared-slice-read-wide c = search needs
 
--- src/words.rt:21:9
 wide-requires : tie.Need-wide-requires
 wide-requires c κs = search needs
 
--- src/words.rt:22:16
 sub-room : tie.Need-sub-room
 sub-room c = search needs
 
--- src/words.rt:24:9
 returns-2 : tie.Need-returns-2
 returns-2 c = omega (arith, signature-length (c .before .before .before .before .before .args .book .now))
 
--- src/words.rt:15:1
 returns-3 : tie.Need-returns-3
 returns-3 c = omega (arith, signature-length (c .before .before .before .before .before .args .book .now))
 
