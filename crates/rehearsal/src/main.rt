@@ -1,4 +1,4 @@
-// Runs the cases of 01 that are not starred (C13, C14, C15) and prints the three numbers of each.
+// Runs the cases of 01 that are not starred (C13, C14, C15), and orders that repeat an argument, nested; prints the three numbers of each.
 
 // Expands a cue over a book, in buffers of its own.
 fn rehearse(label: &[u8], book: &[u16], cue: &[u16], limit: u32) {
@@ -140,9 +140,90 @@ fn doubling() {
     rehearse(b"C15 twelve", &book, &longer, 100);
 }
 
+// A name f with the order 1, sixteen times, nested: if each of them were followed every time, 62 would take 16^62 turns. No rule changes
+// anything here; from level 64 it is 13 as ever.
+fn nested_repeats() {
+    // names z, f; z's order is empty, f's is what the array holds; no rules
+    let mut book = [1u16; 23];
+    buffers::copy_in(&mut book, 0, &[2u16, 0, 1, 2, 0, 16]);
+    book[22] = 0;
+    let mut cue = [1u16; 63];
+    cue[62] = 0;
+    rehearse(b"repeats 62 round a constant", &book, &cue, 0);
+    let mut deeper = [1u16; 65];
+    deeper[64] = 0;
+    rehearse(b"repeats 64 round a constant", &book, &deeper, 0);
+}
+
+// Expands a cue over a book of six names z, f, g, h, a, b, of which f repeats its argument as above.
+fn over_repeats(label: &[u8], cue: &[u16]) {
+    let mut book = [1u16; 53];
+    buffers::copy_in(&mut book, 0, &[6u16, 0, 1, 1, 1, 0, 0, 6, 0, 16]);
+    // the orders of g (1 0), h (0 1), a and b (0)
+    buffers::copy_in(&mut book, 26, &[2u16, 1, 0, 2, 0, 1, 1, 0, 1, 0]);
+    // g(f(x)) to g(x), h(z) to z, a to b
+    buffers::copy_in(&mut book, 36, &[3u16, 3, 2, 1, 32768, 2, 2, 32768]);
+    buffers::copy_in(&mut book, 44, &[2u16, 3, 0, 1, 0, 1, 4, 1, 5]);
+    rehearse(label, &book, cue, 1000);
+}
+
+// 62 f round a: a becomes b where it is first come to, and nothing more fits. 1 step, 63 words.
+fn change_inside() {
+    let mut cue = [1u16; 63];
+    cue[62] = 4;
+    over_repeats(b"repeats round a change", &cue);
+}
+
+// 30 f round g round 31 f round z: g takes one f away in each step, and its order starts anew each time. 31 steps, and what is left is 30 f
+// round g round z: 32 words.
+fn changes_between() {
+    let mut cue = [1u16; 63];
+    cue[30] = 2;
+    cue[62] = 0;
+    over_repeats(b"repeats round and below changes", &cue);
+}
+
+// h tries the rules before its argument, so that each evaluation of 40 h round z takes just the innermost h away. One f asks for sixteen
+// evaluations: 16 steps, f round 24 h round z. 22 f ask for more than enough: 40 steps, 22 f round z.
+fn changes_by_repeats() {
+    let mut cue = [3u16; 42];
+    cue[0] = 1;
+    cue[41] = 0;
+    over_repeats(b"repeats that change, one", &cue);
+    let mut more = [1u16; 63];
+    buffers::copy_in(&mut more, 22, &[3u16; 40]);
+    more[62] = 0;
+    over_repeats(b"repeats that change, 22", &more);
+}
+
+// A name c of two arguments with the order 1 2, eight times: 62 c in the first argument of each other, and z in the second, have 125 words. w
+// becomes such a c, with z: 62 w round z grow to the same cue in 62 steps.
+fn comb() {
+    // names z, c, w; w(x) to c(x, z)
+    let mut book = [0u16; 33];
+    buffers::copy_in(&mut book, 0, &[3u16, 0, 2, 1, 3, 0, 16]);
+    buffers::copy_in(
+        &mut book,
+        7,
+        &[1u16, 2, 1, 2, 1, 2, 1, 2, 1, 2, 1, 2, 1, 2, 1, 2],
+    );
+    buffers::copy_in(&mut book, 23, &[1u16, 0, 1, 2, 2, 32768, 3, 1, 32768, 0]);
+    let mut cue = [0u16; 125];
+    buffers::copy_in(&mut cue, 0, &[1u16; 62]);
+    rehearse(b"comb", &book, &cue, 0);
+    let mut small = [2u16; 63];
+    small[62] = 0;
+    rehearse(b"comb that grows", &book, &small, 1000);
+}
+
 fn main() {
     printing::heading();
     endless_chase();
     many_heads();
     doubling();
+    nested_repeats();
+    change_inside();
+    changes_between();
+    changes_by_repeats();
+    comb();
 }
