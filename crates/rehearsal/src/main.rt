@@ -1,4 +1,6 @@
 // Runs the cases of 01 that are not starred (C13, C14, C15), and orders that repeat an argument, nested; prints the three numbers of each.
+ghost use Prim.Native.Nat.{_≤_};
+ghost use lib.ListN.{length};
 
 // Expands a cue over a book, in buffers of its own.
 fn rehearse(label: &[u8], book: &[u16], cue: &[u16], limit: u32) {
@@ -9,129 +11,45 @@ fn rehearse(label: &[u8], book: &[u16], cue: &[u16], limit: u32) {
     printing::numbers(a);
 }
 
+// Expands a cue over 01's book B with the order of `then` that is given by its words: how many entries, and the entries.
+fn over_b(label: &[u8], then: &[u16], cue: &[u16], limit: u32)
+    requires { ⌜ length (now then) ≤ 3 ⌝ }
+{
+    let mut book = [0u16; 40];
+    let n = then.len();
+    buffers::copy_in(&mut book, 0, &[5u16, 0, 2, 1, 1, 0, 5, 0]);
+    buffers::copy_in(&mut book, 8, then);
+    // the orders of head, rest (1 0) and chase (0)
+    buffers::copy_in(&mut book, 8 + n, &[2u16, 1, 0, 2, 1, 0, 1, 0]);
+    // chase to then(flash, chase), head(then(x, y)) to x, rest(then(x, y)) to y
+    buffers::copy_in(&mut book, 16 + n, &[3u16, 1, 4, 3, 1, 0, 4]);
+    buffers::copy_in(&mut book, 23 + n, &[4u16, 2, 1, 32768, 32769, 1, 32768]);
+    buffers::copy_in(&mut book, 30 + n, &[4u16, 3, 1, 32768, 32769, 1, 32769]);
+    rehearse(label, &book[0..37 + n], cue, limit);
+}
+
 // "Then's order 1 2, cue 4: allowance 64 gives 13 with 64 steps; 63 gives 11 with 63."
 fn endless_chase() {
-    let book = [
-        5u16,
-        0,
-        2,
-        1,
-        1,
-        0,
-        5,
-        0,
-        2,
-        1,
-        2,
-        2,
-        1,
-        0,
-        2,
-        1,
-        0,
-        1,
-        0,
-        3,
-        1,
-        4,
-        3,
-        1,
-        0,
-        4,
-        4,
-        2,
-        1,
-        32768,
-        32769,
-        1,
-        32768,
-        4,
-        3,
-        1,
-        32768,
-        32769,
-        1,
-        32769,
-    ];
-    let cue = [4u16];
-    rehearse(b"C13 allowance 64", &book, &cue, 64);
-    rehearse(b"C13 allowance 63", &book, &cue, 63);
+    over_b(b"C13 allowance 64", &[2u16, 1, 2], &[4u16], 64);
+    over_b(b"C13 allowance 63", &[2u16, 1, 2], &[4u16], 63);
 }
 
 // "In B, 63 heads round flash: taken, 0 steps. 64 heads: 13, 0 steps."
 fn many_heads() {
-    let book = [
-        5u16,
-        0,
-        2,
-        1,
-        1,
-        0,
-        5,
-        0,
-        1,
-        1,
-        2,
-        1,
-        0,
-        2,
-        1,
-        0,
-        1,
-        0,
-        3,
-        1,
-        4,
-        3,
-        1,
-        0,
-        4,
-        4,
-        2,
-        1,
-        32768,
-        32769,
-        1,
-        32768,
-        4,
-        3,
-        1,
-        32768,
-        32769,
-        1,
-        32769,
-    ];
     let mut cue = [2u16; 64];
     cue[63] = 0;
-    rehearse(b"C14 63 heads", &book, &cue, 10);
+    over_b(b"C14 63 heads", &[1u16, 1], &cue, 10);
     let mut deeper = [2u16; 65];
     deeper[64] = 0;
-    rehearse(b"C14 64 heads", &book, &deeper, 10);
+    over_b(b"C14 64 heads", &[1u16, 1], &deeper, 10);
 }
 
 // "Names z, p (2 arguments), d (1); only d's order is not empty: 1 0; rule d(a) to p(a, a). Eleven d round z: 4,095 words, 11 steps.
 // Twelve: 12, 11 steps."
 fn doubling() {
-    let book = [
-        3u16,
-        0,
-        2,
-        1,
-        3,
-        0,
-        0,
-        2,
-        1,
-        0,
-        1,
-        2,
-        2,
-        32768,
-        3,
-        1,
-        32768,
-        32768,
-    ];
+    let mut book = [0u16; 18];
+    buffers::copy_in(&mut book, 0, &[3u16, 0, 2, 1, 3, 0, 0, 2, 1, 0]);
+    buffers::copy_in(&mut book, 10, &[1u16, 2, 2, 32768, 3, 1, 32768, 32768]);
     let mut cue = [2u16; 12];
     cue[11] = 0;
     rehearse(b"C15 eleven", &book, &cue, 100);
