@@ -8,6 +8,7 @@ ghost use Rattle.matching.specs.Accepted.{systemOf};
 ghost use Rattle.matching.specs.Stretches.{matchOf};
 ghost use Rattle.matching.specs.Safety.{TestedBook};
 ghost use Rattle.evaluation.specs.Expansion.{expansion};
+ghost use Rattle.evaluation.specs.Promises.{IsDone, IsHandedBack, IsFound, RestsAgain};
 ghost use Rattle.cue.specs.Exports.{answerFor, asAnswer, shapeFor, partFor, matchFor};
 use matching::Found;
 use system::Answer;
@@ -46,6 +47,21 @@ pub struct CueMatch {
     pub size: usize,
     pub starts: [usize; 16],
     pub lengths: [usize; 16],
+}
+
+// The answers of the strategy test and of the evaluator.
+#[repr(C)]
+pub struct CueChecked {
+    pub test: CueAnswer,
+    pub answer: CueAnswer,
+}
+
+// The answers of the strategy test and of two expansions.
+#[repr(C)]
+pub struct CueTwice {
+    pub test: CueAnswer,
+    pub first: CueAnswer,
+    pub second: CueAnswer,
 }
 
 fn answer_for(a: Answer) -> CueAnswer
@@ -167,4 +183,49 @@ pub extern "C" fn cue_expand(
     ensures zeroed { λ _. ⌜ now (work .exit) ≡ expansion (now (book .entry)) (now (term .entry)) limit (now (out .entry)) (now (work .entry)) .work ⌝ }
 {
     answer_for(evaluation::expand(book, term, limit, out, work))
+}
+
+// Tests the book's strategies and expands the term: "done" whether or not the book passed, "found" where it did.
+#[no_mangle]
+pub extern "C" fn cue_expand_checked(
+    book: &[u16],
+    term: &[u16],
+    limit: u32,
+    out: &mut [u16],
+    work: &mut [u16],
+) -> CueChecked
+    ensures tested { λ r. ⌜ TestedBook (read (now (book .entry))) (asAnswer (r .test)) ⌝ }
+    ensures done { λ r. ⌜ IsDone (now (book .entry)) (now (term .entry)) limit (asAnswer (r .answer)) (now (out .exit)) ⌝ }
+    ensures handed { λ r. ⌜ IsHandedBack (now (book .entry)) (now (term .entry)) limit (now (out .entry)) (now (work .entry)) (asAnswer (r .answer)) (now (out .exit)) ⌝ }
+    ensures found { λ r. ⌜ IsFound (now (book .entry)) (asAnswer (r .test)) (asAnswer (r .answer)) (now (out .exit)) ⌝ }
+{
+    let c = evaluation::demands::expand_checked(book, term, limit, out, work);
+    CueChecked {
+        test: answer_for(c.test),
+        answer: answer_for(c.answer),
+    }
+}
+
+// Expands the term, and what is handed back again with step limit 0 in a second pair of buffers; where nothing is handed back the first
+// answer stands for the second.
+#[no_mangle]
+pub extern "C" fn cue_expand_twice(
+    book: &[u16],
+    term: &[u16],
+    limit: u32,
+    out: &mut [u16],
+    work: &mut [u16],
+    again: &mut [u16],
+    spare: &mut [u16],
+) -> CueTwice
+    ensures tested { λ r. ⌜ TestedBook (read (now (book .entry))) (asAnswer (r .test)) ⌝ }
+    ensures found { λ r. ⌜ IsFound (now (book .entry)) (asAnswer (r .test)) (asAnswer (r .first)) (now (out .exit)) ⌝ }
+    ensures rests { λ r. ⌜ RestsAgain (asAnswer (r .test)) (asAnswer (r .first)) (now (out .exit)) (now (again .entry)) (now (spare .entry)) (asAnswer (r .second)) (now (again .exit)) ⌝ }
+{
+    let c = evaluation::demands::expand_twice(book, term, limit, out, work, again, spare);
+    CueTwice {
+        test: answer_for(c.test),
+        first: answer_for(c.first),
+        second: answer_for(c.second),
+    }
 }

@@ -2,13 +2,11 @@
 use Prim.Native.Nat.{ℕ, _+_, _*_, _<_}
 use mathlib.Core.List.{List, [], _∷_}
 use Rattle.expand.specs.declared.File.{File}
-use Rattle.expand.specs.declared.File.the-variants.{Missing, Long, Odd, Bytes}
+use Rattle.expand.specs.declared.File.the-variants.{Refused, Bytes}
 
 -- a file that is taken leaves at least a byte of the buffer
 abbrev pub Held : File → ℕ → Type 0
-Held Missing size = Unit {0}
-Held Long size = Unit {0}
-Held Odd size = Unit {0}
+Held Refused size = Unit {0}
 Held (Bytes n) size = n < size
 
 -- "words low byte first"

@@ -3,32 +3,39 @@ ghost use Prim.Native.Nat.{_*_, _≤_, _<_};
 ghost use mathlib.Core.Path.{_≡_};
 ghost use lib.ListN.{length};
 ghost use Rattle.buffers.specs.Words.{over};
+ghost use Rattle.expand.specs.declared.File.the-variants.{Refused};
 ghost use Rattle.expand.specs.Files.{Held, wordOf, wordsOf};
 use system::Answer;
 
-// What reading a file gave: why it is refused, or how many bytes it has.
+// What taking a file gave: nothing, for a reason that is told, or how many bytes it has.
 enum File {
-    Missing,
-    Long,
-    Odd,
+    Refused,
     Bytes(usize),
 }
 
+// Tells in one word why a file is refused.
+fn refuse(why: &[u8]) -> File
+    ensures { λ r. ⌜ r ≡ Refused ⌝ }
+{
+    printing::line(why);
+    File::Refused
+}
+
 // Reads a file into a buffer that has room for one byte more than the file may have.
-fn read_file(path: &[u8], bytes: &mut [u8]) -> File
+fn take_file(path: &[u8], bytes: &mut [u8]) -> File
     ensures { λ r. ⌜ Held r (length (now (bytes .entry))) ⌝ }
 {
     let fd = os::open_read(path);
     if fd < 0 {
-        return File::Missing;
+        return refuse(b"missing");
     }
     let n = io::read_full(fd, bytes);
     libc::close(fd);
     if bytes.len() <= n {
-        return File::Long;
+        return refuse(b"long");
     }
     if n % 2 != 0 {
-        return File::Odd;
+        return refuse(b"odd");
     }
     File::Bytes(n)
 }
@@ -99,16 +106,10 @@ fn expand_cue(book: &[u8])
     requires { ⌜ length (now book) ≤ 42502 ⌝ }
 {
     let mut bytes = [0u8; 8195];
-    let f = read_file(b"show.cue", &mut bytes);
+    let f = take_file(b"show.cue", &mut bytes);
     match f {
-        File::Missing => {
-            printing::line(b"missing");
-        }
-        File::Long => {
-            printing::line(b"long");
-        }
-        File::Odd => {
-            printing::line(b"odd");
+        File::Refused => {
+            return;
         }
         File::Bytes(n) => {
             if n < 2 {
@@ -122,16 +123,10 @@ fn expand_cue(book: &[u8])
 
 fn main() {
     let mut bytes = [0u8; 42503];
-    let f = read_file(b"show.book", &mut bytes);
+    let f = take_file(b"show.book", &mut bytes);
     match f {
-        File::Missing => {
-            printing::line(b"missing");
-        }
-        File::Long => {
-            printing::line(b"long");
-        }
-        File::Odd => {
-            printing::line(b"odd");
+        File::Refused => {
+            return;
         }
         File::Bytes(n) => {
             expand_cue(&bytes[0..n]);
