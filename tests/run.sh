@@ -1,6 +1,6 @@
 #!/usr/bin/env bash
-# The checks from outside: the C interface and its header, the C example, random books against the second evaluator (which must also find
-# three planted faults), the words tool and the examples. Needs gcc, g++, rustc and python3; everything is written under target/outside.
+# The checks from outside: the C interface and its header, the stack of each operation, the C example, random books against the second
+# evaluator (which must also find four planted faults), the words tool and the examples. Everything is written under target/outside.
 #     tests/run.sh [CASES of the random run; 100000 if not said]
 set -euo pipefail
 cd "$(dirname "$0")/.."
@@ -13,6 +13,11 @@ fail() { say "FAILED: $*"; exit 1; }
 # a command whose output is shown only where it fails
 quiet() { "$@" > "$to/log" 2>&1 || { cat "$to/log"; fail "$*"; }; }
 
+# a check whose tool is missing has not passed
+for tool in rt gcc g++ rustc python3 nm objdump objcopy; do
+    command -v "$tool" > /dev/null || fail "the tool $tool is missing"
+done
+
 # 1. the archive, and its header in C99 and C++
 quiet rt staticlib cue
 archive=target/staticlib/libcue.a
@@ -24,16 +29,20 @@ grep -oE '\bcue_[a-z_]+\(' include/cue.h | tr -d '(' | sort -u > "$to/declared"
 diff "$to/exported" "$to/declared" || fail "the header does not declare what the archive exports"
 say "the archive exports, and the header declares, $(wc -l < "$to/exported") functions"
 
-# 2. the C example
+# 2. the stack of each operation: below the 4,096 bytes that the desk's task has; with a limit too low the measure must fail
+bash tests/stack.sh 4096 "$archive" || fail "the stack"
+! bash tests/stack.sh 100 "$archive" > "$to/low" 2>&1 && grep -q 'ABOVE 100:' "$to/low" || fail "the stack is never too deep"
+
+# 3. the C example
 quiet gcc -std=c99 -Wall -Wextra -pedantic -Werror -Iinclude examples/c/expand.c "$archive" -o "$to/expand-c"
 "$to/expand-c" > "$to/expand-c.out"
 diff examples/c/stdout "$to/expand-c.out" || fail "the C example prints something else"
 say "the C example prints what the paper prints"
 
-# 3. random books against the second evaluator, and the planted faults
+# 4. random books against the second evaluator, and the planted faults
 quiet rustc -O --edition 2021 -D warnings -L target/staticlib tests/second/main.rs -o "$to/second"
 "$to/second" "$cases" || fail "the product and the second evaluator differ, or a number came too seldom"
-for plant in 1 2 3; do
+for plant in 1 2 3 4; do
     status=0
     "$to/second" --plant "$plant" > "$to/plant-$plant" || status=$?
     if [ "$status" != 1 ] || ! grep -q 'cut down' "$to/plant-$plant"; then
@@ -43,7 +52,7 @@ for plant in 1 2 3; do
     say "planted fault $plant was found: $(sed -n 's/^second: DIFFERENCE //p' "$to/plant-$plant")"
 done
 
-# 4. the words tool, there and back, and what it refuses
+# 5. the words tool, there and back, and what it refuses
 for text in examples/*/*.txt; do
     tools/words pack "$text" "$to/packed"
     tools/words unpack "$to/packed" "$to/unpacked.txt"
@@ -59,7 +68,7 @@ printf 'abc' > "$to/odd"
 ! tools/words unpack "$to/odd" > /dev/null 2>&1 || fail "the words tool takes an odd file"
 say "the words tool goes there and back"
 
-# 5. the examples, by the program
+# 6. the examples, by the program
 quiet rt check expand
 for folder in examples/*/; do
     name=$(basename "$folder")
@@ -72,8 +81,8 @@ for folder in examples/*/; do
     say "example $name prints what it should"
 done
 
-# 6. the benchmark builds, and all agree (its times are not looked at here)
-quiet rustc -O --edition 2021 -D warnings -L target/staticlib tests/bench/main.rs -o "$to/bench"
-quiet "$to/bench" 0
+# 7. the benchmark builds, for one archive and for two, and all agree (its times are not looked at here)
+quiet bash tests/bench/run.sh 0
+quiet bash tests/bench/run.sh 0 "$archive"
 say "the benchmark agrees; tests/bench/run.sh shows its times"
 say "all is well"

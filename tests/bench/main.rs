@@ -1,5 +1,6 @@
-//! The product and the second evaluator on the same inputs in one run: how long each takes, steps for each second, and the ratio. Where the
-//! command `maude` is present it evaluates the same systems with its `strat` attributes; all must agree on the answers.
+//! The product, another archive of it if there is one, and the second evaluator on the same inputs in one run: how long each takes, steps
+//! for each second, and the ratios. Where the command `maude` is present it evaluates the same systems with its `strat` attributes; all must
+//! agree on the answers.
 //!
 //!     bench [SECONDS for each measurement; 0.3 if not said]
 //!
@@ -14,20 +15,28 @@ mod evaluate;
 #[path = "../second/product.rs"]
 #[allow(dead_code)]
 mod product;
+mod archives;
 mod maude;
 
+use archives::{Archive, OTHER, PRODUCT};
 use book::{Book, Plant, HOLE};
 use evaluate::{evaluate, End};
-use std::time::{Duration, Instant};
+use std::time::Instant;
 
 const A: u16 = HOLE;
 const B: u16 = HOLE + 1;
 const C: u16 = HOLE + 2;
 
 struct Work {
-    label: &'static str,
+    label: String,
     book: Vec<u16>,
     cue: Vec<u16>,
+    /// it would not end in an archive that remembers nothing of arguments that took no step: the other one is left out
+    deep: bool,
+}
+
+fn work(label: &str, book: Vec<u16>, cue: Vec<u16>) -> Work {
+    Work { label: label.into(), book, cue, deep: false }
 }
 
 type Names<'a> = &'a [(usize, &'a [usize])];
@@ -59,18 +68,21 @@ fn counting(n: usize) -> Work {
     let (z, s, add) = (0, 1, 2);
     let book = write(&[(0, &[]), (1, &[]), (2, &[1, 0])], &[(&[add, z, A], &[A]), (&[add, s, A, B], &[add, A, s, B])]);
     let cue = [vec![add], nest(s, n, &[z]), vec![z]].concat();
-    Work { label: "counting", book, cue }
+    work("counting", book, cue)
 }
 
-/// A small cue that takes many steps: a product of small numbers, added up and taken away again.
-fn small(n: usize) -> Work {
-    let (z, s, times, down) = (0, 1, 2, 3);
+/// A small cue that takes many steps: a product of small numbers, added up and taken away again. Other names stand before the four that it
+/// needs, as in a large book.
+fn small(label: &str, before: u16, n: usize) -> Work {
+    let (z, s, times, down) = (before, before + 1, before + 2, before + 3);
+    let mut names: Vec<(usize, &[usize])> = vec![(0, &[0]); before as usize];
+    names.extend([(0, &[][..]), (1, &[]), (2, &[1, 0]), (2, &[1, 0])]);
     let book = write(
-        &[(0, &[]), (1, &[]), (2, &[1, 0]), (2, &[1, 0])],
+        &names,
         &[(&[times, z, A], &[z]), (&[times, s, A, B], &[down, B, times, A, B]), (&[down, z, A], &[A]), (&[down, s, A, B], &[down, A, B])],
     );
     let cue = [vec![times], nest(s, n, &[z]), nest(s, n, &[z])].concat();
-    Work { label: "counting, small cue", book, cue }
+    work(label, book, cue)
 }
 
 /// The nth look of a chase that holds back its tail.
@@ -81,7 +93,7 @@ fn chase(n: usize) -> Work {
         &[(&[from, A], &[then, A, from, s, A]), (&[nth, z, then, A, B], &[A]), (&[nth, s, A, then, B, C], &[nth, A, C])],
     );
     let cue = [vec![nth], nest(s, n, &[z]), vec![from, z]].concat();
-    Work { label: "endless chase", book, cue }
+    work("endless chase", book, cue)
 }
 
 /// Thousands of words with a small redex at each leaf.
@@ -99,13 +111,19 @@ fn wide(depth: usize) -> Work {
     let book = write(&[(0, &[]), (0, &[]), (2, &[1, 2]), (1, &[1, 0])], &[(&[not, t], &[f]), (&[not, f], &[t])]);
     let mut cue = vec![];
     spread(depth, &mut cue);
-    Work { label: "wide cue", book, cue }
+    work("wide cue", book, cue)
 }
 
 /// d(a) becomes p(a, a), eleven times: 4,095 words.
 fn doubling() -> Work {
     let book = write(&[(0, &[]), (2, &[]), (1, &[1, 0])], &[(&[2, A], &[1, A, A])]);
-    Work { label: "doubling", book, cue: nest(2, 11, &[0]) }
+    work("doubling", book, nest(2, 11, &[0]))
+}
+
+/// A name whose order has its argument sixteen times, nested.
+fn repeats(times: usize) -> Work {
+    let book = write(&[(0, &[]), (1, &[1; 16])], &[]);
+    Work { label: format!("repeats, {times} deep"), book, cue: nest(1, times, &[0]), deep: times > 4 }
 }
 
 /// The largest book, 21,251 words, made so that the order test passes it and has to look at everything: 128 names with a rule each, whose
@@ -136,16 +154,23 @@ fn largest() -> Vec<u16> {
     w
 }
 
-/// Seconds for one call: as many calls as fit in the time given, at least three.
-fn seconds(least: f64, mut call: impl FnMut()) -> f64 {
-    call();
-    let start = Instant::now();
-    let mut n = 0;
-    while n < 3 || start.elapsed() < Duration::from_secs_f64(least) {
-        call();
-        n += 1;
+type Call<'a> = Box<dyn FnMut() + 'a>;
+
+/// Seconds for one call of each, the best of five rounds; they take turns, so that what else the machine does meets all of them.
+fn measure(least: f64, mut calls: Vec<Call>) -> Vec<f64> {
+    let mut best = vec![f64::MAX; calls.len()];
+    for _ in 0..5 {
+        for (call, best) in calls.iter_mut().zip(&mut best) {
+            let start = Instant::now();
+            let mut n = 0;
+            while n == 0 || start.elapsed().as_secs_f64() < least / 5.0 {
+                call();
+                n += 1;
+            }
+            *best = best.min(start.elapsed().as_secs_f64() / n as f64);
+        }
     }
-    start.elapsed().as_secs_f64() / n as f64
+    best
 }
 
 fn time(s: f64) -> String {
@@ -164,43 +189,53 @@ fn rate(steps: u32, s: f64) -> String {
     }
 }
 
-fn line(label: &str, words: usize, steps: u32, product: f64, second: f64) {
-    println!(
-        "{label:<22}{words:>7}{steps:>8}{:>12}{:>12}{:>8.2}{:>14}{:>14}",
-        time(product),
-        time(second),
-        product / second,
-        rate(steps, product),
-        rate(steps, second)
-    );
+fn heading() {
+    print!("{:<24}{:>7}{:>7}{:>11}{:>11}{:>8}{:>13}{:>13}", "", "words", "steps", "product", "second", "ratio", "product st/s", "second st/s");
+    println!("{}", if OTHER.is_some() { format!("{:>11}{:>8}{:>13}", "other", "ratio", "other st/s") } else { String::new() });
+}
+
+/// The times are of the second evaluator, of the product, and of the other archive if it was measured.
+fn line(label: &str, words: usize, steps: u32, times: &[f64]) {
+    let (s, p) = (times[0], times[1]);
+    print!("{label:<24}{words:>7}{steps:>7}{:>11}{:>11}{:>8.2}{:>13}{:>13}", time(p), time(s), p / s, rate(steps, p), rate(steps, s));
+    match times.get(2) {
+        Some(&o) => println!("{:>11}{:>8.2}{:>13}", time(o), p / o, rate(steps, o)),
+        None => println!(),
+    }
 }
 
 fn expansion(w: &Work, least: f64, agree: &mut bool) {
     let b: Book = book::read(&w.book).unwrap_or_else(|f| panic!("{}: the book has fault {f:?}", w.label));
     let c = b.cue(&w.cue).unwrap_or_else(|p| panic!("{}: the cue is broken at {p}", w.label));
-    let (mut out, mut work) = (vec![0; 4096], vec![0; 8192]);
-    let a = product::expand(&w.book, &w.cue, u32::MAX, &mut out, &mut work);
     let o = evaluate(&b, &c, u32::MAX, Plant::Nothing, false, u64::MAX);
     let End::Cue(last) = o.end else { panic!("{}: the second evaluator gives no cue", w.label) };
     let words = last.to_words();
-    if (a.number, a.place, a.steps) != (0, words.len(), o.steps) || out[..a.place] != words[..] {
-        println!("{}: the product answers {a:?}, the second evaluator {} words after {} steps", w.label, words.len(), o.steps);
-        *agree = false;
-        return;
-    }
-    let product = seconds(least, || {
-        product::expand(&w.book, &w.cue, u32::MAX, &mut out, &mut work);
-    });
-    // the same from words to words: reading the book and the cue, writing the answer
-    let second = seconds(least, || {
+    // from words to words: reading the book and the cue, writing the answer
+    let mut calls: Vec<Call> = vec![Box::new(|| {
         let b = book::read(&w.book).unwrap();
         let c = b.cue(&w.cue).unwrap();
         if let End::Cue(c) = evaluate(&b, &c, u32::MAX, Plant::Nothing, false, u64::MAX).end {
             std::hint::black_box(c.to_words());
         }
-    });
-    line(w.label, w.cue.len().max(words.len()), o.steps, product, second);
-    match maude::run(w.label, &b, &w.cue) {
+    })];
+    for archive in [Some(PRODUCT), OTHER.filter(|_| !w.deep)].into_iter().flatten() {
+        let (mut out, mut work) = (vec![0; 4096], vec![0; 8192]);
+        let a = archive.expand(&w.book, &w.cue, &mut out, &mut work);
+        if (a.number, a.place, a.steps) != (0, words.len(), o.steps) || out[..a.place] != words[..] {
+            println!("{}: an archive answers {a:?}, the second evaluator {} words after {} steps", w.label, words.len(), o.steps);
+            *agree = false;
+            return;
+        }
+        calls.push(Box::new(move || {
+            archive.expand(&w.book, &w.cue, &mut out, &mut work);
+        }));
+    }
+    line(&w.label, w.cue.len().max(words.len()), o.steps, &measure(least, calls));
+    in_maude(w, &b, &words, agree);
+}
+
+fn in_maude(w: &Work, b: &Book, words: &[u16], agree: &mut bool) {
+    match maude::run(&w.label, b, &w.cue) {
         None => {}
         Some(Err(e)) => {
             println!("  maude: {e}");
@@ -213,36 +248,35 @@ fn expansion(w: &Work, least: f64, agree: &mut bool) {
     }
 }
 
+/// An operation on the largest book, by each archive and by the second evaluator.
+fn largest_book(label: &str, least: f64, operation: fn(&Archive, &[u16]) -> product::Answer, second: fn(&[u16]) -> bool, place: usize) -> bool {
+    let book = &largest();
+    let mut calls: Vec<Call> = vec![Box::new(|| {
+        std::hint::black_box(second(book));
+    })];
+    let mut agree = second(book);
+    for archive in [Some(PRODUCT), OTHER].into_iter().flatten() {
+        agree &= operation(&archive, book) == product::Answer { number: 0, place, steps: 0 };
+        calls.push(Box::new(move || {
+            std::hint::black_box(operation(&archive, book));
+        }));
+    }
+    line(label, book.len(), 0, &measure(least, calls));
+    agree
+}
+
 fn all() -> i32 {
     let least: f64 = std::env::args().nth(1).and_then(|a| a.parse().ok()).unwrap_or(0.3);
     let mut agree = true;
-    println!("{:<22}{:>7}{:>8}{:>12}{:>12}{:>8}{:>14}{:>14}", "", "words", "steps", "product", "second", "ratio", "product st/s", "second st/s");
-    for w in [counting(1500), small(40), chase(400), wide(10), doubling()] {
+    heading();
+    let (few, many) = (small("small cue", 0, 40), small("small cue, 254 names", 250, 40));
+    for w in [counting(1500), few, many, chase(400), wide(10), doubling(), repeats(4), repeats(62)] {
         expansion(&w, least, &mut agree);
     }
-    let book = largest();
-    let read = product::read(&book);
-    agree &= (read.number, read.place) == (0, book.len()) && book::read(&book).is_ok();
-    let (p, s) = (
-        seconds(least, || {
-            std::hint::black_box(product::read(&book));
-        }),
-        seconds(least, || {
-            std::hint::black_box(book::read(&book).is_ok());
-        }),
-    );
-    line("reading, largest book", book.len(), 0, p, s);
-    agree &= product::test_strategies(&book).number == 0 && book::read(&book).unwrap().failing(Plant::Nothing).is_empty();
-    let (p, s) = (
-        seconds(least, || {
-            std::hint::black_box(product::test_strategies(&book));
-        }),
-        seconds(least, || {
-            std::hint::black_box(book::read(&book).unwrap().failing(Plant::Nothing));
-        }),
-    );
-    line("order test, largest", book.len(), 0, p, s);
-    println!("(ratio: the product's time by the second evaluator's, which works on shared trees with a heap; both from words to words)");
+    agree &= largest_book("reading, largest book", least, Archive::read, |b| book::read(b).is_ok(), largest().len());
+    agree &= largest_book("order test, largest book", least, Archive::test, |b| book::read(b).unwrap().failing(Plant::Nothing).is_empty(), 0);
+    println!("(ratio: the product's time by the second evaluator's, which works on shared trees with a heap; both from words to words.");
+    println!(" With another archive: the product's time by the other's. A nest of repeats that it would not end is left out there.)");
     if !maude::present() {
         println!("(maude is not installed: its runs are skipped)");
     }

@@ -1,5 +1,6 @@
 //! Show books and cues, read into trees, straight from the paper's text (01, "The show book" and "The table of numbers").
 
+use std::cell::Cell;
 use std::rc::Rc;
 
 /// A fault of the table, and the place it is reported at.
@@ -163,12 +164,23 @@ pub struct Cue {
     pub arguments: Vec<Rc<Cue>>,
     /// how many words it takes
     pub words: usize,
+    /// the levels at which its evaluation is known to take no step, a bit each
+    quiet: Cell<u64>,
 }
 
 impl Cue {
     pub fn new(name: u16, arguments: Vec<Rc<Cue>>) -> Rc<Cue> {
         let words = 1 + arguments.iter().map(|a| a.words).sum::<usize>();
-        Rc::new(Cue { name, arguments, words })
+        Rc::new(Cue { name, arguments, words, quiet: Cell::new(0) })
+    }
+
+    /// Whether it is known to take no step at a level, from 1 to 64.
+    pub fn is_quiet(&self, level: u32) -> bool {
+        self.quiet.get() >> (level - 1) & 1 == 1
+    }
+
+    pub fn set_quiet(&self, level: u32) {
+        self.quiet.set(self.quiet.get() | 1 << (level - 1));
     }
 
     pub fn write(&self, out: &mut Vec<u16>) {
@@ -261,4 +273,6 @@ pub enum Plant {
     FirstZero,
     /// 12 is checked before 11
     OverlongFirst,
+    /// what an evaluation leaves is marked as evaluated, though it took steps
+    Evaluated,
 }

@@ -2,7 +2,7 @@
 
 use crate::book::{self, Book, Cue, Plant};
 use crate::demand3;
-use crate::evaluate::{evaluate, first_fit, End};
+use crate::evaluate::{evaluate, evaluate_plainly, first_fit, End, Outcome};
 use crate::product::{self, Answer, Match, Part, Shape, VARIABLES};
 use crate::random::{Case, PATIENCE};
 use std::cell::RefCell;
@@ -31,6 +31,9 @@ pub struct Counts {
     pub listed: u64,
     pub settled: u64,
     pub too_long: u64,
+    /// evaluated without the memory as well; too long without it
+    pub plain: u64,
+    pub repeats: u64,
 }
 
 impl Counts {
@@ -53,6 +56,8 @@ impl Counts {
         self.listed += o.listed;
         self.settled += o.settled;
         self.too_long += o.too_long;
+        self.plain += o.plain;
+        self.repeats += o.repeats;
     }
 }
 
@@ -271,6 +276,9 @@ fn expansion(case: &Case, plant: Plant, read: &Result<Book, book::Fault>, cue: &
         Err(place) => return refused(9, *place),
     };
     let o = evaluate(b, c, case.limit, plant, true, PATIENCE);
+    if plant != Plant::Evaluated {
+        remembered(b, c, case.limit, plant, &o, n)?;
+    }
     match o.end {
         End::TooLong => {
             n.too_long += 1;
@@ -312,6 +320,32 @@ fn expansion(case: &Case, plant: Plant, read: &Result<Book, book::Fault>, cue: &
             Ok(())
         }
     }
+}
+
+/// The second evaluator's memory changes no outcome, wherever the evaluation without it ends.
+fn remembered(b: &Book, c: &Rc<Cue>, limit: u32, plant: Plant, o: &Outcome, n: &mut Counts) -> Checked {
+    let p = evaluate_plainly(b, c, limit, plant, true, PATIENCE / 20);
+    let same_end = match (&o.end, &p.end) {
+        (_, End::TooLong) => {
+            n.repeats += 1;
+            return Ok(());
+        }
+        (End::Cue(x), End::Cue(y)) => x.to_words() == y.to_words(),
+        (End::Stopped(x), End::Stopped(y)) => x == y,
+        _ => false,
+    };
+    if !same_end || o.steps != p.steps || o.trace != p.trace {
+        return Err(format!("the second evaluator's memory changes its outcome: {} steps with it, {} without", o.steps, p.steps));
+    }
+    n.plain += 1;
+    Ok(())
+}
+
+/// Whether the case is refused, or its evaluation ends in time without the memory.
+pub fn ends_plainly(case: &Case) -> bool {
+    let Ok(b) = book::read(&case.book) else { return true };
+    let Ok(c) = b.cue(&case.cue) else { return true };
+    !matches!(evaluate_plainly(&b, &c, case.limit, Plant::Nothing, false, PATIENCE).end, End::TooLong)
 }
 
 /// Whether the cue takes one step more than the allowance that was spent, and then ends. (Only short evaluations are looked at again.)

@@ -1,9 +1,14 @@
 //! Evaluation on trees, recursive, straight from the paper's text (01, "Evaluation").
+//!
+//! Orders may repeat an argument, and nested repeats multiply. So a tree remembers the levels at which its evaluation took no step: what fits
+//! in it, and whether an argument is opened from level 64, depends on nothing but the tree and the level, so it takes none there again. The
+//! evaluation without this memory is at hand too, and the random cases hold one to the other wherever the plain one ends.
 
 use crate::book::{Book, Cue, Plant, Side, LONGEST};
 use std::rc::Rc;
 
 /// A step that was taken: the arguments on the way to its place (from 0), and the rule.
+#[derive(Debug, PartialEq)]
 pub struct Step {
     pub way: Vec<u8>,
     pub rule: usize,
@@ -38,6 +43,7 @@ struct Evaluator<'a> {
     trace: Option<Vec<Step>>,
     /// what may still be spent before the evaluation is given up
     patience: u64,
+    remembers: bool,
 }
 
 /// Names equal, each placeholder standing for one whole argument.
@@ -70,6 +76,10 @@ pub fn first_fit(book: &Book, cue: &Rc<Cue>) -> Option<(usize, Vec<Rc<Cue>>)> {
 
 impl Evaluator<'_> {
     fn evaluate(&mut self, cue: &Rc<Cue>, level: u32) -> Result<Rc<Cue>, Stop> {
+        if self.remembers && cue.is_quiet(level) {
+            return Ok(cue.clone());
+        }
+        let before = self.steps;
         let mut cue = cue.clone();
         'anew: loop {
             let order = &self.book.names[cue.name as usize].order;
@@ -106,6 +116,9 @@ impl Evaluator<'_> {
                     }
                 }
             }
+            if self.steps == before || self.plant == Plant::Evaluated {
+                cue.set_quiet(level);
+            }
             return Ok(cue);
         }
     }
@@ -136,8 +149,17 @@ impl Evaluator<'_> {
 
 /// Evaluates a whole cue at level 1. `patience` bounds the work (entries followed, weighted by the cue's size and the rules tried).
 pub fn evaluate(book: &Book, cue: &Rc<Cue>, allowance: u32, plant: Plant, traced: bool, patience: u64) -> Outcome {
+    run(book, cue, allowance, plant, traced, patience, true)
+}
+
+/// The same without the memory.
+pub fn evaluate_plainly(book: &Book, cue: &Rc<Cue>, allowance: u32, plant: Plant, traced: bool, patience: u64) -> Outcome {
+    run(book, cue, allowance, plant, traced, patience, false)
+}
+
+fn run(book: &Book, cue: &Rc<Cue>, allowance: u32, plant: Plant, traced: bool, patience: u64, remembers: bool) -> Outcome {
     let trace = traced.then(Vec::new);
-    let mut e = Evaluator { book, allowance, plant, whole: cue.words, steps: 0, way: vec![], trace, patience };
+    let mut e = Evaluator { book, allowance, plant, whole: cue.words, steps: 0, way: vec![], trace, patience, remembers };
     let end = match e.evaluate(cue, 1) {
         Ok(c) => End::Cue(c),
         Err(Stop::Number(n)) => End::Stopped(n),

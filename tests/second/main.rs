@@ -1,10 +1,11 @@
 //! A second evaluator of show books, written apart from the product, and random cases that hold the product to it through the C interface.
 //!
-//!     second [CASES] [--seed N] [--threads N] [--plant N] [--repeats]
+//!     second [CASES] [--seed N] [--threads N] [--plant N] [--plain]
 //!
-//! CASES cases (100,000 if not said), from seed 0 (or --seed) on; one thread for each processor, if not said. --plant 1, 2 or 3 plants a fault
-//! in the second evaluator, which the run must then find. --repeats adds a cue that would take 16^60 visits if nothing were remembered. Exit status: 0 no difference; 1 a difference, printed with its seed and cut down; 2
-//! a number of the table came too seldom, or bad usage.
+//! CASES cases (100,000 if not said), from seed 0 (or --seed) on; one thread for each processor, if not said. --plant 1 to 4 plants a fault
+//! in the second evaluator, which the run must then find. --plain leaves out what takes too long if nothing is remembered of arguments that
+//! took no step: for a product that remembers nothing. Exit status: 0 no difference; 1 a difference, printed with its seed and cut down; 2 a
+//! number of the table, or a nest of repeats, came too seldom, or bad usage.
 
 mod book;
 mod compare;
@@ -29,7 +30,7 @@ struct Options {
     first: u64,
     threads: usize,
     plant: Plant,
-    repeats: bool,
+    plain: bool,
 }
 
 fn options() -> Option<Options> {
@@ -38,19 +39,20 @@ fn options() -> Option<Options> {
         first: 0,
         threads: std::thread::available_parallelism().map_or(1, |n| n.get()),
         plant: Plant::Nothing,
-        repeats: false,
+        plain: false,
     };
     let mut args = std::env::args().skip(1);
     while let Some(a) = args.next() {
         match a.as_str() {
             "--seed" => o.first = args.next()?.parse().ok()?,
-            "--repeats" => o.repeats = true,
+            "--plain" => o.plain = true,
             "--threads" => o.threads = args.next()?.parse().ok().filter(|&n| n > 0)?,
             "--plant" => {
                 o.plant = match args.next()?.as_str() {
                     "1" => Plant::OldOrder,
                     "2" => Plant::FirstZero,
                     "3" => Plant::OverlongFirst,
+                    "4" => Plant::Evaluated,
                     _ => return None,
                 }
             }
@@ -114,13 +116,17 @@ fn statistics(n: &Counts) {
         n.steps[0], n.steps[1], n.steps[2], n.steps[3], n.steps[4], n.most_steps
     );
     println!("  allowance just enough {}, one short {}; arguments taken out {}, fits {}", n.exact, n.one_short, n.arguments, n.matches);
-    println!("  demand 3: lists of steps checked {}, settled cues checked and expanded again {}; expansions left out as too long {}", n.listed, n.settled, n.too_long);
+    println!("  demand 3: lists of steps checked {}, settled cues checked and expanded again {}", n.listed, n.settled);
+    println!("  the same without memory {}, too long without it {}; left out as too long {}", n.plain, n.repeats, n.too_long);
 }
 
-/// Every number of the table is to come often: at least once in 500 cases.
-fn seldom(n: &Counts) -> Vec<String> {
+/// Every number of the table is to come often, and so are nested repeats: at least once in 500 cases.
+fn seldom(n: &Counts, plain: bool) -> Vec<String> {
     let least = n.cases / 500;
     let mut all = vec![];
+    if !plain && n.repeats < least {
+        all.push(format!("nested repeats came only {} times", n.repeats));
+    }
     for i in 0..15 {
         let (name, c) = if i == 14 { ("the order test", n.test[14]) } else { ("the expander", n.expand[i]) };
         if c < least {
@@ -150,7 +156,12 @@ fn run(o: &Options) -> (Counts, Option<u64>) {
                 if k >= o.cases || worst.load(Ordering::Relaxed) < seed {
                     return n;
                 }
-                if compare(&random::case(seed), o.plant, &mut n).is_err() {
+                let case = random::case(seed);
+                if o.plain && !compare::ends_plainly(&case) {
+                    n.too_long += 1;
+                    continue;
+                }
+                if compare(&case, o.plant, &mut n).is_err() {
                     worst.fetch_min(seed, Ordering::Relaxed);
                 }
             }
@@ -166,12 +177,12 @@ fn run(o: &Options) -> (Counts, Option<u64>) {
 
 fn all() -> i32 {
     let Some(o) = options() else {
-        eprintln!("second [CASES] [--seed N] [--threads N] [--plant 1|2|3] [--repeats]");
+        eprintln!("second [CASES] [--seed N] [--threads N] [--plant 1|2|3|4] [--plain]");
         return 2;
     };
     if o.plant == Plant::Nothing {
         let mut faults = paper::paper();
-        if o.repeats {
+        if !o.plain {
             faults.extend(paper::repeats());
         }
         for f in &faults {
@@ -180,7 +191,7 @@ fn all() -> i32 {
         if !faults.is_empty() {
             return 1;
         }
-        println!("second: the paper's cases C1 to C15 hold for both");
+        println!("second: the paper's cases C1 to C15{} hold for both", if o.plain { "" } else { ", and nested repeats," });
     }
     let start = Instant::now();
     let (n, found) = run(&o);
@@ -190,7 +201,7 @@ fn all() -> i32 {
     }
     println!("second: {} cases from seed {} on, no difference, {:.1} s", n.cases, o.first, start.elapsed().as_secs_f64());
     statistics(&n);
-    let few = seldom(&n);
+    let few = seldom(&n, o.plain);
     if o.cases >= 10_000 && !few.is_empty() {
         for f in few {
             println!("second: {f}");

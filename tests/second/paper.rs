@@ -103,19 +103,34 @@ pub fn paper() -> Vec<String> {
     t.faults
 }
 
-/// A name whose order repeats its argument 16 times, nested 60 deep: nothing fits, and the answer must not take 16^60 visits. No second
-/// evaluation could hold this against the product; the answer is known.
+/// Orders that repeat an argument, nested, as crates/rehearsal has them; what they expect is worked out there by hand.
 pub fn repeats() -> Vec<String> {
     let mut t = Check { faults: vec![] };
-    let mut repeats = vec![2, 0, 1, 2, 0, 16];
-    repeats.extend([1; 16]);
-    repeats.push(0);
-    let cue = nested(1, 60, 0);
-    let mut out = [0; 4096];
-    let a = product::expand(&repeats, &cue, 9, &mut out, &mut [0; 8192]);
-    t.hold("repeated entries, product", (0, 61, 0), (a.number, a.place, a.steps));
-    if out[..61] != cue[..] {
-        t.faults.push("repeated entries: the cue is changed".into());
-    }
+    let ones = [1; 16];
+    let quiet = [&[2, 0, 1, 2, 0, 16][..], &ones, &[0]].concat();
+    let cue = nested(1, 62, 0);
+    t.expands("repeats", &quiet, &cue, 0, (0, 63, 0), Some(&cue));
+    t.expands("repeats, 64 deep", &quiet, &nested(1, 64, 0), 0, (13, 0, 0), None);
+    // names z, f (repeats), g (1 0), h (0 1), a (0), b (0); g(f(x)) to g(x), h(z) to z, a to b
+    let changes = [
+        &[6, 0, 1, 1, 1, 0, 0, 6, 0, 16][..],
+        &ones,
+        &[2, 1, 0, 2, 0, 1, 1, 0, 1, 0],
+        &[3, 3, 2, 1, 32768, 2, 2, 32768, 2, 3, 0, 1, 0, 1, 4, 1, 5],
+    ]
+    .concat();
+    t.expands("repeats round a change", &changes, &nested(1, 62, 4), 1000, (0, 63, 1), Some(&nested(1, 62, 5)));
+    let between = [&[1; 30][..], &[2], &nested(1, 31, 0)].concat();
+    t.expands("repeats round and below changes", &changes, &between, 1000, (0, 32, 31), Some(&[&[1; 30][..], &[2, 0]].concat()));
+    let once = [&[1][..], &nested(3, 40, 0)].concat();
+    t.expands("repeats that change, one", &changes, &once, 1000, (0, 26, 16), Some(&[&[1][..], &nested(3, 24, 0)].concat()));
+    let often = [&[1; 22][..], &nested(3, 40, 0)].concat();
+    t.expands("repeats that change, 22", &changes, &often, 1000, (0, 23, 40), Some(&nested(1, 22, 0)));
+    // names z, c (1 2, eight times), w (0); w(x) to c(x, z)
+    let twos = [1, 2].repeat(8);
+    let combs = [&[3, 0, 2, 1, 3, 0, 16][..], &twos, &[1, 0, 1, 2, 2, 32768, 3, 1, 32768, 0]].concat();
+    let comb = [[1; 62].to_vec(), vec![0; 63]].concat();
+    t.expands("comb", &combs, &comb, 0, (0, 125, 0), Some(&comb));
+    t.expands("comb that grows", &combs, &nested(2, 62, 0), 1000, (0, 125, 62), Some(&comb));
     t.faults
 }

@@ -37,7 +37,7 @@ pub struct Match {
     pub lengths: [usize; VARIABLES],
 }
 
-mod c {
+pub mod c {
     use super::*;
     #[link(name = "cue", kind = "static")]
     extern "C" {

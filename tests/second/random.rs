@@ -546,6 +546,74 @@ fn lists(r: &mut Random, scale: Scale) -> (Draft, Vec<u16>) {
     (d, cue)
 }
 
+/// Orders that name an argument again and again, nested: a chain of names with one or two arguments, changed here and there.
+fn repeats(r: &mut Random) -> (Draft, Vec<u16>) {
+    fn often(r: &mut Random, n: usize, zeros: usize) -> Vec<usize> {
+        (0..r.from(2, 16)).map(|_| if r.percent(zeros) { 0 } else { r.from(1, n) }).collect()
+    }
+    fn chain(r: &mut Random, deep: usize, one: &[u16], two: u16, ends: &[u16], out: &mut Vec<u16>) {
+        if deep == 0 {
+            out.push(*r.pick(ends));
+            return;
+        }
+        if r.percent(75) {
+            out.push(*r.pick(one));
+            return chain(r, deep - 1, one, two, ends, out);
+        }
+        out.push(two);
+        let second = r.percent(50);
+        if second {
+            out.push(*r.pick(ends));
+        }
+        chain(r, deep - 1, one, two, ends, out);
+        if !second {
+            out.push(*r.pick(ends));
+        }
+    }
+    let mut d = Draft::default();
+    let z = d.name(0, &[]);
+    let (a, b) = (d.name(0, &[0]), d.name(0, &[0]));
+    let zeros = *r.pick(&[0, 0, 10, 30]);
+    let o = often(r, 1, zeros);
+    let f = d.name(1, &o);
+    let o = often(r, 2, zeros);
+    let c = d.name(2, &o);
+    let g = d.name(1, *r.pick(&[&[1, 0][..], &[1, 1, 1, 0], &[0, 1, 0, 1]]));
+    let h = d.name(1, *r.pick(&[&[0, 1][..], &[0, 1, 1], &[1, 0, 1, 1]]));
+    let rules: [(&[u16], &[u16]); 15] = [
+        (&[a], &[b]),
+        (&[b], &[z]),
+        (&[b], &[f, z]),
+        (&[b], &[f, b]),
+        (&[b], &[h, a]),
+        (&[h, z], &[z]),
+        (&[h, f, A], &[h, A]),
+        (&[h, f, A], &[f, h, A]),
+        (&[g, f, A], &[g, A]),
+        (&[g, f, A], &[f, g, A]),
+        (&[g, g, A], &[A]),
+        (&[c, f, A, B], &[c, A, B]),
+        (&[c, A, b], &[A]),
+        (&[c, A, b], &[c, A, z]),
+        (&[c, A, b], &[c, A, f, b]),
+    ];
+    for (left, right) in rules {
+        if r.percent(35) {
+            d.rule(left, right);
+        }
+    }
+    let deep = match r.below(4) {
+        0 => r.from(1, 8),
+        1 => r.from(4, 25),
+        2 => r.from(20, 62),
+        _ => r.from(60, 66),
+    };
+    let one = *r.pick(&[[f, f, f, f], [f, f, f, h], [f, f, f, g], [f, f, g, h]]);
+    let mut cue = vec![];
+    chain(r, deep, &one, c, &[z, z, a, b], &mut cue);
+    (d, cue)
+}
+
 /// The names of a draft, and of a cue over it, numbered otherwise; name 0 keeps its number.
 fn renumber(r: &mut Random, d: &Draft, cue: &mut [u16]) -> Draft {
     let n = d.counts.len();
@@ -722,7 +790,7 @@ fn plain(r: &mut Random) -> (Draft, Vec<u16>) {
 pub fn case(seed: u64) -> Case {
     let r = &mut Random::new(seed);
     let scale = Scale::any(r);
-    let (mut d, mut cue) = match r.below(100) {
+    let (mut d, mut cue) = match r.below(106) {
         0..=26 => plain(r),
         27..=44 => again(r),
         45..=56 => arithmetic(r, scale),
@@ -730,7 +798,8 @@ pub fn case(seed: u64) -> Case {
         67..=75 => doubling(r),
         76..=82 => deep(r),
         83..=90 => wide(r, scale),
-        _ => lists(r, scale),
+        91..=99 => lists(r, scale),
+        _ => repeats(r),
     };
     if r.percent(50) {
         vary(r, &mut d);
