@@ -139,6 +139,37 @@ cue_answer cue_test_strategies(const uint16_t *book, size_t book_words);
 cue_answer cue_expand(const uint16_t *book, size_t book_words, const uint16_t *term, size_t term_words, uint32_t limit, uint16_t *out,
                       size_t out_words, uint16_t *work, size_t work_words);
 
+/* The order test's answer and the expansion's. */
+typedef struct cue_checked {
+  cue_answer test;
+  cue_answer answer;
+} cue_checked;
+
+/*
+ * cue_test_strategies and cue_expand in one call, with what the two promise together. Where answer.number is 0, answer.steps steps lead
+ * from the cue handed in to the one in out, none of them past 4,096 words; where test.number is 0 as well, no rule fits at an active
+ * place of the answer, and it expands to itself in 0 steps. The buffers are as cue_expand leaves them.
+ */
+cue_checked cue_expand_checked(const uint16_t *book, size_t book_words, const uint16_t *term, size_t term_words, uint32_t limit,
+                               uint16_t *out, size_t out_words, uint16_t *work, size_t work_words);
+
+/* The order test's answer, and those of two expansions. */
+typedef struct cue_twice {
+  cue_answer test;
+  cue_answer first;
+  cue_answer second;
+} cue_twice;
+
+/*
+ * cue_expand_checked, and the answer in out expanded once more with no step allowed, into `again` with the work buffer `spare`. Where
+ * test.number and first.number are 0 and these two buffers are large enough, second is 0, the answer's length, 0 steps, and `again`
+ * starts with the same words as out. Where first.number is not 0 there is no second expansion: second is first, and `again` and
+ * `spare` are unchanged.
+ */
+cue_twice cue_expand_twice(const uint16_t *book, size_t book_words, const uint16_t *term, size_t term_words, uint32_t limit,
+                           uint16_t *out, size_t out_words, uint16_t *work, size_t work_words, uint16_t *again, size_t again_words,
+                           uint16_t *spare, size_t spare_words);
+
 #ifdef __cplusplus
 }
 #endif
