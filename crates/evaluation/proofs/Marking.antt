@@ -7,9 +7,9 @@ use mathlib.Core.List.{List}
 use lib.ListN.{length, getD, set, length-set}
 use lib.Seq.{getD-set-same, getD-set-other}
 use Rattle.system.specs.declared.Shape.{Shape}
-use Rattle.matching.specs.Accepted.{Accepted}
-use Rattle.evaluation.specs.Marks.{Standing, Marked}
-use Rattle.evaluation.proofs.Strategies.{standing-start}
+use Rattle.matching.specs.Accepted.{Accepted, Standing}
+use Rattle.evaluation.specs.Marks.{Marked}
+use Rattle.matching.proofs.Standings.{standing-start}
 
 -- the first n marks are made
 pub record Marking (b marks : List ℕ) (n : ℕ) : Type 0 where

@@ -1,4 +1,4 @@
--- Where a symbol's strategy stands in an accepted book, and what one of its entries asks for, in the terms of the code.
+-- What an entry of a symbol's strategy asks for, in the terms of the code.
 use Prim.Native.Nat.{ℕ, zero, suc, _+_, _-_, _≤_, _<_}
 use native.Mathlib.Omega.{arith}
 use native.Mathlib.Decide.{decLt}
@@ -9,15 +9,12 @@ use lib.ListN.{length, getD, drop, length-drop, List·getD-eq-default}
 use lib.Seq.{getD-take, getD-drop, length-take-le}
 use borrow.Author.Tests.{lt-ltb, le-ltb}
 use Rattle.system.specs.declared.Shape.{Shape}
-use Rattle.system.specs.System.{System, strategy}
-use Rattle.system.specs.Answers.{signatureOf}
-use Rattle.system.proofs.Located.{Listed, strategy-at}
+use Rattle.system.specs.System.{strategy}
 use Rattle.matching.specs.Accepted.{systemOf, Accepted, StrategyAt}
-use Rattle.matching.proofs.Books.{well, sections, signature, symbol-count, strategy-index}
+use Rattle.matching.proofs.Standings.{strategy-count}
 use Rattle.evaluation.specs.declared.entries.Entry.{Entry}
 use Rattle.evaluation.specs.declared.entries.Entry.the-variants.{End, Again, Rules, Argument}
 use Rattle.evaluation.specs.Turn.{entryFrom, between, among, entryOf}
-use Rattle.evaluation.specs.Marks.{wordsFrom, Standing}
 use Rattle.evaluation.proofs.Repeats.{between-take}
 
 -- ---- what an entry asks for
@@ -73,40 +70,13 @@ module _ (es : List ℕ) (f c : ℕ) where
   pub asked-argument : (i : ℕ) → Asks (Argument i) → (c < length es) × (stood ≡ false) × (getD es c 0 ≡ suc i)
   asked-argument i (opens _ h b q) = (h, b, q)
 
--- ---- where a strategy stands
+-- ---- what the entry asks for that the words of the book tell of
 
-module _ (b : List ℕ) (sh : Shape) (acc : Accepted b sh) where
-  abbrev s : System
-  s = systemOf b
-
-  strategy-count : length (s .strategies) ≡ sh .symbols
-  strategy-count =
-      let m : length (s .arities) ≡ length (signatureOf b) = ap length (signature b sh acc) in
-      omega (arith, symbol-count b sh acc, well b sh acc .orders)
-
-  pub symbols-few : sh .symbols ≤ 256
-  symbols-few = let w = well b sh acc in let few = w .names in let same = w .orders in omega (arith, strategy-count)
-
-  listed : (k at : ℕ) → k < sh .symbols → Standing b k at → Listed b at (strategy s k) (wordsFrom s (k + 1))
-  unfolding strategy
-  listed k at more so = strategy-at b at k (s .strategies) _ (omega (arith, strategy-count)) (so .words)
-
-  -- the words there are its own
-  pub standing-strategy : (k at : ℕ) → k < sh .symbols → Standing b k at → StrategyAt b k at
-  standing-strategy k at more so =
-      let h = listed k at more so in
-      record { fits = (let z = h .fits in omega (arith, h .counted)); entries = rw (h .counted) (h .words) }
-
-  pub standing-start : Standing b 0 (sh .strategies)
-  standing-start = record { words = rw (strategy-index b sh acc) (sections b sh acc .strategies) }
-
-  pub standing-next : (k at n : ℕ) → k < sh .symbols → Standing b k at → n ≡ getD b at 0 → Standing b (k + 1) (at + 1 + n)
-  standing-next k at n more so q = let h = listed k at more so in record { words = rw (q, h .counted) (h .rests) }
-
-  -- what is no symbol has no strategy
-  pub entry-none : (w n f c : ℕ) → n ≡ w → sh .symbols ≤ n → End ≡ entryOf (strategy s w) f c
-  unfolding strategy
-  entry-none w n f c q h = sym (rw (List·getD-eq-default (s .strategies) [] {n = w} (omega (arith, strategy-count))) (entry-past [] f c (omega arith)))
+-- what is no symbol has no strategy
+pub entry-none : (b : List ℕ) (sh : Shape) → Accepted b sh → (w n f c : ℕ) → n ≡ w → sh .symbols ≤ n → End ≡ entryOf (strategy (systemOf b) w) f c
+unfolding strategy
+entry-none b sh acc w n f c q h =
+    sym (rw (List·getD-eq-default (systemOf b .strategies) [] {n = w} (omega (arith, strategy-count b sh acc))) (entry-past [] f c (omega arith)))
 
 -- an entry of the strategy at `at`, by the words of the book
 module _ (b : List ℕ) (w k at f c n : ℕ) (is : k ≡ w) (st : StrategyAt b k at) (count : n ≡ getD b at 0) where

@@ -1,7 +1,7 @@
 // Where the symbols' strategies stand in a book: an index of every fourth one, made once per call.
 ghost use Prim.Native.Nat.{_≤_, _<_};
-ghost use Rattle.matching.specs.Accepted.{Accepted, StrategyAt};
-ghost use Rattle.evaluation.specs.Marks.{Standing, Marked};
+ghost use Rattle.matching.specs.Accepted.{Accepted, StrategyAt, Standing};
+ghost use Rattle.evaluation.specs.Marks.{Marked};
 use system::Shape;
 use system::words::wide;
 

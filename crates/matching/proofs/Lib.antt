@@ -6,6 +6,7 @@ pub mod Words
 pub mod Stretched
 -- What the code's loops cite
 pub mod Books
+pub mod Standings
 pub mod Shapes
 pub mod MatchSteps
 pub mod Searches

@@ -14,15 +14,14 @@ use borrow.Author.Tests.{eq-eqb, ne-eqb}
 use Rattle.system.specs.declared.Shape.{Shape}
 use Rattle.system.specs.Signature.{Signature, variable, argument, span}
 use Rattle.system.specs.System.{System, Rule, noRule, rule, head, strategy}
-use Rattle.system.specs.Format.{encodeStrategies, encodeRules}
 use Rattle.system.specs.Answers.{signatureOf}
 use Rattle.system.proofs.Signatures.{symbol-lt, lt-symbol}
-use Rattle.system.proofs.Located.{Listed, strategy-at}
 use Rattle.matching.specs.declared.rules.Place.{Place}
-use Rattle.matching.specs.Accepted.{systemOf, Accepted, StrategyAt}
+use Rattle.matching.specs.Accepted.{systemOf, Accepted, StrategyAt, Standing}
 use Rattle.matching.specs.Safety.{every, isVariable, idleTest, idles, closes, constructs, passes, Tested, passed, failed}
 use Rattle.matching.proofs.MatchSteps.{tail}
-use Rattle.matching.proofs.Books.{Rest, Turn, well, sections, rule-count, symbol-count, strategy-index, first-rest, signature}
+use Rattle.matching.proofs.Books.{Rest, Turn, rule-count, symbol-count, first-rest, signature}
+use Rattle.matching.proofs.Standings.{standing-strategy, standing-start, standing-next}
 use Rattle.matching.proofs.SafetyTest.{passes-sound, passes-complete}
 
 -- ---- whether an argument is a variable
@@ -227,14 +226,14 @@ module _ (s : System) (f : ℕ) {r : Bool} (is : r ≡ not (constructs s f)) whe
 -- the symbols before f pass, and the strategies from its own on stand from the index `at` on
 pub record Through (b : List ℕ) (sh : Shape) (f at : ℕ) : Type 0 where
   pub inside : f ≤ sh .symbols
-  pub rest : drop at b ≡ encodeStrategies (drop f (systemOf b .strategies)) ++ (length (systemOf b .rules) ∷ encodeRules (systemOf b .rules))
+  pub standing : Standing b f at
   pub passed : (k : ℕ) → k < f → passes (systemOf b) k ≡ true
 
 module _ {b : List ℕ} {sh : Shape} (acc : Accepted b sh) where
   pub test-starts : Through b sh 0 (sh .strategies)
   test-starts = record {
     inside = omega arith;
-    rest = rw (strategy-index b sh acc) (sections b sh acc .strategies);
+    standing = standing-start b sh acc;
     passed = λ k h. absurd (not-suc-le-zero h);
   }
 
@@ -245,15 +244,8 @@ module _ {b : List ℕ} {sh : Shape} (acc : Accepted b sh) where
         (so .passed k (let l = rw (signature b sh acc) at (lt-symbol (systemOf b .arities) k y) in omega (arith, symbol-count b sh acc))))
 
     module _ (more : f < sh .symbols) where
-      here : Listed b at (strategy (systemOf b) f) (encodeStrategies (drop (f + 1) (systemOf b .strategies)) ++ (length (systemOf b .rules) ∷ encodeRules (systemOf b .rules)))
-      unfolding strategy
-      here =
-          let n = well b sh acc .orders in
-          let m : length (systemOf b .arities) ≡ length (signatureOf b) = ap length (signature b sh acc) in
-          strategy-at b at f (systemOf b .strategies) _ (omega (arith, symbol-count b sh acc)) (so .rest)
-
       pub test-strategy : StrategyAt b f at
-      test-strategy = let h = here in record { fits = (let z = h .fits in omega (arith, h .counted)); entries = rw (h .counted) (h .words) }
+      test-strategy = standing-strategy b sh acc f at more (so .standing)
 
       module _ {r : Bool} (is : r ≡ passes (systemOf b) f) where
         pub test-fails : r ≡ false → Tested (systemOf b) (record { number = 14; place = f; steps = 0 })
@@ -262,8 +254,8 @@ module _ {b : List ℕ} {sh : Shape} (acc : Accepted b sh) where
             (λ p. let z : _≡_ {A = ℕ} 0 1 = cc (passes-complete (systemOf b) f p) in omega arith)
 
         pub test-goes : r ≡ true → {n : ℕ} → n ≡ getD b at 0 → Through b sh (f + 1) (at + 1 + n)
-        test-goes e q = record {
+        test-goes e {n} q = record {
           inside = omega arith;
-          rest = (let h = here in rw (q, h .counted) (h .rests));
+          standing = standing-next b sh acc f at n more (so .standing) q;
           passed = λ k h. elim (ℕ-discrete k f) [ yes z ↦ rw z (sym is ∙ e) | no d ↦ so .passed k (omega arith) ];
         }

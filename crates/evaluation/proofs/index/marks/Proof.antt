@@ -3,7 +3,7 @@ use Prim.Native.Nat.{_-_, _≤_}
 use native.Mathlib.Omega.{arith}
 use mathlib.Core.Path.{refl}
 use borrow.Author.Needs.{needs}
-use Rattle.evaluation.proofs.Strategies.{symbols-few}
+use Rattle.matching.proofs.Standings.{symbols-few}
 use Rattle.evaluation.proofs.Marking.{Marking, marking-start, marking-next, marking-end}
 use Rattle.evaluation.proofs.index.marks.Statement.{statement}
 use Rattle.evaluation.proofs.index.marks.Tie as tie

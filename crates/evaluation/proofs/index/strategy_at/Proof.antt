@@ -2,7 +2,7 @@
 use Prim.Native.Nat.{_≤_, _/_}
 use native.Mathlib.Omega.{arith}
 use borrow.Author.Needs.{needs}
-use Rattle.evaluation.proofs.Strategies.{symbols-few, standing-strategy}
+use Rattle.matching.proofs.Standings.{symbols-few, standing-strategy}
 use Rattle.evaluation.proofs.index.strategy_at.Statement.{statement}
 use Rattle.evaluation.proofs.index.strategy_at.Tie as tie
 

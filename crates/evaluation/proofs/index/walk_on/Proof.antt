@@ -4,8 +4,8 @@ use native.Mathlib.Omega.{arith}
 use mathlib.Core.Path.{_≡_, subst}
 use borrow.Author.Needs.{needs}
 use Rattle.matching.specs.Accepted.{StrategyAt}
-use Rattle.evaluation.specs.Marks.{Standing}
-use Rattle.evaluation.proofs.Strategies.{standing-strategy, standing-next}
+use Rattle.matching.specs.Accepted.{Standing}
+use Rattle.matching.proofs.Standings.{standing-strategy, standing-next}
 use Rattle.evaluation.proofs.index.walk_on.Statement.{statement}
 use Rattle.evaluation.proofs.index.walk_on.Tie as tie
 
