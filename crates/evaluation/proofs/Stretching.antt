@@ -7,7 +7,7 @@ use mathlib.Core.Path.{_≡_, refl, sym, ap, _∙_, subst}
 use mathlib.Core.Logic.{inl, inr}
 use mathlib.Core.Option.{Option, none, some}
 use mathlib.Core.List.{List, [], _∷_, _++_, append-assoc, append-nil}
-use lib.ListN.{length, getD, drop, set, replicate, length-set, length-replicate, getD-replicate, List·getD-eq-default}
+use lib.ListN.{length, getD, drop, set, length-set}
 use lib.Seq.{drop-append-seam, getD-set-same, getD-set-other, set-out}
 use Rattle.system.specs.Signature.{Signature, Symbol, arity, variable, variables}
 use Rattle.system.specs.System.{System, Rule, noRule}
@@ -16,18 +16,10 @@ use Rattle.system.proofs.Signatures.{arity-variable, symbol-below, few-symbols}
 use Rattle.system.proofs.Forests.{span-forest, split, Split}
 use Rattle.matching.specs.Stretches.{Stretches, unset, takes, note, stretches, matchFrom, matchOf}
 use Rattle.evaluation.specs.Rewritten.{Behind}
-use Rattle.matching.proofs.MatchSteps.{takes-variable, takes-differ, takes-same, note-symbol, note-variable, from-nil, from-here, from-next}
+use Rattle.matching.proofs.Stretched.{zero-at}
+use Rattle.matching.proofs.MatchSteps.{cons-stop, cons-next, takes-variable, takes-differ, takes-same, note-symbol, note-variable, from-nil, from-here, from-next}
 
 module _ (g : Signature) where
-  cons-stop : (l : ℕ) (ls ws : List ℕ) (q : ℕ) (a : Stretches) → takes g l ws ≡ 0 → stretches g (l ∷ ls) ws q a ≡ none
-  unfolding stretches
-  cons-stop l ls ws q a e = rw (e, stretches)
-
-  cons-next : (l : ℕ) (ls ws : List ℕ) (q : ℕ) (a : Stretches) (n : ℕ) → takes g l ws ≡ n → 0 < n → stretches g (l ∷ ls) ws q a ≡ stretches g ls (drop n ws) (q + n) (note l q n a)
-  unfolding stretches
-  cons-next l ls ws q a zero e h = absurd (omega arith)
-  cons-next l ls ws q a (suc n) e h = rw (e, stretches)
-
   nil-some : (ws : List ℕ) (q : ℕ) (a : Stretches) → stretches g [] ws q a ≡ some a
   unfolding stretches
   nil-some ws q a = refl
@@ -44,10 +36,10 @@ module _ (g : Signature) where
         let v : l < variable = symbol-below g l few h in
         elim (ℕ-discrete l w) [
           | yes e ↦
-              cons-next l ls (w ∷ (ws ++ b)) q a 1 (takes-same g l (w ∷ (ws ++ b)) (omega arith) v e) (omega arith)
+              cons-next g l ls (w ∷ (ws ++ b)) q a 1 (takes-same g l (w ∷ (ws ++ b)) (omega arith) v e) (omega arith)
               ∙ stretches-rest b (q + 1) (note l q 1 a) f (rw (← e) at fu)
-              ∙ sym (cons-next l ls (w ∷ ws) q a 1 (takes-same g l (w ∷ ws) (omega arith) v e) (omega arith))
-          | no d ↦ cons-stop l ls (w ∷ (ws ++ b)) q a (takes-differ g l (w ∷ (ws ++ b)) (omega arith) v d) ∙ sym (cons-stop l ls (w ∷ ws) q a (takes-differ g l (w ∷ ws) (omega arith) v d))
+              ∙ sym (cons-next g l ls (w ∷ ws) q a 1 (takes-same g l (w ∷ ws) (omega arith) v e) (omega arith))
+          | no d ↦ cons-stop g l ls (w ∷ (ws ++ b)) q a (takes-differ g l (w ∷ (ws ++ b)) (omega arith) v d) ∙ sym (cons-stop g l ls (w ∷ ws) q a (takes-differ g l (w ∷ ws) (omega arith) v d))
         ]
     stretches-rest b q a (more {w = l} {k} {ws = ls} (inr h) f) fu =
         let c : Split g (Symbol g) 1 (k + arity g l) _ = split g (Symbol g) fu 1 (k + arity g l) (omega (arith, arity-variable g l few h)) in
@@ -56,7 +48,7 @@ module _ (g : Signature) where
         past : (ls : List ℕ) (d : List ℕ) {x : List ℕ} → variable ≤ l → Whole g x → stretches g (l ∷ ls) (x ++ d) q a ≡ stretches g ls d (q + length x) (note l q (length x) a)
         past ls d {x} h f =
             let n : takes g l (x ++ d) ≡ length x = takes-variable g l (x ++ d) (whole-some d f) h ∙ span-forest g (Symbol g) d f in
-            cons-next l ls (x ++ d) q a (length x) n (rw (append-nil x) at (whole-some [] f)) ∙ rw (drop-append-seam x d)
+            cons-next g l ls (x ++ d) q a (length x) n (rw (append-nil x) at (whole-some [] f)) ∙ rw (drop-append-seam x d)
 
   -- ---- behind the first word
 
@@ -84,11 +76,8 @@ module _ (g : Signature) where
   behind-words (l ∷ ls) ws q a a′ h b e = go (takes g l ws) refl (λ n. behind-words ls (drop n ws) (q + n) (note l q n a) a′ (omega arith) (behind-note l q n a h b))
     where
       go : (n : ℕ) → takes g l ws ≡ n → ((n : ℕ) → stretches g ls (drop n ws) (q + n) (note l q n a) ≡ some a′ → Behind (a′ .starts) (a′ .lengths)) → Behind (a′ .starts) (a′ .lengths)
-      go zero t ih = absurd (let z : _≡_ {A = ℕ} 0 1 = cc (cons-stop l ls ws q a t) in omega arith)
-      go (suc n) t ih = ih (suc n) (sym (cons-next l ls ws q a (suc n) t (omega arith)) ∙ e)
-
-  zero-at : (n v : ℕ) → _≡_ {A = ℕ} (getD (replicate n 0) v 0) 0
-  zero-at n v = elim (decLt v n) [ yes h ↦ getD-replicate n v 0 0 h | no h ↦ List·getD-eq-default (replicate n 0) 0 {n = v} (rw (length-replicate {A = ℕ} n 0) (omega arith)) ]
+      go zero t ih = absurd (let z : _≡_ {A = ℕ} 0 1 = cc (cons-stop g l ls ws q a t) in omega arith)
+      go (suc n) t ih = ih (suc n) (sym (cons-next g l ls ws q a (suc n) t (omega arith)) ∙ e)
 
   behind-none : Behind (unset .starts) (unset .lengths)
   unfolding unset
@@ -100,10 +89,10 @@ module _ (g : Signature) where
   behind-left few (l ∷ ls) ws a h e = go (takes g l ws) refl
     where
       go : (n : ℕ) → takes g l ws ≡ n → Behind (a .starts) (a .lengths)
-      go zero t = absurd (let z : _≡_ {A = ℕ} 0 1 = cc (cons-stop l ls ws 0 unset t) in omega arith)
+      go zero t = absurd (let z : _≡_ {A = ℕ} 0 1 = cc (cons-stop g l ls ws 0 unset t) in omega arith)
       go (suc n) t =
           behind-words ls (drop (suc n) ws) (0 + suc n) unset a (omega arith) behind-none
-          (ap (stretches g ls (drop (suc n) ws) (0 + suc n)) (sym (note-symbol l 0 (suc n) unset (symbol-below g l few h))) ∙ sym (cons-next l ls ws 0 unset (suc n) t (omega arith)) ∙ e)
+          (ap (stretches g ls (drop (suc n) ws) (0 + suc n)) (sym (note-symbol l 0 (suc n) unset (symbol-below g l few h))) ∙ sym (cons-next g l ls ws 0 unset (suc n) t (omega arith)) ∙ e)
 
   -- ---- the search
 

@@ -64,11 +64,11 @@ note-variable l q n a h = rw (le-ltb l variable h)
 -- ---- a word of a left side
 
 module _ (g : Signature) where
-  cons-stop : (l : ℕ) (ls ws : List ℕ) (q : ℕ) (a : Stretches) → takes g l ws ≡ 0 → stretches g (l ∷ ls) ws q a ≡ none
+  pub cons-stop : (l : ℕ) (ls ws : List ℕ) (q : ℕ) (a : Stretches) → takes g l ws ≡ 0 → stretches g (l ∷ ls) ws q a ≡ none
   unfolding stretches
   cons-stop l ls ws q a e = rw (e, stretches)
 
-  cons-next : (l : ℕ) (ls ws : List ℕ) (q : ℕ) (a : Stretches) (n : ℕ) → takes g l ws ≡ n → 0 < n → stretches g (l ∷ ls) ws q a ≡ stretches g ls (drop n ws) (q + n) (note l q n a)
+  pub cons-next : (l : ℕ) (ls ws : List ℕ) (q : ℕ) (a : Stretches) (n : ℕ) → takes g l ws ≡ n → 0 < n → stretches g (l ∷ ls) ws q a ≡ stretches g ls (drop n ws) (q + n) (note l q n a)
   unfolding stretches
   cons-next l ls ws q a zero e h = absurd (omega arith)
   cons-next l ls ws q a (suc n) e h = rw (e, stretches)

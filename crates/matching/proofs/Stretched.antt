@@ -27,7 +27,7 @@ use Rattle.matching.proofs.Words.{match-end, match-symbol, match-differ
 use Rattle.matching.proofs.MatchSteps.{takes-end, takes-variable, takes-differ, takes-same, note-symbol, note-variable, words-end, words-stop, words-next, from-nil, from-here, from-next}
 
 -- a list of zeros
-zero-at : (n v : ℕ) → _≡_ {A = ℕ} (getD (replicate n 0) v 0) 0
+pub zero-at : (n v : ℕ) → _≡_ {A = ℕ} (getD (replicate n 0) v 0) 0
 zero-at n v = elim (decLt v n) [ yes h ↦ getD-replicate n v 0 0 h | no h ↦ List·getD-eq-default (replicate n 0) 0 {n = v} (rw (length-replicate {A = ℕ} n 0) (omega arith)) ]
 
 module _ (t : List ℕ) where
