@@ -17,7 +17,7 @@ use Rattle.evaluation.specs.declared.machine.Turn.{Turn}
 use Rattle.evaluation.specs.declared.machine.Turn.the-variants.{Passed, Tried, Opened, Left, TooDeep}
 use Rattle.evaluation.specs.declared.machine.Stop.the-variants.{Finished, Deep, Ready}
 use Rattle.evaluation.specs.Machine.{strategyAt, position, Opened as Below, Next, finished, deep, ready, advance}
-use Rattle.evaluation.specs.Area.{area, termIn, outerIn, countIn, Going, Holds}
+use Rattle.evaluation.specs.Area.{area, termIn, outerIn, countIn, Going, Stored, Holds}
 use Rattle.evaluation.specs.Turn.{Turned, turn, Taken, sinceAt}
 use Rattle.evaluation.specs.Arrival.{Arrived}
 use Rattle.evaluation.proofs.Laws.{entry-at}
@@ -230,11 +230,10 @@ module _ (b : List ℕ) (sh : Shape) (acc : Accepted b sh) (ws₀ : List ℕ) (n
       go : {o : Turned} → Entered s t outer f c o → Taken s t n ws positions o r ws′ positions′ →
           Arrived s (termIn ws₀ n) n (comes s ws₀ n start) (record { stop = Deep; level = level; found = m }) ws′ positions′
       go (deeper i q w l) x =
-          let bs = bounds b sh acc ws positions n level (v .state) in
           let g = going .room in
           let y : comes s ws₀ n start ≡ deep = sym (v .same) ∙ advance-too-deep s t 64 0 outer c (going .room) q i w (omega arith) in
           subst (λ y. Arrived s (termIn ws₀ n) n y (record { stop = Deep; level = level; found = m }) ws′ positions′) (sym y)
-          (refl, ap length (x .1) ∙ bs .total)
+          (refl, subst (λ z. Stored s z n level) (sym (x .1)) (v .state .stored))
       go (over q) x = absurd (let z : _≡_ {A = ℕ} 0 1 = cc (x .0) in omega arith)
       go (repeated q w) x = absurd (let z : _≡_ {A = ℕ} 0 1 = cc (x .0) in omega arith)
       go (trying q w) x = absurd (let z : _≡_ {A = ℕ} 0 1 = cc (x .0) in omega arith)

@@ -2,12 +2,12 @@
 use Prim.Native.Nat.{ℕ, zero, suc, _+_, _≤_, _<_}
 use native.Mathlib.Omega.{arith}
 use mathlib.Core.Path.{_≡_, refl, sym, ap, _∙_}
-use mathlib.Core.List.{List, _++_}
+use mathlib.Core.List.{List, [], _++_}
 use lib.ListN.{length, take, drop, length-append, length-drop}
-use lib.Seq.{take-append-le, drop-at, sets-eq}
+use lib.Seq.{take-at, drop-at, sets-eq}
 use borrow.Author.Tests.{le-leb, lt-leb}
-use Rattle.buffers.specs.Words.{over, zeros}
-use Rattle.buffers.proofs.Pads.{length-zeros}
+use Rattle.buffers.specs.Words.{over, zeros, pad}
+use Rattle.buffers.proofs.Pads.{length-zeros, take-pad}
 use Rattle.system.specs.declared.Shape.{Shape}
 use Rattle.system.specs.Terms.{Whole, WellFormed}
 use Rattle.system.specs.Reader.{read, ok}
@@ -17,7 +17,7 @@ use Rattle.system.proofs.Answering.{checked}
 use Rattle.system.proofs.TermChecks.{fault-whole}
 use Rattle.matching.specs.Accepted.{systemOf, Accepted}
 use Rattle.evaluation.specs.declared.run.Ended.{Ended}
-use Rattle.evaluation.specs.Evaluation.{Outcome, settled, stopped, evaluation}
+use Rattle.evaluation.specs.Evaluation.{Run, Outcome, settled, stopped, evaluation}
 use Rattle.evaluation.specs.Ended.{Ends}
 use Rattle.evaluation.specs.Expansion.{ended, expansion}
 use Rattle.evaluation.proofs.Done.{theorem-done, steps-last}
@@ -83,15 +83,27 @@ size-bounded book term limit c e ws = go (evaluation (systemOf book) limit term)
         omega (arith, steps-last (systemOf book) (d .path))
     go (stopped n k) q h = let z = ap (λ y. y .size) (h .0) in omega arith
 
+-- the words that are handed back stand at the area's front, whatever comes after it
+ends-words : (r : Run) (e : Ended) (ws rest : List ℕ) → Ends (settled r) e ws → take (e .size) (ws ++ rest) ≡ r .term
+ends-words r e ws rest h = (λ i. take (h .0 i .size) (h .1 i ++ rest)) ∙ take-pad 8192 (r .term) rest (length (r .term)) refl
+
+-- and only zeros behind them
+ends-front : (o : Outcome) (e : Ended) (ws rest : List ℕ) → Ends o e ws → ws ≡ pad 8192 (take (e .size) (ws ++ rest))
+ends-front (settled r) e ws rest h = h .1 ∙ ap (pad 8192) (sym (ends-words r e ws rest h))
+ends-front (stopped n k) e ws rest h = h .1 ∙ pad-empty ∙ ap (λ y. pad 8192 (take (y .size) (ws ++ rest))) (sym (h .0))
+  where
+    pad-empty : zeros 8192 ≡ pad 8192 []
+    pad-empty = unfold pad in refl
+
 -- the area is lent as the first words of the work buffer; what stands behind it is as it was
-module _ (out work ws : List ℕ) (room : 8192 ≤ length work) (size : length ws ≡ 8192) where
+module _ (work ws : List ℕ) (room : 8192 ≤ length work) (size : length ws ≡ 8192) where
   pub whole-length : length (ws ++ drop 8192 work) ≡ length work
   whole-length = rw (length-append, length-drop, size) (omega arith)
 
-  pub front : (n : ℕ) → n ≤ 8192 → take n (ws ++ drop 8192 work) ≡ take n ws
-  front n h = take-append-le n ws (drop 8192 work) (omega arith)
+  pub whole-front : (o : Outcome) (e : Ended) → Ends o e ws → take 8192 (ws ++ drop 8192 work) ≡ pad 8192 (take (e .size) (ws ++ drop 8192 work))
+  whole-front o e h = take-at ws (drop 8192 work) 8192 size ∙ ends-front o e ws (drop 8192 work) h
 
-  pub zeroed : over (ws ++ drop 8192 work) 0 (zeros 8192) ≡ over work 0 (zeros 8192)
+  zeroed : over (ws ++ drop 8192 work) 0 (zeros 8192) ≡ over work 0 (zeros 8192)
   zeroed =
       let n = length-zeros 8192 in
       let k : 0 + length (zeros 8192) ≡ 8192 = omega arith in
@@ -99,18 +111,18 @@ module _ (out work ws : List ℕ) (room : 8192 ≤ length work) (size : length w
       ∙ rw (k, drop-at ws (drop 8192 work) 8192 size)
       (sym (sets-eq (zeros 8192) work 0 (omega arith) ∙ rw k))
 
--- the end: the numbers, the answer buffer and the work buffer
-pub finishes : (o : Outcome) (e : Ended) (out work ws : List ℕ) → 8192 ≤ length work → length ws ≡ 8192 → e .size ≤ 8192 → Ends o e ws →
-    (record { number = e .number; place = e .size; steps = e .steps } ≡ ended out work o .numbers) ×
-    (over out 0 (take (e .size) (ws ++ drop 8192 work)) ≡ ended out work o .answer) ×
-    (over (ws ++ drop 8192 work) 0 (zeros 8192) ≡ ended out work o .work)
-finishes (settled r) e out work ws room size small h = (
-  rw (h .0),
-  ap (over out 0) (front out work ws room size (e .size) small ∙ ap (λ y. take (y .size) ws) (h .0) ∙ h .2),
-  zeroed out work ws room size,
-)
-finishes (stopped n k) e out work ws room size small h = (
-  rw (h .0),
-  ap (λ y. over out 0 (take (y .size) (ws ++ drop 8192 work))) (h .0),
-  zeroed out work ws room size,
-)
+  -- the end: the numbers, the answer buffer and the work buffer
+  pub finishes : (o : Outcome) (e : Ended) (out : List ℕ) → Ends o e ws →
+      (record { number = e .number; place = e .size; steps = e .steps } ≡ ended out work o .numbers) ×
+      (over out 0 (take (e .size) (ws ++ drop 8192 work)) ≡ ended out work o .answer) ×
+      (over (ws ++ drop 8192 work) 0 (zeros 8192) ≡ ended out work o .work)
+  finishes (settled r) e out h = (
+    rw (h .0),
+    ap (over out 0) (ends-words r e ws (drop 8192 work) h),
+    zeroed,
+  )
+  finishes (stopped n k) e out h = (
+    rw (h .0),
+    ap (λ y. over out 0 (take (y .size) (ws ++ drop 8192 work))) (h .0),
+    zeroed,
+  )

@@ -27,6 +27,7 @@ pub mod Replacing
 pub mod Rewrites
 -- A run, and the evaluator
 pub mod Starts
+pub mod Cleared
 pub mod Runs
 pub mod Expanding
 -- Demand 3 of the evaluator's answers, and the starred cases

@@ -7,7 +7,7 @@ use mathlib.Core.Option.{some}
 use mathlib.Core.List.{List, [], _∷_, _++_}
 use lib.ListN.{length, getD, take, drop}
 use lib.Seq.{take-all}
-use Rattle.buffers.specs.Words.{zeros, over}
+use Rattle.buffers.specs.Words.{zeros, pad}
 use Rattle.system.specs.Signature.{replace}
 use Rattle.system.specs.System.{System}
 use Rattle.system.specs.Terms.{Whole, WellFormed}
@@ -18,9 +18,9 @@ use Rattle.matching.specs.Stretches.{matchOf}
 use Rattle.evaluation.specs.declared.machine.Advanced.{Advanced}
 use Rattle.evaluation.specs.declared.run.Ended.{Ended}
 use Rattle.evaluation.specs.declared.machine.Stop.the-variants.{Finished, Deep, Ready}
-use Rattle.evaluation.specs.Evaluation.{Run, Outcome, rewrite, evaluation}
+use Rattle.evaluation.specs.Evaluation.{Run, Outcome, stopped, rewrite, evaluation}
 use Rattle.evaluation.specs.Machine.{position, Opened, base, down, resume, Next, finished, deep, ready, advance}
-use Rattle.evaluation.specs.Area.{area, termIn, outerIn, countIn, Going, Positioned, Stored, Holds}
+use Rattle.evaluation.specs.Area.{area, termIn, outerIn, countIn, Laid, Going, Positioned, Stored, Holds}
 use Rattle.evaluation.specs.Arrival.{Arrived}
 use Rattle.evaluation.specs.Rewritten.{Rewritten, done, long}
 use Rattle.evaluation.specs.Ended.{Ends}
@@ -28,12 +28,12 @@ use Rattle.evaluation.proofs.Walks.{rewrite-spent, rewrite-long, rewrit
 use Rattle.evaluation.proofs.Laws.{position-le, resume-evaluation}
 use Rattle.evaluation.proofs.Iterate.{Reached, reached}
 use Rattle.evaluation.proofs.Goings.{opened-replace, going-start, going-within, going-fire}
-use Rattle.evaluation.proofs.Areas.{area-length, area-term, held-term, held-outer, held-count, held-length, holds}
-use Rattle.evaluation.proofs.Starts.{fresh-area}
+use Rattle.evaluation.proofs.Areas.{held-term, held-outer, held-count, held-length, holds, area-pushed}
+use Rattle.evaluation.proofs.Starts.{area-bare}
 
--- an outcome that was put together by a function
-pub ends-as : (o : Outcome) (e e′ : Ended) (ws : List ℕ) → e′ ≡ e → Ends o e ws → Ends o e′ ws
-ends-as o e e′ ws q h = subst (λ y. Ends o y ws) (sym q) h
+-- a run that was stopped, its area cleared
+pub ends-stopped : (o : Outcome) (n k : ℕ) (e : Ended) (ws : List ℕ) → o ≡ stopped n k → e ≡ record { number = n; size = 0; steps = k } → ws ≡ zeros 8192 → Ends o e ws
+ends-stopped o n k e ws q h w = rw q (h, w)
 
 -- ---- the levels around one of the open levels
 
@@ -88,13 +88,21 @@ stored-length s ws n level h =
     let g = h .going in
     held-length ws (termIn ws n) (outerIn ws level) (countIn ws level) n level (h .equal) (g .bounded) (h .words) (h .levels) (let z = g .room in let z′ = h .levels in omega arith)
 
+-- what a stop has to clear
+stored-laid : (s : System) (ws : List ℕ) (n level : ℕ) → Stored s ws n level → Laid ws n level
+stored-laid s ws n level h =
+    let g = h .going in
+    let b = g .bounded in
+    let r = g .room in
+    record { bounded = omega (arith, h .words); room = omega (arith, h .levels); total = stored-length s ws n level h; equal = h .equal }
+
 -- the start
-pub running-start : (s : System) (limit : ℕ) (t₀ ws positions : List ℕ) → Whole (s .arities) t₀ → length t₀ ≤ 4096 → length ws ≡ 8192 → length positions ≡ 64 → getD positions 0 0 ≡ 0 →
-    Running s limit t₀ (over (over ws 0 (zeros 8192)) 0 t₀) positions (length t₀) 0 0
+pub running-start : (s : System) (limit : ℕ) (t₀ ws positions : List ℕ) → Whole (s .arities) t₀ → length t₀ ≤ 4096 → ws ≡ pad 8192 t₀ → length positions ≡ 64 → getD positions 0 0 ≡ 0 →
+    Running s limit t₀ ws positions (length t₀) 0 0
 unfolding position
-running-start s limit t₀ ws positions h b l slots z =
-    running-area s limit t₀ t₀ [] 0 (length t₀) 0 0 _ positions (going-start s t₀ h b)
-    refl refl (fresh-area ws t₀ l b) slots (λ k m. first k m) (omega arith) (resume-evaluation s limit t₀)
+running-start s limit t₀ ws positions h b e slots z =
+    running-area s limit t₀ t₀ [] 0 (length t₀) 0 0 ws positions (going-start s t₀ h b)
+    refl refl (e ∙ sym (area-bare t₀ b) ∙ area-pushed t₀ [] (omega arith)) slots (λ k m. first k m) (omega arith) (resume-evaluation s limit t₀)
   where
     first : (k : ℕ) → k ≤ 0 → getD positions k 0 ≡ position s t₀ (take k []) 0
     first zero m = z
@@ -118,20 +126,21 @@ module _ (s : System) (wf : WellFormed s) (limit : ℕ) (t₀ ws positions : Lis
     bounded : length (termIn ws n) ≤ 4096
     bounded = v .holds .stored .going .bounded
 
-    pub ends-finished : Came (advance s 64 state (termIn ws n) 0) → a .stop ≡ Finished → Ends (evaluation s limit t₀) (record { number = 0; size = n; steps = steps }) ws′
-    ends-finished h e = go (advance s 64 state (termIn ws n) 0) h (reached s wf limit r 64 state 0)
+    pub ends-finished : Came (advance s 64 state (termIn ws n) 0) → a .stop ≡ Finished → (o : Ended) → o ≡ record { number = 0; size = n; steps = steps } →
+        Ends (evaluation s limit t₀) o ws′
+    ends-finished h e o q = go (advance s 64 state (termIn ws n) 0) h (reached s wf limit r 64 state 0)
       where
-        go : (x : Next) → Came x → Reached s wf limit r 64 state 0 x → Ends (evaluation s limit t₀) (record { number = 0; size = n; steps = steps }) ws′
-        go finished h k = rw (← v .same, k) ((λ i. record { number = 0; size = sym words i; steps = steps }), rw (h .1) (area-length (termIn ws n) [] bounded (omega arith)), rw (h .1) (area-term (termIn ws n) [] bounded (length (termIn ws n)) refl))
+        go : (x : Next) → Came x → Reached s wf limit r 64 state 0 x → Ends (evaluation s limit t₀) o ws′
+        go finished h k = rw (← v .same, k) (q ∙ (λ i. record { number = 0; size = sym words i; steps = steps }), h .1 ∙ area-bare (termIn ws n) bounded)
         go deep h k = absurd (let z : _≡_ {A = ℕ} 0 1 = cc in omega arith)
         go (ready outer c x) h k = absurd (let z : _≡_ {A = ℕ} 0 1 = cc in omega arith)
 
-    pub ends-deep : Came (advance s 64 state (termIn ws n) 0) → a .stop ≡ Deep → Ends (evaluation s limit t₀) (record { number = 13; size = 0; steps = steps }) ws′
-    ends-deep h e = go (advance s 64 state (termIn ws n) 0) h (reached s wf limit r 64 state 0)
+    pub stops-deep : Came (advance s 64 state (termIn ws n) 0) → a .stop ≡ Deep → (evaluation s limit t₀ ≡ stopped 13 steps) × Laid ws′ n (a .level)
+    stops-deep h e = go (advance s 64 state (termIn ws n) 0) h (reached s wf limit r 64 state 0)
       where
-        go : (x : Next) → Came x → Reached s wf limit r 64 state 0 x → Ends (evaluation s limit t₀) (record { number = 13; size = 0; steps = steps }) ws′
+        go : (x : Next) → Came x → Reached s wf limit r 64 state 0 x → (evaluation s limit t₀ ≡ stopped 13 steps) × Laid ws′ n (a .level)
         go finished h k = absurd (let z : _≡_ {A = ℕ} 0 1 = cc in omega arith)
-        go deep h k = rw (← v .same, k) (refl, h .1)
+        go deep h k = (sym (v .same) ∙ k, stored-laid s ws′ n (a .level) (h .1))
         go (ready outer c x) h k = absurd (let z : _≡_ {A = ℕ} 0 1 = cc in omega arith)
 
     pub comes-before : Came (advance s 64 state (termIn ws n) 0) → a .stop ≡ Ready → Before s limit t₀ ws′ positions′ n (a .level) steps (a .found)
@@ -172,8 +181,11 @@ module _ (s : System) (wf : WellFormed s) (limit : ℕ) (t₀ ws positions : Lis
         let l : length outer ≡ level = b .holds .stored .levels in
         b .holds .positioned level (omega arith) ∙ ap (λ y. position s t y 0) (take-all level outer (omega arith))
 
-    pub ends-spent : limit ≤ steps → Ends (evaluation s limit t₀) (record { number = 11; size = 0; steps = steps }) ws
-    ends-spent l = rw (← b .same, rewrite-spent s limit (position s t outer 0) r (b .x) l (λ r′. resume s limit 64 (outer ++ 0 ∷ []) 0 r′)) (refl, stored-length s ws n level (b .holds .stored))
+    pub before-laid : Laid ws n level
+    before-laid = stored-laid s ws n level (b .holds .stored)
+
+    pub stops-spent : limit ≤ steps → evaluation s limit t₀ ≡ stopped 11 steps
+    stops-spent l = sym (b .same) ∙ rewrite-spent s limit (position s t outer 0) r (b .x) l (λ r′. resume s limit 64 (outer ++ 0 ∷ []) 0 r′)
 
     -- ---- after `rewrite`, at p
     module _ (l : steps < limit) (p : ℕ) (ep : p ≡ position s t outer 0) (k : ℕ) (ws′ : List ℕ) where
@@ -187,14 +199,16 @@ module _ (s : System) (wf : WellFormed s) (limit : ℕ) (t₀ ws positions : Lis
       stepped h = rw ep (going-fire s wf t outer (countIn ws level) g (b .x) (b .matched) (rw (← ep) h))
 
       -- a term has words
-      pub not-none : Rewritten s ws n level p (b .x) k ws′ → k ≡ 0 → 4096 < length after
-      not-none (long h e f) z = h
+      not-none : Rewritten s ws n level p (b .x) k ws′ → k ≡ 0 → (4096 < length after) × (ws′ ≡ ws)
+      not-none (long h e f) z = (h, f)
       not-none (done h e f) z = absurd (let y = forest-some (stepped h .whole) in omega arith)
 
-      pub ends-long : Rewritten s ws n level p (b .x) k ws′ → length ws′ ≡ length ws → k ≡ 0 → Ends (evaluation s limit t₀) (record { number = 12; size = 0; steps = steps }) ws′
-      ends-long h same z =
-          rw (← b .same, rewrite-long s limit (position s t outer 0) r (b .x) l (rw (← ep) (not-none h z)) (λ r′. resume s limit 64 (outer ++ 0 ∷ []) 0 r′))
-          (refl, same ∙ stored-length s ws n level (b .holds .stored))
+      pub stops-long : Rewritten s ws n level p (b .x) k ws′ → k ≡ 0 → (evaluation s limit t₀ ≡ stopped 12 steps) × Laid ws′ n level
+      stops-long h z =
+          let w = not-none h z in (
+            sym (b .same) ∙ rewrite-long s limit (position s t outer 0) r (b .x) l (rw (← ep) (w .0)) (λ r′. resume s limit 64 (outer ++ 0 ∷ []) 0 r′),
+            subst (λ y. Laid y n level) (sym (w .1)) before-laid,
+          )
 
       pub goes-on : Rewritten s ws n level p (b .x) k ws′ → (k ≡ 0 → ⊥) → Running s limit t₀ ws′ positions k level (steps + 1)
       goes-on (long h e f) z = absurd (z e)

@@ -1,33 +1,30 @@
--- An area made anew: a term written over zeros.
-use Prim.Native.Nat.{ℕ, _+_, _≤_, _<_}
+-- An area made anew: a term, and zeros behind it.
+use Prim.Native.Nat.{ℕ, _+_, _-_, _≤_}
 use native.Mathlib.Omega.{arith}
-use native.Mathlib.Nat.{sub-zero}
-use mathlib.Core.Path.{_≡_, _∙_}
-use mathlib.Core.List.{List, [], _∷_, append-nil}
+use mathlib.Core.Path.{_≡_, sym, ap, _∙_}
+use mathlib.Core.List.{List, [], append-nil, append-assoc}
 use lib.ListN.{length, drop, drop-of-length-le}
 use lib.Seq.{sets-eq}
 use Rattle.buffers.specs.Words.{pad, zeros, over}
-use Rattle.buffers.proofs.Over.{over-left}
-use Rattle.buffers.proofs.Pads.{length-zeros, zeros-append, drop-zeros, pad-zero}
+use Rattle.buffers.proofs.Over.{over-append}
+use Rattle.buffers.proofs.Pads.{length-pad, zeros-append}
 use Rattle.evaluation.specs.Area.{area}
 
-pub all-zeros : (ws : List ℕ) (n : ℕ) → length ws ≡ n → over ws 0 (zeros n) ≡ zeros n
-all-zeros ws n e =
-    let z = length-zeros n in
-    let d : drop (0 + length (zeros n)) ws ≡ [] = drop-of-length-le ws {i = 0 + length (zeros n)} (omega arith) in
-    sets-eq (zeros n) ws 0 (omega arith) ∙ rw d (append-nil (zeros n))
+pub over-all : (ws xs : List ℕ) → length ws ≡ length xs → over ws 0 xs ≡ xs
+over-all ws xs e =
+    let d : drop (0 + length xs) ws ≡ [] = drop-of-length-le ws {i = 0 + length xs} (omega arith) in
+    sets-eq xs ws 0 (omega arith) ∙ rw d (append-nil xs)
 
-pub over-zeros : (n : ℕ) (t : List ℕ) → length t ≤ n → over (zeros n) 0 t ≡ pad n t
+-- a term is written, and then what is left
+pub filled-up : (ws t : List ℕ) (n : ℕ) → length ws ≡ n → length t ≤ n → over (over ws 0 t) (length t) (zeros (n - length t)) ≡ pad n t
 unfolding pad
-over-zeros n t h =
-    let k : 0 + length t ≡ length t = omega arith in
-    sets-eq t (zeros n) 0 (omega (arith, length-zeros n)) ∙ rw (k, drop-zeros (length t) n)
+filled-up ws t n e h =
+    let k : length t ≡ 0 + length t = omega arith in
+    ap (λ y. over (over ws 0 t) y (zeros (n - length t))) k ∙ sym (over-append ws 0 t (zeros (n - length t))) ∙ over-all ws (pad n t) (omega (arith, length-pad n t h))
 
-pub pad-none : (n : ℕ) → 0 < n → pad n (0 ∷ []) ≡ zeros n
-pad-none n h = pad-zero n [] h ∙ (unfold pad in rw (sub-zero n))
-
--- one level is open, with no entry begun
-pub fresh-area : (ws t : List ℕ) → length ws ≡ 8192 → length t ≤ 4096 → over (over ws 0 (zeros 8192)) 0 t ≡ area t (0 ∷ [])
-unfolding area
-fresh-area ws t e h =
-    rw (all-zeros ws 8192 e, ← zeros-append 4096 4096, over-left (zeros 4096) (zeros 4096) 0 t (omega (arith, length-zeros 4096)), over-zeros 4096 t h, pad-none 4096 (omega arith))
+-- a term with no counts
+pub area-bare : (t : List ℕ) → length t ≤ 4096 → area t [] ≡ pad 8192 t
+unfolding area pad
+area-bare t h =
+    let k : 4096 - length t + 4096 ≡ 8192 - length t = omega arith in
+    rw (append-assoc, zeros-append (4096 - length t) 4096, k)

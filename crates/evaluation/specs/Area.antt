@@ -22,6 +22,13 @@ outerIn ws level = take level (drop 4096 ws)
 abbrev pub countIn : List ℕ → ℕ → ℕ
 countIn ws level = getD ws (4096 + level) 0
 
+-- an area that holds nothing but a term of n words and the counts of level + 1 levels: zeros stand behind each
+pub record Laid (ws : List ℕ) (n level : ℕ) : Type 0 where
+  pub bounded : n ≤ 4096
+  pub room : level < 64
+  pub total : length ws ≡ 8192
+  pub equal : ws ≡ area (termIn ws n) (outerIn ws level ++ countIn ws level ∷ [])
+
 -- a state that the machine may be in, the levels `outer` around the innermost one, of which c entries are begun:
 -- never more than 4,096 words in the term, never more than 64 levels
 pub record Going (s : System) (t outer : List ℕ) (c : ℕ) : Type 0 where

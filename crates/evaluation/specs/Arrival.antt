@@ -10,12 +10,13 @@ use Rattle.matching.specs.Stretches.{matchOf}
 use Rattle.evaluation.specs.declared.machine.Advanced.{Advanced}
 use Rattle.evaluation.specs.declared.machine.Stop.the-variants.{Finished, Deep, Ready}
 use Rattle.evaluation.specs.Machine.{Next, finished, deep, ready, position}
-use Rattle.evaluation.specs.Area.{area, Holds}
+use Rattle.evaluation.specs.Area.{area, Stored, Holds}
 
--- at the end the counts are gone; where a rewrite is next the area holds the state just before it, its 0 counted as begun
+-- at the end the counts are gone; where it would be too deep the area holds the state as it stands; where a rewrite is next it holds the
+-- state just before it, its 0 counted as begun
 abbrev pub Arrived : System → List ℕ → ℕ → Next → Advanced → List ℕ → List ℕ → Type 0
 Arrived s t n finished r ws positions = (r .stop ≡ Finished) × (ws ≡ area t [])
-Arrived s t n deep r ws positions = (r .stop ≡ Deep) × (length ws ≡ 8192)
+Arrived s t n deep r ws positions = (r .stop ≡ Deep) × Stored s ws n (r .level)
 Arrived s t n (ready outer c x) r ws positions =
     (r .stop ≡ Ready) ×
     (r .level ≡ length outer) ×

@@ -1,11 +1,12 @@
--- How a run in an area ends: the outcome's numbers, and on 0 the term at the area's front.
+-- How a run in an area ends: the outcome's numbers; on 0 the term at the area's front and zeros behind it, and where it was stopped only zeros.
 use Prim.Native.Nat.{ℕ}
 use mathlib.Core.Path.{_≡_}
 use mathlib.Core.List.{List}
-use lib.ListN.{length, take}
+use lib.ListN.{length}
+use Rattle.buffers.specs.Words.{zeros, pad}
 use Rattle.evaluation.specs.declared.run.Ended.{Ended}
 use Rattle.evaluation.specs.Evaluation.{Outcome, settled, stopped}
 
 abbrev pub Ends : Outcome → Ended → List ℕ → Type 0
-Ends (settled r) e ws = (e ≡ record { number = 0; size = length (r .term); steps = r .steps }) × (length ws ≡ 8192) × (take (length (r .term)) ws ≡ r .term)
-Ends (stopped n k) e ws = (e ≡ record { number = n; size = 0; steps = k }) × (length ws ≡ 8192)
+Ends (settled r) e ws = (e ≡ record { number = 0; size = length (r .term); steps = r .steps }) × (ws ≡ pad 8192 (r .term))
+Ends (stopped n k) e ws = (e ≡ record { number = n; size = 0; steps = k }) × (ws ≡ zeros 8192)

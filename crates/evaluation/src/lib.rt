@@ -2,7 +2,7 @@
 ghost use mathlib.Core.Path.{_≡_};
 ghost use Prim.Native.Nat.{_≤_};
 ghost use lib.ListN.{length, take};
-ghost use Rattle.buffers.specs.Words.{over, zeros};
+ghost use Rattle.buffers.specs.Words.{over, zeros, pad};
 ghost use Rattle.evaluation.specs.Expansion.{expansion};
 
 pub mod demands;
@@ -40,16 +40,16 @@ pub fn expand(book: &[u16], term: &[u16], limit: u32, out: &mut [u16], work: &mu
     finish(out, work, e)
 }
 
-// Hands the first words of the area to the caller, none where the run was stopped, and clears the area.
+// Hands the first words of the area to the caller, none where the run was stopped, and clears them; all other words of it are zero already.
 fn finish(out: &mut [u16], work: &mut [u16], e: Ended) -> Answer
-    requires { ⌜ (8192 ≤ length (now work)) × (e .size ≤ 4096) × (4096 ≤ length (now out)) ⌝ }
+    requires { ⌜ (8192 ≤ length (now work)) × (e .size ≤ 4096) × (4096 ≤ length (now out)) × (take 8192 (now work) ≡ pad 8192 (take (e .size) (now work))) ⌝ }
     ensures numbers { λ r. ⌜ r ≡ record { number = e .number; place = e .size; steps = e .steps } ⌝ }
     ensures answer { λ _. ⌜ now (out .exit) ≡ over (now (out .entry)) 0 (take (e .size) (now (work .entry))) ⌝ }
     ensures zeroed { λ _. ⌜ now (work .exit) ≡ over (now (work .entry)) 0 (zeros 8192) ⌝ }
 {
     let n = e.size;
     buffers::copy_in(out, 0, &work[0..n]);
-    buffers::clear(work, 0, 8192);
+    buffers::clear(work, 0, n);
     Answer {
         number: e.number,
         place: n,

@@ -2,9 +2,11 @@
 ghost use mathlib.Core.Path.{_≡_};
 ghost use Prim.Native.Nat.{_≤_};
 ghost use lib.ListN.{length};
+ghost use Rattle.buffers.specs.Words.{zeros, pad};
 ghost use Rattle.system.specs.Terms.{Whole};
 ghost use Rattle.matching.specs.Accepted.{systemOf, Accepted};
 ghost use Rattle.evaluation.specs.Evaluation.{evaluation};
+ghost use Rattle.evaluation.specs.Area.{Laid};
 ghost use Rattle.evaluation.specs.Ended.{Ends};
 use crate::index::marks;
 use crate::machine::Stop;
@@ -29,13 +31,31 @@ fn outcome(number: u32, size: usize, steps: u32) -> Ended
     }
 }
 
+// Writes a term and zeros behind it: one level is open, with no entry begun. Each word of the area is written once.
+fn start(area: &mut [u16], term: &[u16])
+    requires { ⌜ (length (now term) ≤ 8192) × (length (now area) ≡ 8192) ⌝ }
+    ensures { λ _. ⌜ now (area .exit) ≡ pad 8192 (now (term .entry)) ⌝ }
+{
+    let n = term.len();
+    buffers::copy_in(area, 0, term);
+    buffers::clear(area, n, 8192 - n);
+}
+
+// Clears the term's words and the counts; all other words are zero already.
+fn clear_state(area: &mut [u16], n: usize, level: usize)
+    requires { ⌜ Laid (now area) n level ⌝ }
+    ensures { λ _. ⌜ now (area .exit) ≡ zeros 8192 ⌝ }
+{
+    buffers::clear(area, 0, n);
+    buffers::clear(area, 4096, level + 1);
+}
+
 // Evaluates a term in an area of 8,192 words.
 pub fn run(book: &[u16], shape: Shape, term: &[u16], limit: u32, area: &mut [u16]) -> Ended
     requires { ⌜ Accepted (now book) shape × Whole (systemOf (now book) .arities) (now term) × (length (now term) ≤ 4096) × (length (now area) ≡ 8192) ⌝ }
     ensures { λ r. ⌜ Ends (evaluation (systemOf (now (book .entry))) limit (now (term .entry))) r (now (area .exit)) ⌝ }
 {
-    buffers::clear(area, 0, 8192);
-    buffers::copy_in(area, 0, term);
+    start(area, term);
     let marks = marks(book, shape);
     let mut positions = [0usize; 64];
     let mut n = term.len();
@@ -49,16 +69,19 @@ pub fn run(book: &[u16], shape: Shape, term: &[u16], limit: u32, area: &mut [u16
                 return outcome(0, n, steps);
             }
             Stop::Deep => {
+                clear_state(area, n, a.level);
                 return outcome(13, 0, steps);
             }
             Stop::Ready => {
                 if limit <= steps {
+                    clear_state(area, n, a.level);
                     return outcome(11, 0, steps);
                 }
                 level = a.level;
                 let m = a.found;
                 let k = rewrite(book, shape, area, n, level, positions[level], m);
                 if k == 0 {
+                    clear_state(area, n, level);
                     return outcome(12, 0, steps);
                 }
                 n = k;

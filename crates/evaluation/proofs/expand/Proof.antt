@@ -1,6 +1,6 @@
 -- `expand` meets its contract.
 use Prim.Native.Nat.{_≤_}
-use Rattle.evaluation.proofs.Expanding.{Checks, checks, checks-accepted, cramped-answer, cramped-work, refuses, evaluates, size-bounded, whole-length, finishes}
+use Rattle.evaluation.proofs.Expanding.{Checks, checks, checks-accepted, cramped-answer, cramped-work, refuses, evaluates, size-bounded, whole-length, whole-front, finishes}
 use Rattle.evaluation.specs.Evaluation.{evaluation}
 use Rattle.matching.specs.Accepted.{systemOf}
 use Rattle.system.specs.Answers.{termAnswer}
@@ -69,7 +69,8 @@ finish-requires : tie.Need-finish-requires
 finish-requires c κs = let a = c .before .before .before .before .before .before .before .before .before .before .before .before .before .before .before .before .args in
     let l = c .before .before .before .before .before .before .before .before .before .before .if2 .left in
     let r = c .before .before .before .before .run in
-    (omega (arith, whole-length (a .out .now) (a .work .now) (r .last .1 .1 .1 .1 .0) l (ran (c .before .before .before .before))), small (c .before .before .before .before), c .before .before .before .before .before .before .before .before .before .before .before .if1 .left)
+    let w = ran (c .before .before .before .before) in
+    (omega (arith, whole-length (a .work .now) (r .last .1 .1 .1 .1 .0) l w), small (c .before .before .before .before), c .before .before .before .before .before .before .before .before .before .before .before .if1 .left, whole-front (a .work .now) (r .last .1 .1 .1 .1 .0) l w (evaluation (systemOf (a .book .now)) (a .limit) (a .term .now)) (r .result) (r .ensures))
 
 same-length : tie.Need-same-length
 same-length c = search needs
@@ -83,7 +84,7 @@ returns-4 c = let a = c .before .before .before .before .before .before .before 
     let r = c .before .before .before .before .before .before .before .before .before .run in
     let l = c .before .before .before .before .before .before .before .before .before .before .before .before .before .before .before .if2 .left in
     let k = evaluates (a .book .now) (a .term .now) (a .limit) (a .out .now) (a .work .now) (c .before .before .before .before .before .before .before .before .before .before .before .before .before .before .before .before .if1 .left) l (good (c .before .before .before .before .before .before .before .before .before .before .before .before)) in
-    let z = finishes (evaluation (systemOf (a .book .now)) (a .limit) (a .term .now)) (r .result) (a .out .now) (a .work .now) (r .last .1 .1 .1 .1 .0) l (ran (c .before .before .before .before .before .before .before .before .before)) (omega (arith, small (c .before .before .before .before .before .before .before .before .before))) (r .ensures) in
+    let z = finishes (a .work .now) (r .last .1 .1 .1 .1 .0) l (ran (c .before .before .before .before .before .before .before .before .before)) (evaluation (systemOf (a .book .now)) (a .limit) (a .term .now)) (r .result) (a .out .now) (r .ensures) in
     rw k (f .ensures .0 ∙ z .0, (f .ensures .1 .0 ∙ z .1, f .ensures .1 .1 ∙ z .2))
 
 pub expand-spec : {M : Type 1} → statement M

@@ -1,0 +1,29 @@
+-- `run::clear_state` meets its contract.
+use Prim.Native.Nat.{_+_}
+use mathlib.Core.Path.{ap, _∙_}
+use borrow.Author.Needs.{needs}
+use Rattle.buffers.specs.Words.{over, zeros}
+use Rattle.evaluation.proofs.Cleared.{laid-cleared}
+use Rattle.evaluation.proofs.run.clear_state.Statement.{statement}
+use Rattle.evaluation.proofs.run.clear_state.Tie as tie
+
+clear-requires : tie.Need-clear-requires
+clear-requires c κs = search needs
+
+add-clear : tie.Need-add-clear
+add-clear c = search needs
+
+clear-requires-2 : tie.Need-clear-requires-2
+clear-requires-2 c κs = search needs
+
+same-length : tie.Need-same-length
+same-length c = search needs
+
+returns : tie.Need-returns
+returns c =
+    let a = c .before .before .before .before .before .before .before .before .before .args in
+    c .before .before .clear2 .ensures ∙ ap (λ ws. over ws 4096 (zeros (a .level + 1))) (c .before .before .before .before .before .before .clear .ensures) ∙ laid-cleared (a .area .now) (a .n) (a .level) (c .before .before .before .before .before .before .before .before .before .pre)
+
+pub clear-state-spec : {M : Type 1} → statement M
+clear-state-spec =
+    tie.close (tie.spec clear-requires add-clear clear-requires-2 same-length returns)
