@@ -13,6 +13,7 @@ use Rattle.matching.specs.declared.Found.the-variants.{Nothing, First}
 use Rattle.matching.specs.Accepted.{systemOf, Accepted}
 use Rattle.matching.specs.Stretches.{matchOf}
 use Rattle.matching.proofs.Reducts.{match-none, match-some}
+use Rattle.evaluation.specs.declared.machine.Advanced.{Advanced}
 use Rattle.evaluation.specs.declared.machine.Turn.{Turn}
 use Rattle.evaluation.specs.declared.machine.Turn.the-variants.{Passed, Tried, Opened, Left, TooDeep}
 use Rattle.evaluation.specs.declared.machine.Stop.the-variants.{Finished, Deep, Ready}
@@ -189,19 +190,19 @@ module _ (b : List ℕ) (sh : Shape) (acc : Accepted b sh) (ws₀ : List ℕ) (n
           (passed-start s t ds d below (sym depth)))
 
     -- the outermost one: the end
-    pub arrives-end : level ≡ 0 → (m : Match) → Arrived s (termIn ws₀ n) n (comes s ws₀ n start) (record { stop = Finished; level = level; found = m }) ws′ positions′
-    arrives-end h m = go enters k
+    pub arrives-end : level ≡ 0 → (a : Advanced) → a .stop ≡ Finished → Arrived s (termIn ws₀ n) n (comes s ws₀ n start) a ws′ positions′
+    arrives-end h a stop = go enters k
       where
         none-around : outer ≡ []
         none-around = ap (λ y. outerIn ws y) h
 
         go : {o : Turned} → Entered s t outer f c o → Taken s t n ws positions o r ws′ positions′ →
-            Arrived s (termIn ws₀ n) n (comes s ws₀ n start) (record { stop = Finished; level = level; found = m }) ws′ positions′
+            Arrived s (termIn ws₀ n) n (comes s ws₀ n start) a ws′ positions′
         go (over q) x =
             let y : comes s ws₀ n start ≡ finished =
             sym (v .same) ∙ advance-pop s t 64 0 outer c (going .room) q ∙ ap (λ y. advance s 64 y t 0) none-around ∙ advance-end s t 64 0 in
-            subst (λ y. Arrived s (termIn ws₀ n) n y (record { stop = Finished; level = level; found = m }) ws′ positions′) (sym y)
-            (refl, x .1 ∙ (λ j. area (v .term j) (none-around j)))
+            subst (λ y. Arrived s (termIn ws₀ n) n y a ws′ positions′) (sym y)
+            (stop, x .1 ∙ (λ j. area (v .term j) (none-around j)))
         go (repeated q w) x = absurd (let z : _≡_ {A = ℕ} 0 1 = cc (x .0) in omega arith)
         go (trying q w) x = absurd (let z : _≡_ {A = ℕ} 0 1 = cc (x .0) in omega arith)
         go (inside i q w l) x = absurd (let z : _≡_ {A = ℕ} 0 1 = cc (x .0) in omega arith)
@@ -224,16 +225,16 @@ module _ (b : List ℕ) (sh : Shape) (acc : Accepted b sh) (ws₀ : List ℕ) (n
       go (deeper i q w l) x = absurd (let z : _≡_ {A = ℕ} 0 1 = cc (x .0) in omega arith)
 
   -- ---- an argument would be opened from level 64
-  pub arrives-deep : r ≡ TooDeep → (m : Match) → Arrived s (termIn ws₀ n) n (comes s ws₀ n start) (record { stop = Deep; level = level; found = m }) ws′ positions′
-  arrives-deep e m = go enters k
+  pub arrives-deep : r ≡ TooDeep → (a : Advanced) → a .stop ≡ Deep → a .level ≡ level → Arrived s (termIn ws₀ n) n (comes s ws₀ n start) a ws′ positions′
+  arrives-deep e a stop here′ = go enters k
     where
       go : {o : Turned} → Entered s t outer f c o → Taken s t n ws positions o r ws′ positions′ →
-          Arrived s (termIn ws₀ n) n (comes s ws₀ n start) (record { stop = Deep; level = level; found = m }) ws′ positions′
+          Arrived s (termIn ws₀ n) n (comes s ws₀ n start) a ws′ positions′
       go (deeper i q w l) x =
           let g = going .room in
           let y : comes s ws₀ n start ≡ deep = sym (v .same) ∙ advance-too-deep s t 64 0 outer c (going .room) q i w (omega arith) in
-          subst (λ y. Arrived s (termIn ws₀ n) n y (record { stop = Deep; level = level; found = m }) ws′ positions′) (sym y)
-          (refl, subst (λ z. Stored s z n level) (sym (x .1)) (v .state .stored))
+          subst (λ y. Arrived s (termIn ws₀ n) n y a ws′ positions′) (sym y)
+          (stop, subst₂ (λ z l. Stored s z n l) (sym (x .1)) (sym here′) (v .state .stored))
       go (over q) x = absurd (let z : _≡_ {A = ℕ} 0 1 = cc (x .0) in omega arith)
       go (repeated q w) x = absurd (let z : _≡_ {A = ℕ} 0 1 = cc (x .0) in omega arith)
       go (trying q w) x = absurd (let z : _≡_ {A = ℕ} 0 1 = cc (x .0) in omega arith)

@@ -133,7 +133,11 @@ pub fn advance(
                         rhs: _,
                         size: _,
                     } => {
-                        return arrived(Stop::Ready, level, m);
+                        return Advanced {
+                            stop: Stop::Ready,
+                            level,
+                            found: m,
+                        };
                     }
                 }
             }
@@ -143,7 +147,7 @@ pub fn advance(
             }
             Turn::Left => {
                 if level == 0 {
-                    return arrived(Stop::Finished, level, nothing());
+                    return stopped(Stop::Finished, level);
                 }
                 level -= 1;
                 if level < floor {
@@ -153,22 +157,22 @@ pub fn advance(
                 continue;
             }
             Turn::TooDeep => {
-                return arrived(Stop::Deep, level, nothing());
+                return stopped(Stop::Deep, level);
             }
         }
     }
 }
 
-fn arrived(stop: Stop, level: usize, found: Match) -> Advanced
-    ensures { λ r. ⌜ r ≡ record { stop = stop; level = level; found = found } ⌝ }
+fn stopped(stop: Stop, level: usize) -> Advanced
+    ensures { λ r. ⌜ (r .stop ≡ stop) × (r .level ≡ level) ⌝ }
 {
-    Advanced { stop, level, found }
-}
-
-fn nothing() -> Match {
-    Match {
-        found: Found::Nothing,
-        starts: [0; 16],
-        lengths: [0; 16],
+    Advanced {
+        stop,
+        level,
+        found: Match {
+            found: Found::Nothing,
+            starts: [0; 16],
+            lengths: [0; 16],
+        },
     }
 }

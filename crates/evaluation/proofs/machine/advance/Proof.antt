@@ -1,14 +1,12 @@
 -- `machine::advance` meets its contract. The loop's invariant: the area holds a state of the same term from which the machine comes to the
 -- same place, and the entries that were followed lead to no rewrite; the measure is the turns that are left.
 use native.Mathlib.Omega.{arith}
-use mathlib.Core.Path.{_≡_, refl, sym, _∙_, subst}
+use mathlib.Core.Path.{_≡_, refl, _∙_}
 use lib.ListN.{length}
 use borrow.Author.Needs.{needs}
 use Rattle.matching.specs.Accepted.{systemOf}
-use Rattle.evaluation.specs.Area.{termIn}
-use Rattle.evaluation.specs.Arrival.{Arrived}
 use Rattle.evaluation.proofs.TurnSteps.{Bounds, bounds}
-use Rattle.evaluation.proofs.AdvanceSteps.{comes, turnsIn, Advancing, advancing-start, goes-passed, goes-left, goes-down, goes-opened, goes-tried, tried-bounds, arrives-end, arrives-deep, arrives-ready}
+use Rattle.evaluation.proofs.AdvanceSteps.{turnsIn, Advancing, advancing-start, goes-passed, goes-left, goes-down, goes-opened, goes-tried, tried-bounds, arrives-end, arrives-deep, arrives-ready}
 use Rattle.evaluation.proofs.machine.advance.Statement.{statement}
 use Rattle.evaluation.proofs.machine.advance.Tie as tie
 
@@ -158,30 +156,26 @@ loop-again-2 c =
 enum-told-4 : tie.Need-enum-told-4 Inv-loop μ-loop
 enum-told-4 c = search needs
 
-arrived-requires : tie.Need-arrived-requires Inv-loop μ-loop
-arrived-requires c κs = search needs
-
 same-length : tie.Need-same-length Inv-loop μ-loop
 same-length c =
-    let l = c .before .before .before .before .before .before .before .before .before .before .before .before .before .before .before .before .before .loop in
-    let k = c .before .before .before .before .before .before .before .before .before .before .before .before .before .take-turn in
+    let l = c .before .before .before .before .before .before .before .before .before .before .before .before .before .before .before .before .loop in
+    let k = c .before .before .before .before .before .before .before .before .before .before .before .before .take-turn in
     k .kept .1 .1 .1 .0 ∙ l .inv .1
 
 same-length-2 : tie.Need-same-length-2 Inv-loop μ-loop
 same-length-2 c =
-    let l = c .before .before .before .before .before .before .before .before .before .before .before .before .before .before .before .before .before .loop in
-    let k = c .before .before .before .before .before .before .before .before .before .before .before .before .before .take-turn in
+    let l = c .before .before .before .before .before .before .before .before .before .before .before .before .before .before .before .before .loop in
+    let k = c .before .before .before .before .before .before .before .before .before .before .before .before .take-turn in
     k .kept .1 .1 .1 .1 .0 ∙ l .inv .2
 
 returns : tie.Need-returns Inv-loop μ-loop
 returns c =
-    let x = c .before .before .before .before .before .before .before .before .before .before .before .before .before .before .before .before .before .before .before .before .before .before .before .before in
+    let x = c .before .before .before .before .before .before .before .before .before .before .before .before .before .before .before .before .before .before .before .before .before .before .before in
     let a = x .args in
-    let l = c .before .before .before .before .before .before .before .before .before .before .before .before .before .before .before .before .before .loop in
-    let b = c .before .before .before .before .before .before .before .before .before .before .before .before .before .before .before .before .begun-before in
-    let k = c .before .before .before .before .before .before .before .before .before .before .before .before .before .take-turn in
-    subst (λ r. Arrived (systemOf (a .book .now)) (termIn (a .area .now) (a .n)) (a .n) (comes (systemOf (a .book .now)) (a .area .now) (a .n) (a .start)) r (k .last .1 .1 .1 .0) (k .last .1 .1 .1 .1 .0)) (sym (c .arrived .ensures))
-    (arrives-ready (a .book .now) (a .shape) (x .pre .0) (a .area .now) (a .n) (a .start) (l .area) (l .positions) (l .level) (l .floor) (l .since) (l .inv .0) (b .result) (b .ensures) (k .result) (k .last .1 .1 .1 .0) (k .last .1 .1 .1 .1 .0) (k .ensures) (c .before .before .before .before .before .before .before .enum-told2 .given .1) (c .before .before .before .first-rule .result) (c .before .before .before .first-rule .ensures) (c .before .enum-told4 .given .0 .0) (c .before .enum-told4 .given .0 .1 .0) (c .before .enum-told4 .given .0 .1 .1 .0) (c .before .enum-told4 .given .1))
+    let l = c .before .before .before .before .before .before .before .before .before .before .before .before .before .before .before .before .loop in
+    let b = c .before .before .before .before .before .before .before .before .before .before .before .before .before .before .before .begun-before in
+    let k = c .before .before .before .before .before .before .before .before .before .before .before .before .take-turn in
+    arrives-ready (a .book .now) (a .shape) (x .pre .0) (a .area .now) (a .n) (a .start) (l .area) (l .positions) (l .level) (l .floor) (l .since) (l .inv .0) (b .result) (b .ensures) (k .result) (k .last .1 .1 .1 .0) (k .last .1 .1 .1 .1 .0) (k .ensures) (c .before .before .before .before .before .before .enum-told2 .given .1) (c .before .before .first-rule .result) (c .before .before .first-rule .ensures) (c .enum-told4 .given .0 .0) (c .enum-told4 .given .0 .1 .0) (c .enum-told4 .given .0 .1 .1 .0) (c .enum-told4 .given .1)
 
 enum-told-5 : tie.Need-enum-told-5 Inv-loop μ-loop
 enum-told-5 c = search needs
@@ -217,33 +211,29 @@ loop-again-3 c =
 enum-told-6 : tie.Need-enum-told-6 Inv-loop μ-loop
 enum-told-6 c = search needs
 
-nothing-requires : tie.Need-nothing-requires Inv-loop μ-loop
-nothing-requires c κs = search needs
-
-arrived-requires-2 : tie.Need-arrived-requires-2 Inv-loop μ-loop
-arrived-requires-2 c κs = search needs
+stopped-requires : tie.Need-stopped-requires Inv-loop μ-loop
+stopped-requires c κs = search needs
 
 same-length-3 : tie.Need-same-length-3 Inv-loop μ-loop
 same-length-3 c =
-    let l = c .before .before .before .before .before .before .before .before .before .before .before .before .before .loop in
-    let k = c .before .before .before .before .before .before .before .before .before .take-turn in
+    let l = c .before .before .before .before .before .before .before .before .before .before .before .before .loop in
+    let k = c .before .before .before .before .before .before .before .before .take-turn in
     k .kept .1 .1 .1 .0 ∙ l .inv .1
 
 same-length-4 : tie.Need-same-length-4 Inv-loop μ-loop
 same-length-4 c =
-    let l = c .before .before .before .before .before .before .before .before .before .before .before .before .before .loop in
-    let k = c .before .before .before .before .before .before .before .before .before .take-turn in
+    let l = c .before .before .before .before .before .before .before .before .before .before .before .before .loop in
+    let k = c .before .before .before .before .before .before .before .before .take-turn in
     k .kept .1 .1 .1 .1 .0 ∙ l .inv .2
 
 returns-2 : tie.Need-returns-2 Inv-loop μ-loop
 returns-2 c =
-    let x = c .before .before .before .before .before .before .before .before .before .before .before .before .before .before .before .before .before .before .before .before in
+    let x = c .before .before .before .before .before .before .before .before .before .before .before .before .before .before .before .before .before .before .before in
     let a = x .args in
-    let l = c .before .before .before .before .before .before .before .before .before .before .before .before .before .loop in
-    let b = c .before .before .before .before .before .before .before .before .before .before .before .before .begun-before in
-    let k = c .before .before .before .before .before .before .before .before .before .take-turn in
-    subst (λ r. Arrived (systemOf (a .book .now)) (termIn (a .area .now) (a .n)) (a .n) (comes (systemOf (a .book .now)) (a .area .now) (a .n) (a .start)) r (k .last .1 .1 .1 .0) (k .last .1 .1 .1 .1 .0)) (sym (c .arrived2 .ensures))
-    (arrives-end (a .book .now) (a .shape) (x .pre .0) (a .area .now) (a .n) (a .start) (l .area) (l .positions) (l .level) (l .floor) (l .since) (l .inv .0) (b .result) (b .ensures) (k .result) (k .last .1 .1 .1 .0) (k .last .1 .1 .1 .1 .0) (k .ensures) (c .before .before .before .enum-told6 .given .1) (c .before .before .if1 .taken) (c .before .nothing .result))
+    let l = c .before .before .before .before .before .before .before .before .before .before .before .before .loop in
+    let b = c .before .before .before .before .before .before .before .before .before .before .before .begun-before in
+    let k = c .before .before .before .before .before .before .before .before .take-turn in
+    arrives-end (a .book .now) (a .shape) (x .pre .0) (a .area .now) (a .n) (a .start) (l .area) (l .positions) (l .level) (l .floor) (l .since) (l .inv .0) (b .result) (b .ensures) (k .result) (k .last .1 .1 .1 .0) (k .last .1 .1 .1 .1 .0) (k .ensures) (c .before .before .enum-told6 .given .1) (c .before .if1 .taken) (c .stopped .result) (c .stopped .ensures .0)
 
 sub-level : tie.Need-sub-level Inv-loop μ-loop
 sub-level c = search needs
@@ -323,33 +313,29 @@ loop-again-5 c =
 enum-told-7 : tie.Need-enum-told-7 Inv-loop μ-loop
 enum-told-7 c = search needs
 
-nothing-requires-2 : tie.Need-nothing-requires-2 Inv-loop μ-loop
-nothing-requires-2 c κs = search needs
-
-arrived-requires-3 : tie.Need-arrived-requires-3 Inv-loop μ-loop
-arrived-requires-3 c κs = search needs
+stopped-requires-2 : tie.Need-stopped-requires-2 Inv-loop μ-loop
+stopped-requires-2 c κs = search needs
 
 same-length-5 : tie.Need-same-length-5 Inv-loop μ-loop
 same-length-5 c =
-    let l = c .before .before .before .before .before .before .before .before .before .before .before .before .loop in
-    let k = c .before .before .before .before .before .before .before .before .take-turn in
+    let l = c .before .before .before .before .before .before .before .before .before .before .before .loop in
+    let k = c .before .before .before .before .before .before .before .take-turn in
     k .kept .1 .1 .1 .0 ∙ l .inv .1
 
 same-length-6 : tie.Need-same-length-6 Inv-loop μ-loop
 same-length-6 c =
-    let l = c .before .before .before .before .before .before .before .before .before .before .before .before .loop in
-    let k = c .before .before .before .before .before .before .before .before .take-turn in
+    let l = c .before .before .before .before .before .before .before .before .before .before .before .loop in
+    let k = c .before .before .before .before .before .before .before .take-turn in
     k .kept .1 .1 .1 .1 .0 ∙ l .inv .2
 
 returns-3 : tie.Need-returns-3 Inv-loop μ-loop
 returns-3 c =
-    let x = c .before .before .before .before .before .before .before .before .before .before .before .before .before .before .before .before .before .before .before in
+    let x = c .before .before .before .before .before .before .before .before .before .before .before .before .before .before .before .before .before .before in
     let a = x .args in
-    let l = c .before .before .before .before .before .before .before .before .before .before .before .before .loop in
-    let b = c .before .before .before .before .before .before .before .before .before .before .before .begun-before in
-    let k = c .before .before .before .before .before .before .before .before .take-turn in
-    subst (λ r. Arrived (systemOf (a .book .now)) (termIn (a .area .now) (a .n)) (a .n) (comes (systemOf (a .book .now)) (a .area .now) (a .n) (a .start)) r (k .last .1 .1 .1 .0) (k .last .1 .1 .1 .1 .0)) (sym (c .arrived3 .ensures))
-    (arrives-deep (a .book .now) (a .shape) (x .pre .0) (a .area .now) (a .n) (a .start) (l .area) (l .positions) (l .level) (l .floor) (l .since) (l .inv .0) (b .result) (b .ensures) (k .result) (k .last .1 .1 .1 .0) (k .last .1 .1 .1 .1 .0) (k .ensures) (c .before .before .enum-told7 .given .1) (c .before .nothing2 .result))
+    let l = c .before .before .before .before .before .before .before .before .before .before .before .loop in
+    let b = c .before .before .before .before .before .before .before .before .before .before .begun-before in
+    let k = c .before .before .before .before .before .before .before .take-turn in
+    arrives-deep (a .book .now) (a .shape) (x .pre .0) (a .area .now) (a .n) (a .start) (l .area) (l .positions) (l .level) (l .floor) (l .since) (l .inv .0) (b .result) (b .ensures) (k .result) (k .last .1 .1 .1 .0) (k .last .1 .1 .1 .1 .0) (k .ensures) (c .before .enum-told7 .given .1) (c .stopped2 .result) (c .stopped2 .ensures .0) (c .stopped2 .ensures .1)
 
 pub advance-spec : {M : Type 1} → statement M
 advance-spec =
@@ -379,7 +365,6 @@ advance-spec =
     loop-less-2
     loop-again-2
     enum-told-4
-    arrived-requires
     same-length
     same-length-2
     returns
@@ -388,8 +373,7 @@ advance-spec =
     loop-less-3
     loop-again-3
     enum-told-6
-    nothing-requires
-    arrived-requires-2
+    stopped-requires
     same-length-3
     same-length-4
     returns-2
@@ -403,8 +387,7 @@ advance-spec =
     loop-less-5
     loop-again-5
     enum-told-7
-    nothing-requires-2
-    arrived-requires-3
+    stopped-requires-2
     same-length-5
     same-length-6
     returns-3)
