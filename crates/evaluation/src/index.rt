@@ -1,5 +1,7 @@
 // Where the symbols' strategies stand in a book: an index of every fourth one, made once per call.
+ghost use mathlib.Core.Path.{_≡_};
 ghost use Prim.Native.Nat.{_≤_, _<_};
+ghost use lib.ListN.{length};
 ghost use Rattle.matching.specs.Accepted.{Accepted, StrategyAt, Standing};
 ghost use Rattle.evaluation.specs.Marks.{Marked};
 use system::Shape;
@@ -19,18 +21,17 @@ fn walk_on(book: &[u16], shape: Shape, start: usize, first: usize, f: usize) -> 
     at
 }
 
-// The marks of the strategies of every fourth symbol.
-pub fn marks(book: &[u16], shape: Shape) -> [usize; 64]
-    requires { ⌜ Accepted (now book) shape ⌝ }
-    ensures { λ r. ⌜ Marked (now (book .entry)) shape r ⌝ }
+// Marks the strategies of every fourth symbol.
+pub fn mark(book: &[u16], shape: Shape, marks: &mut [usize])
+    requires { ⌜ Accepted (now book) shape × (length (now marks) ≡ 64) ⌝ }
+    ensures { λ _. ⌜ Marked (now (book .entry)) shape (now (marks .exit)) ⌝ }
 {
-    let mut marks = [shape.strategies; 64];
+    marks[0] = shape.strategies;
     let mut j = 1;
     while 4 * j < shape.symbols {
         marks[j] = walk_on(book, shape, marks[j - 1], 4 * (j - 1), 4 * j);
         j += 1;
     }
-    marks
 }
 
 // The index at which the strategy of symbol f stands in the book: its length, and its entries after it. From its mark at most three

@@ -8,7 +8,7 @@ ghost use Rattle.matching.specs.Accepted.{systemOf, Accepted};
 ghost use Rattle.evaluation.specs.Evaluation.{evaluation};
 ghost use Rattle.evaluation.specs.Area.{Laid};
 ghost use Rattle.evaluation.specs.Ended.{Ends};
-use crate::index::marks;
+use crate::index::mark;
 use crate::machine::Stop;
 use crate::machine::advance;
 use crate::reducts::rewrite;
@@ -56,7 +56,8 @@ pub fn run(book: &[u16], shape: Shape, term: &[u16], limit: u32, area: &mut [u16
     ensures { λ r. ⌜ Ends (evaluation (systemOf (now (book .entry))) limit (now (term .entry))) r (now (area .exit)) ⌝ }
 {
     start(area, term);
-    let marks = marks(book, shape);
+    let mut marks = [0usize; 64];
+    mark(book, shape, &mut marks);
     let mut positions = [0usize; 64];
     let mut n = term.len();
     let mut level = 0;

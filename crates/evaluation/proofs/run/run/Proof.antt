@@ -25,43 +25,43 @@ wf : (c : tie.Start Inv-loop μ-loop) → WellFormed (systemOf (c .args .book .n
 wf c = well (c .args .book .now) (c .args .shape) (c .pre .0)
 
 -- the area has the length that it came with
-area-length : (c : tie.At-loop Inv-loop μ-loop) → length (c .loop .area) ≡ length (c .before .before .before .before .before .before .before .before .before .args .area .now)
-area-length c = stored-length (systemOf (c .before .before .before .before .before .before .before .before .before .args .book .now)) (c .loop .area) (c .loop .n) (c .loop .level) (c .loop .inv .holds .stored) ∙ sym (c .before .before .before .before .before .before .before .before .before .pre .3)
+area-length : (c : tie.At-loop Inv-loop μ-loop) → length (c .loop .area) ≡ length (c .before .before .before .before .before .before .before .before .before .before .before .args .area .now)
+area-length c = stored-length (systemOf (c .before .before .before .before .before .before .before .before .before .before .before .args .book .now)) (c .loop .area) (c .loop .n) (c .loop .level) (c .loop .inv .holds .stored) ∙ sym (c .before .before .before .before .before .before .before .before .before .before .before .pre .3)
 
 -- a rewrite is next
-before : (c : tie.After-enum-told3 Inv-loop μ-loop) → Before (systemOf (c .before .before .before .before .before .before .before .before .before .before .before .before .before .before .before .before .before .before .args .book .now)) (c .before .before .before .before .before .before .before .before .before .before .before .before .before .before .before .before .before .before .args .limit) (c .before .before .before .before .before .before .before .before .before .before .before .before .before .before .before .before .before .before .args .term .now) (c .before .before .before .before .before .advance .last .1 .1 .1 .0) (c .before .before .before .before .before .advance .last .1 .1 .1 .1 .0) (c .before .before .before .before .before .before .before .before .before .loop .n) (c .before .before .before .before .before .advance .result .level) (c .before .before .before .before .before .before .before .before .before .loop .steps) (c .before .before .before .before .before .advance .result .found)
+before : (c : tie.After-enum-told3 Inv-loop μ-loop) → Before (systemOf (c .before .before .before .before .before .before .before .before .before .before .before .before .before .before .before .before .before .before .before .before .args .book .now)) (c .before .before .before .before .before .before .before .before .before .before .before .before .before .before .before .before .before .before .before .before .args .limit) (c .before .before .before .before .before .before .before .before .before .before .before .before .before .before .before .before .before .before .before .before .args .term .now) (c .before .before .before .before .before .advance .last .1 .1 .1 .0) (c .before .before .before .before .before .advance .last .1 .1 .1 .1 .0) (c .before .before .before .before .before .before .before .before .before .loop .n) (c .before .before .before .before .before .advance .result .level) (c .before .before .before .before .before .before .before .before .before .loop .steps) (c .before .before .before .before .before .advance .result .found)
 before c =
-    let a = c .before .before .before .before .before .before .before .before .before .before .before .before .before .before .before .before .before .before in
+    let a = c .before .before .before .before .before .before .before .before .before .before .before .before .before .before .before .before .before .before .before .before in
     let l = c .before .before .before .before .before .before .before .before .before .loop in
     let d = c .before .before .before .before .before .advance in
     comes-before (systemOf (a .args .book .now)) (wf a) (a .args .limit) (a .args .term .now) (l .area) (l .positions) (l .n) (l .level) (l .steps) (l .inv) (d .result) (d .last .1 .1 .1 .0) (d .last .1 .1 .1 .1 .0) (d .ensures) (c .enum-told3 .given .1)
 
 room : (c : tie.After-enum-told3 Inv-loop μ-loop) → c .before .before .before .before .before .advance .result .level < 64
 room c =
-    let a = c .before .before .before .before .before .before .before .before .before .before .before .before .before .before .before .before .before .before in
+    let a = c .before .before .before .before .before .before .before .before .before .before .before .before .before .before .before .before .before .before .before .before in
     let l = c .before .before .before .before .before .before .before .before .before .loop in
     let d = c .before .before .before .before .before .advance in
     before-room (systemOf (a .args .book .now)) (wf a) (a .args .limit) (a .args .term .now) (d .last .1 .1 .1 .0) (d .last .1 .1 .1 .1 .0) (l .n) (d .result .level) (l .steps) (d .result .found) (before c)
 
-position-is : (c : tie.After-enum-told3 Inv-loop μ-loop) → getD (c .before .before .before .before .before .advance .last .1 .1 .1 .1 .0) (c .before .before .before .before .before .advance .result .level) 0 ≡ position (systemOf (c .before .before .before .before .before .before .before .before .before .before .before .before .before .before .before .before .before .before .args .book .now)) (termIn (c .before .before .before .before .before .advance .last .1 .1 .1 .0) (c .before .before .before .before .before .before .before .before .before .loop .n)) (outerIn (c .before .before .before .before .before .advance .last .1 .1 .1 .0) (c .before .before .before .before .before .advance .result .level)) 0
+position-is : (c : tie.After-enum-told3 Inv-loop μ-loop) → getD (c .before .before .before .before .before .advance .last .1 .1 .1 .1 .0) (c .before .before .before .before .before .advance .result .level) 0 ≡ position (systemOf (c .before .before .before .before .before .before .before .before .before .before .before .before .before .before .before .before .before .before .before .before .args .book .now)) (termIn (c .before .before .before .before .before .advance .last .1 .1 .1 .0) (c .before .before .before .before .before .before .before .before .before .loop .n)) (outerIn (c .before .before .before .before .before .advance .last .1 .1 .1 .0) (c .before .before .before .before .before .advance .result .level)) 0
 position-is c =
-    let a = c .before .before .before .before .before .before .before .before .before .before .before .before .before .before .before .before .before .before in
+    let a = c .before .before .before .before .before .before .before .before .before .before .before .before .before .before .before .before .before .before .before .before in
     let l = c .before .before .before .before .before .before .before .before .before .loop in
     let d = c .before .before .before .before .before .advance in
     before-position (systemOf (a .args .book .now)) (wf a) (a .args .limit) (a .args .term .now) (d .last .1 .1 .1 .0) (d .last .1 .1 .1 .1 .0) (l .n) (d .result .level) (l .steps) (d .result .found) (before c)
 
 -- an argument would be opened from level 64: the evaluation's outcome, and what the area holds
-deep : (c : tie.After-enum-told2 Inv-loop μ-loop) → (evaluation (systemOf (c .before .before .before .before .before .before .before .before .before .before .before .before .before .before .before .before .before .before .args .book .now)) (c .before .before .before .before .before .before .before .before .before .before .before .before .before .before .before .before .before .before .args .limit) (c .before .before .before .before .before .before .before .before .before .before .before .before .before .before .before .before .before .before .args .term .now) ≡ stopped 13 (c .before .before .before .before .before .before .before .before .before .loop .steps)) × Laid (c .before .before .before .before .before .advance .last .1 .1 .1 .0) (c .before .before .before .before .before .before .before .before .before .loop .n) (c .before .before .before .before .before .advance .result .level)
+deep : (c : tie.After-enum-told2 Inv-loop μ-loop) → (evaluation (systemOf (c .before .before .before .before .before .before .before .before .before .before .before .before .before .before .before .before .before .before .before .before .args .book .now)) (c .before .before .before .before .before .before .before .before .before .before .before .before .before .before .before .before .before .before .before .before .args .limit) (c .before .before .before .before .before .before .before .before .before .before .before .before .before .before .before .before .before .before .before .before .args .term .now) ≡ stopped 13 (c .before .before .before .before .before .before .before .before .before .loop .steps)) × Laid (c .before .before .before .before .before .advance .last .1 .1 .1 .0) (c .before .before .before .before .before .before .before .before .before .loop .n) (c .before .before .before .before .before .advance .result .level)
 deep c =
-    let a = c .before .before .before .before .before .before .before .before .before .before .before .before .before .before .before .before .before .before in
+    let a = c .before .before .before .before .before .before .before .before .before .before .before .before .before .before .before .before .before .before .before .before in
     let l = c .before .before .before .before .before .before .before .before .before .loop in
     let d = c .before .before .before .before .before .advance in
     stops-deep (systemOf (a .args .book .now)) (wf a) (a .args .limit) (a .args .term .now) (l .area) (l .positions) (l .n) (l .level) (l .steps) (l .inv) (d .result) (d .last .1 .1 .1 .0) (d .last .1 .1 .1 .1 .0) (d .ensures) (c .enum-told2 .given .1)
 
 -- the rewrite would leave too many words: the same
-long : (c : tie.Then2 Inv-loop μ-loop) → (evaluation (systemOf (c .before .before .before .before .before .before .before .before .before .before .before .before .before .before .before .before .before .before .before .before .before .before .before .before .before .args .book .now)) (c .before .before .before .before .before .before .before .before .before .before .before .before .before .before .before .before .before .before .before .before .before .before .before .before .before .args .limit) (c .before .before .before .before .before .before .before .before .before .before .before .before .before .before .before .before .before .before .before .before .before .before .before .before .before .args .term .now) ≡ stopped 12 (c .before .before .before .before .before .before .before .before .before .before .before .before .before .before .before .before .loop .steps)) × Laid (c .before .before .before .rewrite .last .1 .1 .0) (c .before .before .before .before .before .before .before .before .before .before .before .before .before .before .before .before .loop .n) (c .before .before .before .before .before .before .before .before .before .before .before .before .advance .result .level)
+long : (c : tie.Then2 Inv-loop μ-loop) → (evaluation (systemOf (c .before .before .before .before .before .before .before .before .before .before .before .before .before .before .before .before .before .before .before .before .before .before .before .before .before .before .before .args .book .now)) (c .before .before .before .before .before .before .before .before .before .before .before .before .before .before .before .before .before .before .before .before .before .before .before .before .before .before .before .args .limit) (c .before .before .before .before .before .before .before .before .before .before .before .before .before .before .before .before .before .before .before .before .before .before .before .before .before .before .before .args .term .now) ≡ stopped 12 (c .before .before .before .before .before .before .before .before .before .before .before .before .before .before .before .before .loop .steps)) × Laid (c .before .before .before .rewrite .last .1 .1 .0) (c .before .before .before .before .before .before .before .before .before .before .before .before .before .before .before .before .loop .n) (c .before .before .before .before .before .before .before .before .before .before .before .before .advance .result .level)
 long c =
-    let a = c .before .before .before .before .before .before .before .before .before .before .before .before .before .before .before .before .before .before .before .before .before .before .before .before .before in
+    let a = c .before .before .before .before .before .before .before .before .before .before .before .before .before .before .before .before .before .before .before .before .before .before .before .before .before .before .before in
     let l = c .before .before .before .before .before .before .before .before .before .before .before .before .before .before .before .before .loop in
     let d = c .before .before .before .before .before .before .before .before .before .before .before .before .advance in
     let b = before (c .before .before .before .before .before .before .before) in
@@ -72,24 +72,27 @@ long c =
 start-requires : tie.Need-start-requires Inv-loop μ-loop
 start-requires c κs = (let p = c .before .before .before .before .pre .2 in omega arith, c .before .before .before .before .pre .3)
 
-marks-requires : tie.Need-marks-requires Inv-loop μ-loop
-marks-requires c κs = c .before .before .before .before .before .before .before .pre .0
+slice-aggregate-mark : tie.Need-slice-aggregate-mark Inv-loop μ-loop
+slice-aggregate-mark c = search needs
+
+mark-requires : tie.Need-mark-requires Inv-loop μ-loop
+mark-requires c κs = (c .before .before .before .before .before .before .before .before .pre .0, refl)
 
 loop-holds : tie.Need-loop-holds Inv-loop μ-loop
 loop-holds c =
-    let a = c .before .before .before .before .before .before .before .before in
-    running-start (systemOf (a .args .book .now)) (a .args .limit) (a .args .term .now) (c .before .before .before .start .last .0) _ (a .pre .1) (a .pre .2) (c .before .before .before .start .ensures) refl refl
+    let a = c .before .before .before .before .before .before .before .before .before .before in
+    running-start (systemOf (a .args .book .now)) (a .args .limit) (a .args .term .now) (c .before .before .before .before .before .start .last .0) _ (a .pre .1) (a .pre .2) (c .before .before .before .before .before .start .ensures) refl refl
 
 slice-aggregate-advance : tie.Need-slice-aggregate-advance Inv-loop μ-loop
-slice-aggregate-advance c = sym (c .before .before .marks .ensures .slots)
+slice-aggregate-advance c = sym (c .before .before .before .mark .ensures .slots)
 
 slice-aggregate-advance-2 : tie.Need-slice-aggregate-advance-2 Inv-loop μ-loop
 slice-aggregate-advance-2 c = sym (c .before .before .before .loop .inv .holds .slots)
 
 advance-requires : tie.Need-advance-requires Inv-loop μ-loop
 advance-requires c κs =
-    let p = c .before .before .before .before .before .before .before .before .before .before .before .before .pre in
-    (p .0, c .before .before .before .before .marks .ensures, c .before .before .before .loop .inv .holds)
+    let p = c .before .before .before .before .before .before .before .before .before .before .before .before .before .before .pre in
+    (p .0, c .before .before .before .before .before .mark .ensures, c .before .before .before .loop .inv .holds)
 
 enum-told : tie.Need-enum-told Inv-loop μ-loop
 enum-told c = search needs
@@ -102,7 +105,7 @@ same-length c = c .before .before .before .before .before .before .advance .kept
 
 returns : tie.Need-returns Inv-loop μ-loop
 returns c =
-    let a = c .before .before .before .before .before .before .before .before .before .before .before .before .before .before .before .before .before .before .before in
+    let a = c .before .before .before .before .before .before .before .before .before .before .before .before .before .before .before .before .before .before .before .before .before in
     let l = c .before .before .before .before .before .before .before .before .before .before .loop in
     let d = c .before .before .before .before .before .before .advance in
     ends-finished (systemOf (a .args .book .now)) (wf a) (a .args .limit) (a .args .term .now) (l .area) (l .positions) (l .n) (l .level) (l .steps) (l .inv) (d .result) (d .last .1 .1 .1 .0) (d .last .1 .1 .1 .1 .0) (d .ensures) (c .before .enum-told .given .1) (c .outcome .result) (c .outcome .ensures)
@@ -121,7 +124,7 @@ same-length-2 c = c .before .before .before .clear-state .kept .0 ∙ c .before 
 
 returns-2 : tie.Need-returns-2 Inv-loop μ-loop
 returns-2 c =
-    let a = c .before .before .before .before .before .before .before .before .before .before .before .before .before .before .before .before .before .before .before .before .before .before .before in
+    let a = c .before .before .before .before .before .before .before .before .before .before .before .before .before .before .before .before .before .before .before .before .before .before .before .before .before in
     ends-stopped (evaluation (systemOf (a .args .book .now)) (a .args .limit) (a .args .term .now)) 13 (c .before .before .before .before .before .before .before .before .before .before .before .before .before .before .loop .steps) (c .outcome2 .result) (c .before .before .before .clear-state .last .0) (deep (c .before .before .before .before .before) .0) (c .outcome2 .ensures) (c .before .before .before .clear-state .ensures)
 
 enum-told-3 : tie.Need-enum-told-3 Inv-loop μ-loop
@@ -129,7 +132,7 @@ enum-told-3 c = search needs
 
 clear-state-requires-2 : tie.Need-clear-state-requires-2 Inv-loop μ-loop
 clear-state-requires-2 c κs =
-    let a = c .before .before .before .before .before .before .before .before .before .before .before .before .before .before .before .before .before .before .before .before in
+    let a = c .before .before .before .before .before .before .before .before .before .before .before .before .before .before .before .before .before .before .before .before .before .before in
     let l = c .before .before .before .before .before .before .before .before .before .before .before .loop in
     let d = c .before .before .before .before .before .before .before .advance in
     before-laid (systemOf (a .args .book .now)) (wf a) (a .args .limit) (a .args .term .now) (d .last .1 .1 .1 .0) (d .last .1 .1 .1 .1 .0) (l .n) (d .result .level) (l .steps) (d .result .found) (before (c .before .before))
@@ -142,7 +145,7 @@ same-length-3 c = c .before .before .before .clear-state2 .kept .0 ∙ c .before
 
 returns-3 : tie.Need-returns-3 Inv-loop μ-loop
 returns-3 c =
-    let a = c .before .before .before .before .before .before .before .before .before .before .before .before .before .before .before .before .before .before .before .before .before .before .before .before in
+    let a = c .before .before .before .before .before .before .before .before .before .before .before .before .before .before .before .before .before .before .before .before .before .before .before .before .before .before in
     let l = c .before .before .before .before .before .before .before .before .before .before .before .before .before .before .before .loop in
     let d = c .before .before .before .before .before .before .before .before .before .before .before .advance in
     ends-stopped (evaluation (systemOf (a .args .book .now)) (a .args .limit) (a .args .term .now)) 11 (l .steps) (c .outcome3 .result) (c .before .before .before .clear-state2 .last .0)
@@ -156,7 +159,7 @@ array-read-rewrite : tie.Need-array-read-rewrite Inv-loop μ-loop
 array-read-rewrite c = room (c .before .before .before)
 
 rewrite-requires : tie.Need-rewrite-requires Inv-loop μ-loop
-rewrite-requires c κs = let a = c .before .before .before .before .before .before .before .before .before .before .before .before .before .before .before .before .before .before .before .before .before in
+rewrite-requires c κs = let a = c .before .before .before .before .before .before .before .before .before .before .before .before .before .before .before .before .before .before .before .before .before .before .before in
     let b = before (c .before .before .before) in
     let p = position-is (c .before .before .before) in
     ((a .pre .0, b .holds .stored), ((p, b .found ∙ ap (λ q. matchOf (systemOf (a .args .book .now)) (drop q (take (c .before .before .before .before .before .before .before .before .before .before .before .before .loop .n) (c .before .before .before .before .before .before .before .before .advance .last .1 .1 .1 .0)))) (sym p)), (b .x, rw p (b .matched))))
@@ -172,17 +175,17 @@ same-length-4 c = c .before .before .before .clear-state3 .kept .0 ∙ c .before
 
 returns-4 : tie.Need-returns-4 Inv-loop μ-loop
 returns-4 c =
-    let a = c .before .before .before .before .before .before .before .before .before .before .before .before .before .before .before .before .before .before .before .before .before .before .before .before .before .before .before .before .before .before in
+    let a = c .before .before .before .before .before .before .before .before .before .before .before .before .before .before .before .before .before .before .before .before .before .before .before .before .before .before .before .before .before .before .before .before in
     ends-stopped (evaluation (systemOf (a .args .book .now)) (a .args .limit) (a .args .term .now)) 12 (c .before .before .before .before .before .before .before .before .before .before .before .before .before .before .before .before .before .before .before .before .before .loop .steps) (c .outcome4 .result) (c .before .before .before .clear-state3 .last .0) (long (c .before .before .before .before .before) .0) (c .outcome4 .ensures) (c .before .before .before .clear-state3 .ensures)
 
 add-steps : tie.Need-add-steps Inv-loop μ-loop
-add-steps c = omega (arith, c .before .before .before .before .before .before .if1 .left, c .before .before .before .before .before .before .before .before .before .before .before .before .before .before .before .before .before .before .before .before .before .before .before .before .before .fits .limit)
+add-steps c = omega (arith, c .before .before .before .before .before .before .if1 .left, c .before .before .before .before .before .before .before .before .before .before .before .before .before .before .before .before .before .before .before .before .before .before .before .before .before .before .before .fits .limit)
 
 loop-less : tie.Need-loop-less Inv-loop μ-loop
 loop-less c = let l = c .before .before .before .before .before .before .if1 .left in omega arith
 
 loop-again : tie.Need-loop-again Inv-loop μ-loop
-loop-again c = let a = c .before .before .before .before .before .before .before .before .before .before .before .before .before .before .before .before .before .before .before .before .before .before .before .before .before in
+loop-again c = let a = c .before .before .before .before .before .before .before .before .before .before .before .before .before .before .before .before .before .before .before .before .before .before .before .before .before .before .before in
     let l = c .before .before .before .before .before .before .before .before .before .before .before .before .before .before .before .before .loop in
     let d = c .before .before .before .before .before .before .before .before .before .before .before .before .advance in
     let b = before (c .before .before .before .before .before .before .before) in
@@ -197,7 +200,8 @@ run-spec =
     Inv-loop
     μ-loop
     start-requires
-    marks-requires
+    slice-aggregate-mark
+    mark-requires
     loop-holds
     slice-aggregate-advance
     slice-aggregate-advance-2
