@@ -117,22 +117,14 @@ pub fn advance(
         let before = begun_before(floor, since, level);
         let t = take_turn(book, shape, marks, area, positions, n, level, before);
         match t {
-            Turn::Passed => {
-                continue;
-            }
+            Turn::Passed => {}
             Turn::Tried => {
                 let p = positions[level];
                 let m = first_rule(book, shape, &area[p..n]);
                 let found = m.found;
                 match found {
-                    Found::Nothing => {
-                        continue;
-                    }
-                    Found::First {
-                        number: _,
-                        rhs: _,
-                        size: _,
-                    } => {
+                    Found::Nothing => {}
+                    _ => {
                         return Advanced {
                             stop: Stop::Ready,
                             level,
@@ -143,7 +135,6 @@ pub fn advance(
             }
             Turn::Opened => {
                 level += 1;
-                continue;
             }
             Turn::Left => {
                 if level == 0 {
@@ -154,7 +145,6 @@ pub fn advance(
                     floor = level;
                     since = wide(area[4096 + level]);
                 }
-                continue;
             }
             Turn::TooDeep => {
                 return stopped(Stop::Deep, level);
