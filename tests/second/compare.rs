@@ -250,13 +250,66 @@ fn refused_book(case: &Case, fault: book::Fault, n: &mut Counts) -> Checked {
 /// Runs the product's expander and holds its answer and both buffers to what is expected: on 0 the words, and where the work buffer is
 /// zeroed.
 fn expanded(case: &Case, cue: &[u16], limit: u32, expected: Answer, words: Option<&[u16]>) -> Checked {
-    let mut out = Lent::new(case.out_words, case.dirt);
-    let mut work = Lent::new(case.work_words, case.dirt);
-    let got = product::expand(&case.book, cue, limit, out.slice(), work.slice());
+    let mut lent = Pair::new(case.out_words, case.work_words, case.dirt);
+    let got = product::expand(&case.book, cue, limit, lent.out.slice(), lent.work.slice());
     same("expanding", expected, got)?;
-    out.check("the answer buffer", words.unwrap_or(&[]))?;
-    let zeroed = [0, 11, 12, 13].contains(&expected.number);
-    work.check("the work buffer", if zeroed { &[0; 8192] } else { &[] })
+    lent.check(expected.number, words)?;
+    checked(case, cue, limit, expected, words)?;
+    twice(case, cue, limit, expected, words)
+}
+
+/// An answer buffer and a work buffer.
+struct Pair {
+    out: Lent,
+    work: Lent,
+}
+
+impl Pair {
+    fn new(out_words: usize, work_words: usize, dirt: u16) -> Pair {
+        Pair { out: Lent::new(out_words, dirt), work: Lent::new(work_words, dirt) }
+    }
+
+    fn slices(&mut self) -> [&mut [u16]; 2] {
+        [self.out.slice(), self.work.slice()]
+    }
+
+    /// As an expansion leaves them: on 0 the words of the answer, and where the work buffer is zeroed.
+    fn check(&self, number: u32, words: Option<&[u16]>) -> Checked {
+        self.out.check("the answer buffer", words.unwrap_or(&[]))?;
+        let zeroed = [0, 11, 12, 13].contains(&number);
+        self.work.check("the work buffer", if zeroed { &[0; 8192] } else { &[] })
+    }
+}
+
+/// The order test and the expansion in one call are the two, one after the other.
+fn checked(case: &Case, cue: &[u16], limit: u32, expected: Answer, words: Option<&[u16]>) -> Checked {
+    let mut lent = Pair::new(case.out_words, case.work_words, case.dirt);
+    let got = product::expand_checked(&case.book, cue, limit, lent.out.slice(), lent.work.slice());
+    same("testing, and expanding", product::test_strategies(&case.book), got.test)?;
+    same("expanding after the test", expected, got.answer)?;
+    lent.check(expected.number, words)
+}
+
+/// And so is the answer expanded again with no step allowed, in a second pair of buffers; on a refusal there is no second expansion.
+fn twice(case: &Case, cue: &[u16], limit: u32, expected: Answer, words: Option<&[u16]>) -> Checked {
+    let mut first = Pair::new(case.out_words, case.work_words, case.dirt);
+    let mut second = Pair::new(4096, 8192, case.dirt);
+    let got = product::expand_twice(&case.book, cue, limit, first.slices(), second.slices());
+    same("testing, and expanding twice", product::test_strategies(&case.book), got.test)?;
+    same("expanding the first time", expected, got.first)?;
+    first.check(expected.number, words)?;
+    let Some(words) = words else {
+        same("the first answer for the second", expected, got.second)?;
+        second.out.check("the second answer buffer", &[])?;
+        return second.work.check("the second work buffer", &[]);
+    };
+    let mut lent = Pair::new(4096, 8192, case.dirt);
+    let again = product::expand(&case.book, words, 0, lent.out.slice(), lent.work.slice());
+    same("expanding the second time", again, got.second)?;
+    if got.test.number == 0 {
+        same("an answer that rests", answer(0, words.len(), 0), again)?;
+    }
+    second.check(again.number, if again.number == 0 { Some(&lent.out.slice()[..again.place]) } else { None })
 }
 
 fn expansion(case: &Case, plant: Plant, read: &Result<Book, book::Fault>, cue: &Result<Rc<Cue>, usize>, n: &mut Counts) -> Checked {

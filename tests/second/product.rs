@@ -37,6 +37,21 @@ pub struct Match {
     pub lengths: [usize; VARIABLES],
 }
 
+#[repr(C)]
+#[derive(Clone, Copy, Debug, PartialEq)]
+pub struct Checked {
+    pub test: Answer,
+    pub answer: Answer,
+}
+
+#[repr(C)]
+#[derive(Clone, Copy, Debug, PartialEq)]
+pub struct Twice {
+    pub test: Answer,
+    pub first: Answer,
+    pub second: Answer,
+}
+
 pub mod c {
     use super::*;
     #[link(name = "cue", kind = "static")]
@@ -59,6 +74,32 @@ pub mod c {
             work: *mut u16,
             work_words: usize,
         ) -> Answer;
+        pub fn cue_expand_checked(
+            book: *const u16,
+            book_words: usize,
+            term: *const u16,
+            term_words: usize,
+            limit: u32,
+            out: *mut u16,
+            out_words: usize,
+            work: *mut u16,
+            work_words: usize,
+        ) -> Checked;
+        pub fn cue_expand_twice(
+            book: *const u16,
+            book_words: usize,
+            term: *const u16,
+            term_words: usize,
+            limit: u32,
+            out: *mut u16,
+            out_words: usize,
+            work: *mut u16,
+            work_words: usize,
+            again: *mut u16,
+            again_words: usize,
+            spare: *mut u16,
+            spare_words: usize,
+        ) -> Twice;
     }
 }
 
@@ -104,6 +145,45 @@ pub fn expand(book: &[u16], term: &[u16], limit: u32, out: &mut [u16], work: &mu
             out.len(),
             work.as_mut_ptr(),
             work.len(),
+        )
+    }
+}
+
+pub fn expand_checked(book: &[u16], term: &[u16], limit: u32, out: &mut [u16], work: &mut [u16]) -> Checked {
+    unsafe {
+        c::cue_expand_checked(
+            book.as_ptr(),
+            book.len(),
+            term.as_ptr(),
+            term.len(),
+            limit,
+            out.as_mut_ptr(),
+            out.len(),
+            work.as_mut_ptr(),
+            work.len(),
+        )
+    }
+}
+
+/// The buffers of the first expansion and of the second: answer and work.
+pub fn expand_twice(book: &[u16], term: &[u16], limit: u32, first: [&mut [u16]; 2], second: [&mut [u16]; 2]) -> Twice {
+    let [out, work] = first;
+    let [again, spare] = second;
+    unsafe {
+        c::cue_expand_twice(
+            book.as_ptr(),
+            book.len(),
+            term.as_ptr(),
+            term.len(),
+            limit,
+            out.as_mut_ptr(),
+            out.len(),
+            work.as_mut_ptr(),
+            work.len(),
+            again.as_mut_ptr(),
+            again.len(),
+            spare.as_mut_ptr(),
+            spare.len(),
         )
     }
 }
