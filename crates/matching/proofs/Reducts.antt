@@ -25,7 +25,6 @@ use Rattle.matching.specs.Stretches.{Stretches, matchOf, value, stretche
 use Rattle.matching.proofs.Matched.{instance-nil, instance-symbol, instance-variable, instance-cong, bind-sound}
 use Rattle.matching.proofs.Firsts.{redex-first, redex-rest, Fired, fired, unfired}
 use Rattle.matching.proofs.Stretched.{Answers, answers}
-use Rattle.matching.proofs.Words.{fill-symbol, fill-variable}
 use Rattle.matching.proofs.Books.{well, signature, first-rest, match-start, lawful, rule-count}
 
 -- ---- lengths
@@ -157,20 +156,3 @@ module _ (b : List ℕ) (sh : Shape) (acc : Accepted b sh) where
         go : (o : Found) → m .found ≡ o → ((k : ℕ) → k < length (s .rules) → Matches (s .arities) (a ++ (u ++ d)) (length a) (rule s k) → ⊥) → m .found ≡ Nothing
         go Nothing f h = f
         go (First n rhs size) f h = let c = first-matches f in absurd (h n (c .known) (c .match))
-
--- ---- writing the reduct: after j words of the right side that starts at index `rhs` of the book stands `instance σ (take j (drop rhs b))`
-
-module _ (σ : ℕ → List ℕ) (b : List ℕ) (rhs j w : ℕ) (here : rhs + j < length b) (is : w ≡ getD b (rhs + j) 0) where
-  in-rest : j < length (drop rhs b)
-  in-rest = rw (length-drop rhs b) (omega arith)
-
-  word : getD (drop rhs b) j 0 ≡ w
-  word = getD-drop rhs b j 0 ∙ sym is
-
-  pub written-symbol : w < variable → instance σ (take (j + 1) (drop rhs b)) ≡ instance σ (take j (drop rhs b)) ++ w ∷ []
-  written-symbol h = rw (add-one j) (fill-symbol σ (drop rhs b) j in-rest (rw word h) ∙ ap (λ y. instance σ (take j (drop rhs b)) ++ y ∷ []) word)
-
-  pub written-variable : variable ≤ w → instance σ (take (j + 1) (drop rhs b)) ≡ instance σ (take j (drop rhs b)) ++ σ (w - variable)
-  written-variable h =
-      let e : getD (drop rhs b) j 0 ≡ variable + (w - variable) = (let z = word in omega arith) in
-      rw (add-one j) (fill-variable σ (drop rhs b) j in-rest (w - variable) e)

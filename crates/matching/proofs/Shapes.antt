@@ -20,10 +20,6 @@ pub reads-system : (b : List ℕ) {s : System} {i : ℕ} → read b ≡ ok s i �
 unfolding systemOf
 reads-system b e = e ∙ (λ j. ok (ap systemFrom (sym e) j) (read-sound b e .2 j))
 
--- an accepted book, with its own shape
-pub accepted-of : (b : List ℕ) {s : System} {i : ℕ} → read b ≡ ok s i → Accepted b (shapeOf (read b))
-accepted-of b e = record { accepted = reads-system b e; shaped = refl }
-
 module _ (b : List ℕ) (sh : Shape) (is : sh ≡ shapeOf (read b)) where
   -- by what the reader finds
   accepts : (o : Parsed System) → read b ≡ o → (sh .symbols ≡ 0 → ⊥) → Accepted b sh

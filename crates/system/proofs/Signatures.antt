@@ -2,10 +2,9 @@
 use Prim.Native.Nat.{ℕ, _≤_, _<_}
 use native.Mathlib.Omega.{arith}
 use mathlib.Core.Path.{_≡_, refl}
-use mathlib.Core.Bool.{false}
 use lib.ListN.{length, getD, List·getD-eq-default}
 use lib.Dec.{ltb}
-use borrow.Author.Tests.{lt-ltb, ltb-true, le-ltb}
+use borrow.Author.Tests.{lt-ltb, ltb-true}
 use Rattle.system.specs.Signature.{Signature, Symbol, isSymbol, arity, variable}
 use Rattle.system.specs.System.{System}
 use Rattle.system.specs.Terms.{WellFormed}
@@ -34,10 +33,6 @@ module _ (g : Signature) (w : ℕ) where
   -- a variable is no symbol
   pub symbol-below : length g ≤ variable → Symbol g w → w < variable
   symbol-below l h = let b = lt-symbol h in omega arith
-
-  pub variable-not : length g ≤ variable → variable ≤ w → isSymbol g w ≡ false
-  unfolding isSymbol
-  variable-not l h = le-ltb w (length g) (omega arith)
 
   pub arity-variable : length g ≤ variable → variable ≤ w → arity g w ≡ 0
   arity-variable l h = arity-none (omega arith)
