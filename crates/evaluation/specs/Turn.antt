@@ -22,6 +22,7 @@ entryFrom (suc i) = Argument i
 abbrev pub between : List ℕ → ℕ → ℕ → List ℕ
 between es f c = take (c - f) (drop f es)
 
+-- whether e is one of them
 unfoldable pub among : ℕ → List ℕ → Bool
 among e [] = false
 among e (d ∷ ds) = eqb e d || among e ds
@@ -39,8 +40,9 @@ entryOf es f c =
 abbrev pub sinceAt : ℕ → ℕ → ℕ → ℕ
 sinceAt floor since level = elim (ltb floor level) [ true ↦ 0 | false ↦ since ]
 
--- where a turn leads. An entry is passed over that stood before: the levels around the innermost one, and its begun entries. The rules are to be tried at the innermost level: the levels around it, and its begun entries, the 0 among them.
--- An argument is opened: the levels around it. A level is left: those that are still open. Or an argument would be opened from level 64
+-- where a turn leads: an entry that stood before is passed over, or the rules are to be tried at the innermost level (the levels around
+-- it, and its begun entries, this one among them); an argument is opened (the levels around it); a level is left (those that are still
+-- open); or an argument would be opened from level 64
 pub data Turned : Type 0 where
   passed : List ℕ → ℕ → Turned
   tried : List ℕ → ℕ → Turned
