@@ -1,9 +1,10 @@
 -- Active positions of a whole term: a whole subterm stands at each.
 use Prim.Native.Nat.{ℕ, suc, _≤_, _<_}
 use native.Mathlib.Omega.{arith}
-use mathlib.Core.Path.{_≡_, refl, sym, subst}
+use mathlib.Core.Path.{_≡_, refl, sym, ap, _∙_, subst}
 use mathlib.Core.List.{List, [], _∷_, _++_, append-nil, flatten}
 use lib.ListN.{length, getD, take, drop, List·getD-append}
+use lib.Seq.{drop-at}
 use Rattle.system.specs.Signature.{Signature, Symbol, argument, subterm}
 use Rattle.system.specs.System.{System, strategy, head}
 use Rattle.system.specs.Terms.{Whole, Stands, WellFormed}
@@ -43,6 +44,10 @@ module _ (s : System) where
     pub position : p ≡ length before
     pub whole : Whole g here
     pub has : Q here
+
+  -- the words from p on
+  pub at-parted : {Q : List ℕ → Type 0} {t : List ℕ} {p : ℕ} (x : At Q t p) → drop p t ≡ x .here ++ x .behind
+  at-parted {p} x = ap (drop p) (x .equal) ∙ drop-at (x .before) (x .here ++ x .behind) p (sym (x .position))
 
   -- Q goes down to each argument that stands in the strategy
   abbrev pub Inherited : (List ℕ → Type 0) → Type 0

@@ -7,12 +7,15 @@ use lib.ListN.{length, getD, take, drop, length-append}
 use lib.Seq.{take-all, take-suc, length-take-le, append-snoc}
 use Rattle.buffers.proofs.Over.{part-slice}
 use Rattle.system.specs.declared.Shape.{Shape}
-use Rattle.system.specs.System.{System}
+use Rattle.system.specs.Signature.{span}
+use Rattle.system.specs.System.{System, rule}
 use Rattle.matching.specs.declared.Match.{Match}
+use Rattle.matching.specs.declared.rules.Fit.{Fit}
 use Rattle.matching.specs.declared.Found.the-variants.{Nothing, First}
 use Rattle.matching.specs.Accepted.{systemOf, Accepted}
-use Rattle.matching.specs.Stretches.{matchOf}
-use Rattle.matching.proofs.Reducts.{match-none, match-some}
+use Rattle.matching.specs.Stretches.{ends, matchOf, Fits}
+use Rattle.matching.proofs.Books.{well}
+use Rattle.matching.proofs.Reducts.{match-none, match-some, found-ends}
 use Rattle.evaluation.specs.declared.machine.Advanced.{Advanced}
 use Rattle.evaluation.specs.declared.machine.Turn.{Turn}
 use Rattle.evaluation.specs.declared.machine.Turn.the-variants.{Passed, Tried, Opened, Left, TooDeep}
@@ -22,6 +25,8 @@ use Rattle.evaluation.specs.Area.{area, termIn, outerIn, countIn, Going,
 use Rattle.evaluation.specs.Turn.{Turned, turn, Taken, sinceAt}
 use Rattle.evaluation.specs.Arrival.{Arrived}
 use Rattle.evaluation.proofs.Laws.{entry-at}
+use Rattle.evaluation.proofs.Actives.{at-parted}
+use Rattle.evaluation.proofs.Goings.{going-here}
 use Rattle.evaluation.proofs.Passing as passing
 use Rattle.evaluation.proofs.Passing.{Passes, passed-start, passed-again, passed-more, passed-open, passed-left}
 use Rattle.evaluation.proofs.Turns.{turns, turns-pop, turns-pass, turns-open}
@@ -274,9 +279,12 @@ module _ (b : List ℕ) (sh : Shape) (acc : Accepted b sh) (ws₀ : List ℕ) (n
         let y : p ≡ here = ap (λ y. getD y level 0) (tries .same-positions) ∙ spot b sh acc ws positions n level (v .state) in
         part-slice p (n - p) ws′ ∙ ap (λ y. drop p (take y ws′)) z ∙ (λ j. drop (y j) (term′ outer (suc c) level (tries .is) (tries .state) levels j))
 
-    module _ (m : Match) (found : m ≡ matchOf s (take (n - p) (drop p ws′))) where
+    module _ (fit : Fit) (fits : Fits s (take (n - p) (drop p ws′)) fit) where
+      abbrev m : Match
+      m = fit .found
+
       found-here : m ≡ matchOf s (drop here t)
-      found-here = found ∙ ap (matchOf s) front
+      found-here = fits .match ∙ ap (matchOf s) front
 
       -- none matches
       pub goes-tried : m .found ≡ Nothing → Goes s ws₀ n start ws level ws′ positions′ level floor since
@@ -285,12 +293,21 @@ module _ (b : List ℕ) (sh : Shape) (acc : Accepted b sh) (ws₀ : List ℕ) (n
           over-it (x .more) (x .is) (x .holds)
           (subst (Passes s t (63 - length outer) here) (sym (x .entry)) (match-none b sh acc (drop here t) m found-here q))
 
-      -- one matches: a rewrite is next
+      -- one matches: its left side takes the words of the subterm
+      width-here : {i rhs size : ℕ} → m .found ≡ First i rhs size → fit .width ≡ span (s .arities) (drop here t) 1
+      width-here {i} {rhs} {size} f =
+          let x = going-here s (well b sh acc) t outer c going in
+          let e = at-parted s x in
+          fits .width i rhs size f ∙ ap (λ y. ends (s .arities) (rule s i .lhs) y 0) (front ∙ e)
+          ∙ found-ends b sh acc (x .before) (x .behind) (x .whole) m (found-here ∙ ap (matchOf s) e) f
+          ∙ ap (λ y. span (s .arities) y 1) (sym e)
+
+      -- a rewrite is next
       pub arrives-ready : (i rhs size : ℕ) → m .found ≡ First i rhs size →
-          Arrived s (termIn ws₀ n) n (comes s ws₀ n start) (record { stop = Ready; level = level; found = m }) ws′ positions′
+          Arrived s (termIn ws₀ n) n (comes s ws₀ n start) (record { stop = Ready; level = level; found = m; width = fit .width }) ws′ positions′
       arrives-ready i rhs size f =
           let x = tries in
           let q = match-some b sh acc (drop here t) m found-here f in
           let y : advance s 64 (outer ++ c ∷ []) t 0 ≡ ready outer (suc c) _ = advance-fire s t 64 0 outer c (going .room) (x .more) _ (x .entry) q in
-          subst₂ (λ u z. Arrived s u n z (record { stop = Ready; level = level; found = m }) ws′ positions′) (v .term) (sym y ∙ v .same)
-          (refl, sym levels, found-here, q, x .is, x .state)
+          subst₂ (λ u z. Arrived s u n z (record { stop = Ready; level = level; found = m; width = fit .width }) ws′ positions′) (v .term) (sym y ∙ v .same)
+          (refl, sym levels, found-here, q, x .is, x .state, width-here f)

@@ -9,12 +9,10 @@ use lib.ListN.{length, getD, take, drop, length-append, length-drop}
 use lib.Seq.{sets-eq, drop-at, take-at, drop-drop, length-take-le}
 use borrow.Author.Tests.{lt-ltb, le-ltb}
 use Rattle.buffers.specs.Words.{part, over, zeros, pad, splice}
-use Rattle.buffers.proofs.Over.{part-slice}
 use Rattle.buffers.proofs.Pads.{length-zeros, length-pad, zeros-append, drop-zeros, pad-zero}
 use Rattle.system.specs.declared.Shape.{Shape}
 use Rattle.system.specs.Signature.{Signature, Symbol, variable, span, replace}
 use Rattle.system.specs.System.{System}
-use Rattle.system.specs.Answers.{signatureOf}
 use Rattle.system.proofs.Forests.{span-forest}
 use Rattle.system.proofs.Places.{replace-length}
 use Rattle.matching.specs.declared.Match.{Match}
@@ -23,13 +21,13 @@ use Rattle.matching.specs.Accepted.{systemOf, Accepted}
 use Rattle.matching.specs.Matching.{Redex, redex}
 use Rattle.matching.specs.Stretches.{matchOf, reductLength, RightSide, Within}
 use Rattle.matching.proofs.Firsts.{redex-rest}
-use Rattle.matching.proofs.Books.{well, signature}
+use Rattle.matching.proofs.Books.{well}
 use Rattle.matching.proofs.Reducts.{match-right, match-within, match-none, match-some, match-length}
 use Rattle.evaluation.specs.Machine.{down, position}
 use Rattle.evaluation.specs.Rewriting.{root}
 use Rattle.evaluation.specs.Area.{area, termIn, outerIn, countIn, Stored}
 use Rattle.evaluation.specs.Rewritten.{rewritten, Rewritten, done, long, side, filled, Behind, Room, replaced}
-use Rattle.evaluation.proofs.Actives.{At, active-whole}
+use Rattle.evaluation.proofs.Actives.{At, at-parted, active-whole}
 use Rattle.evaluation.proofs.Done.{whole-within}
 use Rattle.evaluation.proofs.Laws.{down-lt}
 use Rattle.evaluation.proofs.Goings.{opened-active}
@@ -92,14 +90,15 @@ module _ (t cs : List ℕ) (h : length t ≤ 4096) where
 
 -- ---- the state before the rewrite
 
--- the match m was found at p, the position of the innermost level
-pub record Before (b : List ℕ) (sh : Shape) (ws : List ℕ) (n level p : ℕ) (m : Match) : Type 0 where
+-- the match m was found at p, the position of the innermost level, in a subterm of `width` words
+pub record Before (b : List ℕ) (sh : Shape) (ws : List ℕ) (n level p : ℕ) (m : Match) (width : ℕ) : Type 0 where
   pub accepted : Accepted b sh
   pub stored : Stored (systemOf b) ws n level
   pub place : p ≡ position (systemOf b) (termIn ws n) (outerIn ws level) 0
   pub match : m ≡ matchOf (systemOf b) (drop p (termIn ws n))
+  pub wide : width ≡ span (systemOf b .arities) (drop p (termIn ws n)) 1
 
-module _ {b : List ℕ} {sh : Shape} {ws : List ℕ} {n level p : ℕ} {m : Match} (before : Before b sh ws n level p m) where
+module _ {b : List ℕ} {sh : Shape} {ws : List ℕ} {n level p : ℕ} {m : Match} {width : ℕ} (before : Before b sh ws n level p m width) where
   acc : Accepted b sh
   acc = before .accepted
 
@@ -111,6 +110,9 @@ module _ {b : List ℕ} {sh : Shape} {ws : List ℕ} {n level p : ℕ} {m : Matc
 
   is : m ≡ matchOf (systemOf b) (drop p (termIn ws n))
   is = before .match
+
+  width-is : width ≡ span (systemOf b .arities) (drop p (termIn ws n)) 1
+  width-is = before .wide
 
   abbrev s : System
   s = systemOf b
@@ -142,105 +144,97 @@ module _ {b : List ℕ} {sh : Shape} {ws : List ℕ} {n level p : ℕ} {m : Matc
       ap length (stored .equal) ∙ area-length t (outerIn ws level ++ countIn ws level ∷ []) (stored .going .bounded)
       (rw (length-append (outerIn ws level) (countIn ws level ∷ [])) (let z = stored .going .room in omega arith))
 
-  -- the words from p on, as the code lends them
-  tail-words : take (n - p) (drop p ws) ≡ drop p t
-  tail-words = let e : p + (n - p) ≡ n = (let z = within in omega arith) in part-slice p (n - p) ws ∙ ap (λ y. drop p (take y ws)) e
+  -- the subterm's words
+  abbrev u : List ℕ
+  u = part p width ws
 
-  module _ (width : ℕ) (spanned : width ≡ span (signatureOf b) (take (n - p) (drop p ws)) 1) where
-    width-is : width ≡ span g (drop p t) 1
-    width-is = spanned ∙ ap (λ y. span y (take (n - p) (drop p ws)) 1) (sym (signature b sh acc)) ∙ ap (λ y. span g y 1) tail-words
+  parted : drop p t ≡ subterm-here .here ++ subterm-here .behind
+  parted = at-parted s subterm-here
 
-    -- the subterm's words
-    abbrev u : List ℕ
-    u = part p width ws
+  width-here : width ≡ length (subterm-here .here)
+  width-here = let x = subterm-here in width-is ∙ ap (λ y. span g y 1) parted ∙ span-forest g (Symbol g) (x .behind) (x .whole)
 
-    parted : drop p t ≡ subterm-here .here ++ subterm-here .behind
-    parted = let x = subterm-here in ap (drop p) (x .equal) ∙ drop-at (x .before) (x .here ++ x .behind) p (sym (x .position))
+  pub ends : p + width ≤ n
+  ends =
+      let x = subterm-here in
+      let z = ap length parted in
+      let y = length-append (x .here) (x .behind) in
+      omega (arith, length-drop p t, stored .words, width-here, within)
 
-    width-here : width ≡ length (subterm-here .here)
-    width-here = let x = subterm-here in width-is ∙ ap (λ y. span g y 1) parted ∙ span-forest g (Symbol g) (x .behind) (x .whole)
+  u-is : u ≡ subterm-here .here
+  u-is =
+      let x = subterm-here in
+      sym (part-take ws n p width ends) ∙ ap (take width) parted ∙ take-at (x .here) (x .behind) width (sym width-here)
 
-    ends : p + width ≤ n
-    ends =
-        let x = subterm-here in
-        let z = ap length parted in
-        let y = length-append (x .here) (x .behind) in
-        omega (arith, length-drop p t, stored .words, width-here, within)
+  width-some : 0 < width
+  width-some = (let x = subterm-here in let z = whole-within s [] [] (x .whole) in let y = length-append (x .here) [] in omega (arith, width-here))
 
-    u-is : u ≡ subterm-here .here
-    u-is =
-        let x = subterm-here in
-        sym (part-take ws n p width ends) ∙ ap (take width) parted ∙ take-at (x .here) (x .behind) width (sym width-here)
+  pub room : (k : ℕ) → n - width + k ≤ 4096 → Room ws n level p width k
+  room k f = record {
+    words = area-words;
+    bounded = bounded;
+    zeroed = subst (λ y. drop n (take 4096 y) ≡ zeros (4096 - n)) (sym (stored .equal)) (area-zeros t _ (stored .going .bounded) n (stored .words));
+    some = width-some;
+    within = ends;
+    around = around;
+    fits = f;
+  }
 
-    width-some : 0 < width
-    width-some = (let x = subterm-here in let z = whole-within s [] [] (x .whole) in let y = length-append (x .here) [] in omega (arith, width-here))
+  -- what was found at p was found in the subterm
+  match-here : m ≡ matchOf s u
+  match-here =
+      let x = subterm-here in
+      is ∙ ap (matchOf s) parted ∙ match-rest s (well b sh acc) (x .behind) (x .whole) ∙ ap (matchOf s) (sym u-is)
 
-    pub room : (k : ℕ) → n - width + k ≤ 4096 → Room ws n level p width k
-    room k f = record {
-      words = area-words;
-      bounded = bounded;
-      zeroed = subst (λ y. drop n (take 4096 y) ≡ zeros (4096 - n)) (sym (stored .equal)) (area-zeros t _ (stored .going .bounded) n (stored .words));
-      some = width-some;
-      within = ends;
-      around = around;
-      fits = f;
-    }
+  pub stretches-inside : Within u (m .starts) (m .lengths)
+  stretches-inside = match-within b sh acc u m match-here
 
-    -- what was found at p was found in the subterm
-    match-here : m ≡ matchOf s u
-    match-here =
-        let x = subterm-here in
-        is ∙ ap (matchOf s) parted ∙ match-rest s (well b sh acc) (x .behind) (x .whole) ∙ ap (matchOf s) (sym u-is)
+  redex-here : redex s (drop p t) ≡ redex s u
+  redex-here =
+      let x = subterm-here in
+      ap (redex s) parted ∙ redex-rest s (well b sh acc) (x .whole) (x .behind) ∙ ap (redex s) (sym u-is)
 
-    pub stretches-inside : Within u (m .starts) (m .lengths)
-    stretches-inside = match-within b sh acc u m match-here
+  module _ {number rhs size : ℕ} (found : m .found ≡ First number rhs size) where
+    abbrev ls : List ℕ
+    ls = side b rhs size
 
-    redex-here : redex s (drop p t) ≡ redex s u
-    redex-here =
-        let x = subterm-here in
-        ap (redex s) parted ∙ redex-rest s (well b sh acc) (x .whole) (x .behind) ∙ ap (redex s) (sym u-is)
+    abbrev v : List ℕ
+    v = filled u (m .starts) (m .lengths) ls
 
-    module _ {number rhs size : ℕ} (found : m .found ≡ First number rhs size) where
-      abbrev ls : List ℕ
-      ls = side b rhs size
+    redex-found : redex s (drop p t) ≡ some (record { number = number; reduct = v })
+    redex-found = redex-here ∙ match-some b sh acc u m match-here found
 
-      abbrev v : List ℕ
-      v = filled u (m .starts) (m .lengths) ls
+    reduct-is : (x : Redex) → redex s (drop p t) ≡ some x → x .reduct ≡ v
+    reduct-is x e = let z : record { number = number; reduct = v } ≡ x = cc redex-found in ap (λ y. y .reduct) (sym z)
 
-      redex-found : redex s (drop p t) ≡ some (record { number = number; reduct = v })
-      redex-found = redex-here ∙ match-some b sh acc u m match-here found
+    module _ (k : ℕ) (counted : k ≡ reductLength (m .lengths) ls) (x : Redex) (e : redex s (drop p t) ≡ some x) where
+      v-length : length v ≡ k
+      v-length = match-length b sh acc u m match-here rhs size ∙ sym counted
 
-      reduct-is : (x : Redex) → redex s (drop p t) ≡ some x → x .reduct ≡ v
-      reduct-is x e = let z : record { number = number; reduct = v } ≡ x = cc redex-found in ap (λ y. y .reduct) (sym z)
+      rewritten-length : length (rewritten s ws n p x) ≡ n - width + k
+      rewritten-length =
+          let z = replace-length g t (x .reduct) p (rw (← width-is, stored .words) ends) in
+          let y = ap length (reduct-is x e) ∙ v-length in
+          omega (arith, width-is, stored .words, ends)
 
-      module _ (k : ℕ) (counted : k ≡ reductLength (m .lengths) ls) (x : Redex) (e : redex s (drop p t) ≡ some x) where
-        v-length : length v ≡ k
-        v-length = match-length b sh acc u m match-here rhs size ∙ sym counted
+      pub too-long : 4096 < n - width + k → Rewritten s ws n level p x 0 ws
+      too-long h = long (omega (arith, rewritten-length)) refl refl
 
-        rewritten-length : length (rewritten s ws n p x) ≡ n - width + k
-        rewritten-length =
-            let z = replace-length g t (x .reduct) p (rw (← width-is, stored .words) ends) in
-            let y = ap length (reduct-is x e) ∙ v-length in
-            omega (arith, width-is, stored .words, ends)
+      spliced : splice (take n ws) p width v ≡ rewritten s ws n p x
+      unfolding replace
+      spliced = rw (append-assoc (take p t) v (drop (p + width) t), reduct-is x e, ← width-is)
 
-        pub too-long : 4096 < n - width + k → Rewritten s ws n level p x 0 ws
-        too-long h = long (omega (arith, rewritten-length)) refl refl
-
-        spliced : splice (take n ws) p width v ≡ rewritten s ws n p x
-        unfolding replace
-        spliced = rw (append-assoc (take p t) v (drop (p + width) t), reduct-is x e, ← width-is)
-
-        pub rewrites : n - width + k ≤ 4096 → (ws′ : List ℕ) → ws′ ≡ replaced ws n level p width v → Rewritten s ws n level p x (n - width + k) ws′
-        unfolding area
-        rewrites f ws′ q =
-            let z = around in
-            let y = ends in
-            let a = bounded in
-            done (omega (arith, rewritten-length)) (sym rewritten-length) (
-            q ∙ ap (λ y. pad 4096 y ++ over (drop 4096 ws) level (zeros width)) spliced
-            ∙ ap (λ y. pad 4096 (rewritten s ws n p x) ++ y) (
-            ap (λ y. over y level (zeros width)) (ap (drop 4096) (stored .equal) ∙ area-right t (outerIn ws level ++ countIn ws level ∷ []) (stored .going .bounded))
-            ∙ counts-cleared 4096 (outerIn ws level) (countIn ws level) level width (stored .levels) width-some (omega arith)))
+      pub rewrites : n - width + k ≤ 4096 → (ws′ : List ℕ) → ws′ ≡ replaced ws n level p width v → Rewritten s ws n level p x (n - width + k) ws′
+      unfolding area
+      rewrites f ws′ q =
+          let z = around in
+          let y = ends in
+          let a = bounded in
+          done (omega (arith, rewritten-length)) (sym rewritten-length) (
+          q ∙ ap (λ y. pad 4096 y ++ over (drop 4096 ws) level (zeros width)) spliced
+          ∙ ap (λ y. pad 4096 (rewritten s ws n p x) ++ y) (
+          ap (λ y. over y level (zeros width)) (ap (drop 4096) (stored .equal) ∙ area-right t (outerIn ws level ++ countIn ws level ∷ []) (stored .going .bounded))
+          ∙ counts-cleared 4096 (outerIn ws level) (countIn ws level) level width (stored .levels) width-some (omega arith)))
 
   pub stretches-behind : Behind (m .starts) (m .lengths)
   stretches-behind = rw is (match-behind s (well b sh acc) (drop p t))

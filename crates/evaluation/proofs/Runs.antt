@@ -8,7 +8,7 @@ use mathlib.Core.List.{List, [], _∷_, _++_}
 use lib.ListN.{length, getD, take, drop}
 use lib.Seq.{take-all}
 use Rattle.buffers.specs.Words.{zeros, pad}
-use Rattle.system.specs.Signature.{replace}
+use Rattle.system.specs.Signature.{span, replace}
 use Rattle.system.specs.System.{System}
 use Rattle.system.specs.Terms.{Whole, WellFormed}
 use Rattle.system.proofs.Accepts.{forest-some}
@@ -63,12 +63,13 @@ pub record Running (s : System) (limit : ℕ) (t₀ ws positions : List ℕ) (n 
   pub same : resume s limit 64 (outerIn ws level ++ countIn ws level ∷ []) 0 (record { term = termIn ws n; steps = steps }) ≡ evaluation s limit t₀
 
 -- just before a rewrite
-pub record Before (s : System) (limit : ℕ) (t₀ ws positions : List ℕ) (n level steps : ℕ) (m : Match) : Type 0 where
+pub record Before (s : System) (limit : ℕ) (t₀ ws positions : List ℕ) (n level steps : ℕ) (m : Match) (width : ℕ) : Type 0 where
   pub holds : Holds s ws positions n level
   pub afford : steps ≤ limit
   pub x : Redex
   pub found : m ≡ matchOf s (drop (position s (termIn ws n) (outerIn ws level) 0) (termIn ws n))
   pub matched : redex s (drop (position s (termIn ws n) (outerIn ws level) 0) (termIn ws n)) ≡ some x
+  pub wide : width ≡ span (s .arities) (drop (position s (termIn ws n) (outerIn ws level) 0) (termIn ws n)) 1
   pub same : rewrite s limit (position s (termIn ws n) (outerIn ws level) 0) (record { term = termIn ws n; steps = steps }) x (λ r′. resume s limit 64 (outerIn ws level ++ 0 ∷ []) 0 r′) ≡ evaluation s limit t₀
 
 -- an area that was made from a state
@@ -143,10 +144,10 @@ module _ (s : System) (wf : WellFormed s) (limit : ℕ) (t₀ ws positions : Lis
         go deep h k = (sym (v .same) ∙ k, stored-laid s ws′ n (a .level) (h .1))
         go (ready outer c x) h k = absurd (let z : _≡_ {A = ℕ} 0 1 = cc in omega arith)
 
-    pub comes-before : Came (advance s 64 state (termIn ws n) 0) → a .stop ≡ Ready → Before s limit t₀ ws′ positions′ n (a .level) steps (a .found)
+    pub comes-before : Came (advance s 64 state (termIn ws n) 0) → a .stop ≡ Ready → Before s limit t₀ ws′ positions′ n (a .level) steps (a .found) (a .width)
     comes-before h e = go (advance s 64 state (termIn ws n) 0) h (reached s wf limit r 64 state 0)
       where
-        go : (x : Next) → Came x → Reached s wf limit r 64 state 0 x → Before s limit t₀ ws′ positions′ n (a .level) steps (a .found)
+        go : (x : Next) → Came x → Reached s wf limit r 64 state 0 x → Before s limit t₀ ws′ positions′ n (a .level) steps (a .found) (a .width)
         go finished h k = absurd (let z : _≡_ {A = ℕ} 0 1 = cc in omega arith)
         go deep h k = absurd (let z : _≡_ {A = ℕ} 0 1 = cc in omega arith)
         go (ready outer c x) h k =
@@ -159,11 +160,12 @@ module _ (s : System) (wf : WellFormed s) (limit : ℕ) (t₀ ws positions : Lis
               x = x;
               found = rw (et, eo) (h .2);
               matched = rw (et, eo) (h .3);
+              wide = rw (et, eo) (h .6);
               same = rw (et, eo) (sym (k .1) ∙ v .same);
             }
 
   -- ---- where a rewrite is next
-  module _ (m : Match) (b : Before s limit t₀ ws positions n level steps m) where
+  module _ (m : Match) (width : ℕ) (b : Before s limit t₀ ws positions n level steps m width) where
     abbrev t : List ℕ
     t = termIn ws n
 

@@ -4,6 +4,7 @@ use mathlib.Core.Path.{_≡_}
 use mathlib.Core.Option.{some}
 use mathlib.Core.List.{List, [], _∷_, _++_}
 use lib.ListN.{length, drop}
+use Rattle.system.specs.Signature.{span}
 use Rattle.system.specs.System.{System}
 use Rattle.matching.specs.Matching.{redex}
 use Rattle.matching.specs.Stretches.{matchOf}
@@ -23,4 +24,5 @@ Arrived s t n (ready outer c x) r ws positions =
     (r .found ≡ matchOf s (drop (position s t outer 0) t)) ×
     (redex s (drop (position s t outer 0) t) ≡ some x) ×
     (ws ≡ area t (outer ++ c ∷ [])) ×
-    Holds s ws positions n (r .level)
+    Holds s ws positions n (r .level) ×
+    (r .width ≡ span (s .arities) (drop (position s t outer 0) t) 1)

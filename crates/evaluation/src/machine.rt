@@ -23,11 +23,13 @@ pub enum Stop {
     Ready,
 }
 
-// Where it came to, how many levels stand around the innermost one there, and the rule that matches if a rewrite is next.
+// Where it came to, how many levels stand around the innermost one there, and if a rewrite is next the rule that matches and how many words
+// the subterm has.
 pub struct Advanced {
     pub stop: Stop,
     pub level: usize,
     pub found: Match,
+    pub width: usize,
 }
 
 // A turn: an entry that stood before was passed over, the rules are to be tried at the innermost level, an argument was opened, a level was
@@ -120,7 +122,8 @@ pub fn advance(
             Turn::Passed => {}
             Turn::Tried => {
                 let p = positions[level];
-                let m = first_rule(book, shape, &area[p..n]);
+                let fit = first_rule(book, shape, &area[p..n]);
+                let m = fit.found;
                 let found = m.found;
                 match found {
                     Found::Nothing => {}
@@ -129,6 +132,7 @@ pub fn advance(
                             stop: Stop::Ready,
                             level,
                             found: m,
+                            width: fit.width,
                         };
                     }
                 }
@@ -164,5 +168,6 @@ fn stopped(stop: Stop, level: usize) -> Advanced
             starts: [0; 16],
             lengths: [0; 16],
         },
+        width: 0,
     }
 }

@@ -4,6 +4,7 @@ ghost use mathlib.Core.Option.{some};
 ghost use Prim.Native.Nat.{_+_, _-_, _≤_};
 ghost use lib.ListN.{length, drop};
 ghost use Rattle.buffers.specs.Words.{part, over, zeros};
+ghost use Rattle.system.specs.Signature.{span};
 ghost use Rattle.matching.specs.Accepted.{systemOf, Accepted};
 ghost use Rattle.matching.specs.Matching.{Redex, redex};
 ghost use Rattle.matching.specs.Stretches.{matchOf, reductLength, RightSide, Within};
@@ -17,7 +18,6 @@ use matching::Match;
 use matching::rules::VARIABLE;
 use matching::rules::reduct_length;
 use system::Shape;
-use system::words::span;
 use system::words::wide;
 
 // Moves n words; where they stay where they are, nothing is done.
@@ -101,8 +101,8 @@ fn replace_subterm(
     clear(area, base, width);
 }
 
-// Puts the reduct of the match m for the subterm at p, the position of the innermost level, and starts that level anew. It answers how
-// many words the term has then; 0, with the area unchanged, where they would be more than 4,096.
+// Puts the reduct of the match m for the subterm at p, of `width` words, the position of the innermost level, and starts that level anew. It
+// answers how many words the term has then; 0, with the area unchanged, where they would be more than 4,096.
 //
 // While the reduct is written the subterm's words, but for its first, stand behind the counts: at `level` levels around the innermost
 // one the term has at least as many words before the subterm, so there is always room.
@@ -114,9 +114,10 @@ pub fn rewrite(
     level: usize,
     p: usize,
     m: Match,
+    width: usize,
 ) -> usize
     requires { ⌜ Accepted (now book) shape × Stored (systemOf (now book)) (now area) n level ⌝ }
-    requires { ⌜ (p ≡ position (systemOf (now book)) (termIn (now area) n) (outerIn (now area) level) 0) × (m ≡ matchOf (systemOf (now book)) (drop p (termIn (now area) n))) ⌝ }
+    requires { ⌜ (p ≡ position (systemOf (now book)) (termIn (now area) n) (outerIn (now area) level) 0) × (m ≡ matchOf (systemOf (now book)) (drop p (termIn (now area) n))) × (width ≡ span (systemOf (now book) .arities) (drop p (termIn (now area) n)) 1) ⌝ }
     requires { ⌜ ((x : Redex) × (redex (systemOf (now book)) (drop p (termIn (now area) n)) ≡ some x)) ⌝ }
     ensures { λ r. ⌜ ((x : Redex) → redex (systemOf (now (book .entry))) (drop p (termIn (now (area .entry)) n)) ≡ some x → Rewritten (systemOf (now (book .entry))) (now (area .entry)) n level p x r (now (area .exit))) ⌝ }
 {
@@ -130,7 +131,6 @@ pub fn rewrite(
             rhs,
             size,
         } => {
-            let width = span(book, &area[p..n]);
             let starts = m.starts;
             let lengths = m.lengths;
             let k = reduct_length(book, rhs, size, lengths);

@@ -80,7 +80,7 @@ pub fn run(book: &[u16], shape: Shape, term: &[u16], limit: u32, area: &mut [u16
                 }
                 level = a.level;
                 let m = a.found;
-                let k = rewrite(book, shape, area, n, level, positions[level], m);
+                let k = rewrite(book, shape, area, n, level, positions[level], m, a.width);
                 if k == 0 {
                     clear_state(area, n, level);
                     return outcome(12, 0, steps);

@@ -9,6 +9,7 @@ pub mod Books
 pub mod Standings
 pub mod Shapes
 pub mod MatchSteps
+pub mod Widths
 pub mod Searches
 pub mod Reducts
 -- The strategy test

@@ -11,20 +11,22 @@ use lib.ListN.{length, getD, take, drop, length-append, length-drop, length-take
 use lib.Seq.{drop-cons, getD-take, getD-drop, length-take-le}
 use borrow.Author.Tests.{lt-ltb, le-ltb}
 use Rattle.system.specs.declared.Shape.{Shape}
-use Rattle.system.specs.Signature.{variable}
+use Rattle.system.specs.Signature.{Symbol, variable, span}
 use Rattle.system.specs.System.{System, rule, instance}
-use Rattle.system.specs.Terms.{Whole}
+use Rattle.system.specs.Terms.{Whole, Lawful}
 use Rattle.system.specs.Answers.{signatureOf}
 use Rattle.system.proofs.Signatures.{few-symbols}
+use Rattle.system.proofs.Forests.{span-forest}
 use Rattle.matching.specs.declared.Match.{Match}
 use Rattle.matching.specs.declared.Found.{Found}
 use Rattle.matching.specs.declared.Found.the-variants.{Nothing, First}
 use Rattle.matching.specs.Accepted.{systemOf, Accepted}
 use Rattle.matching.specs.Matching.{Matches, bind, redex}
-use Rattle.matching.specs.Stretches.{Stretches, matchOf, value, stretchesOf, redexOf, reductLength, RightSide, Within}
+use Rattle.matching.specs.Stretches.{Stretches, ends, matchOf, value, stretchesOf, redexOf, reductLength, RightSide, Within}
 use Rattle.matching.proofs.Matched.{instance-nil, instance-symbol, instance-variable, instance-cong, bind-sound}
 use Rattle.matching.proofs.Firsts.{redex-first, redex-rest, Fired, fired, unfired}
-use Rattle.matching.proofs.Stretched.{Answers, answers}
+use Rattle.matching.proofs.Stretched.{Chosen, Answers, answers}
+use Rattle.matching.proofs.Widths.{ends-bound}
 use Rattle.matching.proofs.Books.{well, signature, first-rest, match-start, lawful, rule-count}
 
 -- ---- lengths
@@ -136,18 +138,30 @@ module _ (b : List ℕ) (sh : Shape) (acc : Accepted b sh) where
         Fired s (well b sh acc) whole a d (record { number = n; reduct = instance (value (u ++ d) (stretchesOf m)) (take size (drop rhs b)) })
     first-matches f = fired s (well b sh acc) whole a d _ (sym (redex-rest s (well b sh acc) whole d) ∙ match-some (u ++ d) m e f)
 
+    -- what its left side is bound to
+    module _ {n rhs size : ℕ} (f : m .found ≡ First n rhs size) where
+      abbrev c : Chosen b (u ++ d) (signatureOf b) (s .rules) 0 n (stretchesOf (matchOf s (u ++ d)))
+      c = found (u ++ d) .chosen n rhs size (ap (λ y. y .found) (sym e) ∙ f)
+
+      law : Lawful (s .arities) (rule s n)
+      law = well b sh acc .lawful n (first-matches f .known)
+
+      bound : bind (s .arities) (rule s n .lhs) (u ++ d) [] ≡ some (c .σ)
+      bound =
+          let i : c .index ≡ n = (let q = c .number in omega arith) in
+          ap (λ y. bind y (rule s n .lhs) (u ++ d) []) (signature b sh acc) ∙ subst (λ y. bind (signatureOf b) (rule s y .lhs) (u ++ d) [] ≡ some (c .σ)) i (c .bound)
+
+    -- its left side takes the subterm's words, all of them
+    pub found-ends : {n rhs size : ℕ} → m .found ≡ First n rhs size → ends (s .arities) (rule s n .lhs) (u ++ d) 0 ≡ span (s .arities) (u ++ d) 1
+    found-ends f =
+        let z = ends-bound (s .arities) (few-symbols s (well b sh acc)) d 0 [] (c f .σ) (law f .left) whole (bound f) in
+        omega (arith, span-forest (s .arities) (Symbol (s .arities)) d whole)
+
     -- the words of the stretches fill its left side to the subterm
     pub found-instance : {n rhs size : ℕ} → m .found ≡ First n rhs size → instance (value (u ++ d) (stretchesOf m)) (rule s n .lhs) ≡ u
-    found-instance {n} {rhs} {size} f =
-        let w = well b sh acc in
-        let c = found (u ++ d) .chosen n rhs size (ap (λ y. y .found) (sym e) ∙ f) in
-        let z = first-matches f .known in
-        let i : c .index ≡ n = (let q = c .number in omega arith) in
-        let law = w .lawful n z in
-        let q : bind (s .arities) (rule s n .lhs) (u ++ d) [] ≡ some (c .σ) =
-        ap (λ y. bind y (rule s n .lhs) (u ++ d) []) (signature b sh acc) ∙ subst (λ y. bind (signatureOf b) (rule s y .lhs) (u ++ d) [] ≡ some (c .σ)) i (c .bound) in
-        instance-cong (value (u ++ d) (stretchesOf m)) (λ v. getD (c .σ) v []) (rule s n .lhs) (λ v k st y. ap (λ x. value (u ++ d) (stretchesOf x) k) e ∙ sym (c .reads .values k))
-        ∙ bind-sound (s .arities) (few-symbols s w) d [] (c .σ) (law .left) (law .numbered) whole refl q .filled
+    found-instance {n} f =
+        instance-cong (value (u ++ d) (stretchesOf m)) (λ v. getD (c f .σ) v []) (rule s n .lhs) (λ v k st y. ap (λ x. value (u ++ d) (stretchesOf x) k) e ∙ sym (c f .reads .values k))
+        ∙ bind-sound (s .arities) (few-symbols s (well b sh acc)) d [] (c f .σ) (law f .left) (law f .numbered) whole refl (bound f) .filled
 
     -- so a rule is found exactly if some rule matches
     pub found-exactly : (m .found ≡ Nothing) ↔ ((k : ℕ) → k < length (s .rules) → Matches (s .arities) (a ++ (u ++ d)) (length a) (rule s k) → ⊥)

@@ -13,9 +13,10 @@ use Rattle.matching.specs.declared.Found.{Found}
 use Rattle.matching.specs.declared.Found.the-variants.{Nothing, First}
 use Rattle.matching.specs.declared.rules.Place.{Place}
 use Rattle.matching.specs.Accepted.{systemOf, Accepted}
-use Rattle.matching.specs.Stretches.{Stretches, unset, takes, note, stretches, matchFrom, matchOf}
-use Rattle.matching.proofs.Books.{Rest, Here, Turn, rule-count, first-rest, match-start}
+use Rattle.matching.specs.Stretches.{Stretches, unset, takes, note, stretches, ends, matchFrom, matchOf, Fits}
+use Rattle.matching.proofs.Books.{Rest, Here, Turn, signature, rule-count, first-rest, match-start}
 use Rattle.matching.proofs.MatchSteps.{tail, note-symbol, note-variable, words-end, words-stop, words-next, rules-end, rules-next, rules-here}
+use Rattle.matching.proofs.Widths.{ends-done, ends-next}
 
 -- no rule before number k matched
 pub record Searched (b : List ℕ) (sh : Shape) (ws : List ℕ) (found : Found) (starts lengths : List ℕ) (k at : ℕ) : Type 0 where
@@ -34,16 +35,19 @@ pub record Walked (b ws : List ℕ) (k width j q : ℕ) (starts lengths : List �
   pub size-lengths : length lengths ≡ 16
   pub goes : stretches (signatureOf b) (drop j (rule (systemOf b) k .lhs)) (drop q ws) q (record { starts = starts; lengths = lengths }) ≡
       stretches (signatureOf b) (rule (systemOf b) k .lhs) ws 0 unset
+  pub ending : ends (signatureOf b) (drop j (rule (systemOf b) k .lhs)) (drop q ws) q ≡ ends (signatureOf b) (rule (systemOf b) k .lhs) ws 0
 
 module _ {b : List ℕ} {sh : Shape} (acc : Accepted b sh) where
   pub search-starts : (ws : List ℕ) → Searched b sh ws Nothing (unset .starts) (unset .lengths) 0 (sh .«first_rule»)
   search-starts ws = record { inside = omega arith; none-found = refl; no-starts = refl; no-lengths = refl; rest = first-rest b sh acc; goes = match-start b sh acc ws }
 
-  pub search-ends : {ws : List ℕ} {found : Found} {starts lengths : List ℕ} {k at : ℕ} → Searched b sh ws found starts lengths k at → sh .rules ≤ k →
-      record { found = found; starts = starts; lengths = lengths } ≡ matchOf (systemOf b) ws
-  search-ends {ws} {k} {at} so h =
-      rw (so .none-found, so .no-starts, so .no-lengths)
-      (sym (rules-end (signatureOf b) (systemOf b .rules) k at ws (omega (arith, rule-count b sh acc))) ∙ so .goes)
+  pub search-ends : {ws : List ℕ} {found : Found} {starts lengths : List ℕ} {k at : ℕ} (end : ℕ) → Searched b sh ws found starts lengths k at → sh .rules ≤ k →
+      Fits (systemOf b) ws (record { found = record { found = found; starts = starts; lengths = lengths }; width = end })
+  search-ends {ws} {k} {at} end so h = record {
+    match = rw (so .none-found, so .no-starts, so .no-lengths)
+        (sym (rules-end (signatureOf b) (systemOf b .rules) k at ws (omega (arith, rule-count b sh acc))) ∙ so .goes);
+    width = λ n rhs size e. absurd (let z : _≡_ {A = ℕ} 0 1 = cc (so .none-found) in omega arith);
+  }
 
 module _ {b : List ℕ} {sh : Shape} {k at : ℕ} {p : Place} (t : Turn b sh k at p) where
   abbrev h : Here b k at p
@@ -54,7 +58,7 @@ module _ {b : List ℕ} {sh : Shape} {k at : ℕ} {p : Place} (t : Turn b sh k a
 
   pub walk-starts : (ws : List ℕ) → Walked b ws k (p .width) 0 0 (unset .starts) (unset .lengths)
   unfolding unset
-  walk-starts ws = record { inside = omega arith; within = omega arith; size-starts = refl; size-lengths = refl; goes = refl }
+  walk-starts ws = record { inside = omega arith; within = omega arith; size-starts = refl; size-lengths = refl; goes = refl; ending = refl }
 
   module _ {ws : List ℕ} {found : Found} {starts lengths : List ℕ} (so : Searched b sh ws found starts lengths k at) where
     -- the rule was given up
@@ -78,11 +82,15 @@ module _ {b : List ℕ} {sh : Shape} {k at : ℕ} {p : Place} (t : Turn b sh k a
       x = record { starts = s; lengths = l }
 
       -- all words of the left side are matched
-      pub matches-here : p .width ≤ j → record { found = First k (p .rhs) (p .size); starts = s; lengths = l } ≡ matchOf (systemOf b) ws
-      matches-here e =
-          rw (h .right, h .size)
-          (sym (rules-here (signatureOf b) (systemOf b .rules) k at ws (t .more) x
-          (sym (wo .goes) ∙ words-end (signatureOf b) (r .lhs) ws j q x (omega (arith, h .width)))) ∙ so .goes)
+      pub matches-here : p .width ≤ j → Fits (systemOf b) ws (record { found = record { found = First k (p .rhs) (p .size); starts = s; lengths = l }; width = q })
+      matches-here e = record {
+        match = rw (h .right, h .size)
+            (sym (rules-here (signatureOf b) (systemOf b .rules) k at ws (t .more) x
+            (sym (wo .goes) ∙ words-end (signatureOf b) (r .lhs) ws j q x (omega (arith, h .width)))) ∙ so .goes);
+        width = λ n rhs size f.
+            let same : k ≡ n = cc in
+            rw (← same, signature b sh (t .accepted)) (sym (ends-done (signatureOf b) (r .lhs) ws j q (omega (arith, h .width))) ∙ wo .ending);
+      }
 
       -- an unequal word
       pub word-differs : j < p .width → {n : ℕ} → n ≡ takes (signatureOf b) (getD b (p .lhs + j) 0) (take (length ws - q) (drop q ws)) → n ≡ 0 →
@@ -106,9 +114,14 @@ module _ {b : List ℕ} {sh : Shape} {k at : ℕ} {p : Place} (t : Turn b sh k a
         sym (words-next (signatureOf b) (r .lhs) ws j q y (omega (arith, h .width)) (getD b (p .lhs + j) 0) (h .word j here) n (rw (tail ws q) at (taken .0)) (omega arith))
         ∙ wo .goes
 
+    ends-on : ends (signatureOf b) (drop (j + 1) (r .lhs)) (drop (q + n) ws) (q + n) ≡ ends (signatureOf b) (r .lhs) ws 0
+    ends-on =
+        sym (ends-next (signatureOf b) (r .lhs) ws j q (omega (arith, h .width)) (getD b (p .lhs + j) 0) (h .word j here) n (rw (tail ws q) at (taken .0)))
+        ∙ wo .ending
+
     walks : {s′ l′ : List ℕ} (z : Stretches) → note (getD b (p .lhs + j) 0) q n y ≡ z → s′ ≡ z .starts → l′ ≡ z .lengths → length (z .starts) ≡ 16 → length (z .lengths) ≡ 16 →
         Walked b ws k (p .width) (j + 1) (q + n) s′ l′
-    walks z e ds dl ls ll = rw (ds, dl) (record { inside = omega arith; within = fits; size-starts = ls; size-lengths = ll; goes = rw e at on })
+    walks z e ds dl ls ll = rw (ds, dl) (record { inside = omega arith; within = fits; size-starts = ls; size-lengths = ll; goes = rw e at on; ending = ends-on })
 
     pub symbol-matched : {s′ l′ : List ℕ} → v < variable → s′ ≡ s → l′ ≡ l → Walked b ws k (p .width) (j + 1) (q + n) s′ l′
     symbol-matched low ds dl = walks y (note-symbol (getD b (p .lhs + j) 0) q n y (rw is at low)) ds dl (wo .size-starts) (wo .size-lengths)

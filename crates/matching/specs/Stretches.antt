@@ -7,9 +7,10 @@ use mathlib.Core.Option.{Option, none, some}
 use lib.ListN.{length, getD, take, drop, set, replicate}
 use lib.Dec.{ltb, eqb}
 use Rattle.system.specs.Signature.{Signature, variable, variables, span}
-use Rattle.system.specs.System.{System, Rule, instance}
+use Rattle.system.specs.System.{System, Rule, rule, instance}
 use Rattle.system.specs.Format.{encodeStrategies}
 use Rattle.matching.specs.declared.Match.{Match}
+use Rattle.matching.specs.declared.rules.Fit.{Fit}
 use Rattle.matching.specs.declared.Found.the-variants.{Nothing, First}
 use Rattle.matching.specs.Matching.{Redex}
 
@@ -41,6 +42,11 @@ stretches g (l ∷ ls) ws q a =
       | suc n ↦ stretches g ls (drop (suc n) ws) (q + suc n) (note l q (suc n) a)
     ]
 
+-- where a left side ends among the words, of which the first q come before ws
+unfoldable pub ends : Signature → List ℕ → List ℕ → ℕ → ℕ
+ends g [] ws q = q
+ends g (l ∷ ls) ws q = ends g ls (drop (takes g l ws) ws) (q + takes g l ws)
+
 -- no rule matches
 abbrev pub nothing : Match
 nothing = record { found = Nothing; starts = unset .starts; lengths = unset .lengths }
@@ -59,6 +65,11 @@ matchFrom g (r ∷ rs) k at ws =
 -- they are, and the stretches of its variables
 unfoldable pub matchOf : System → List ℕ → Match
 matchOf s ws = matchFrom (s .arities) (s .rules) 0 (length (s .arities) + 3 + length (encodeStrategies (s .strategies))) ws
+
+-- the same, and how many words the left side of the rule that was found takes
+pub record Fits (s : System) (ws : List ℕ) (r : Fit) : Type 0 where
+  pub match : r .found ≡ matchOf s ws
+  pub width : (k rhs size : ℕ) → r .found .found ≡ First k rhs size → r .width ≡ ends (s .arities) (rule s k .lhs) ws 0
 
 -- ---- the reduct
 

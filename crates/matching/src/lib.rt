@@ -40,7 +40,8 @@ pub fn first_match(book: &[u16], ws: &[u16]) -> Match
             lengths: [0; 16],
         };
     }
-    rules::first_rule(book, shape, ws)
+    let fit = rules::first_rule(book, shape, ws);
+    fit.found
 }
 
 // The strategy test: the reader's answer where it refuses the book, else 0 0 0 where every symbol passes, and otherwise 14 with a

@@ -5,7 +5,7 @@ ghost use lib.ListN.{length, getD, take, drop};
 ghost use Rattle.system.specs.Answers.{signatureOf};
 ghost use Rattle.matching.specs.Accepted.{systemOf, Accepted};
 ghost use Rattle.matching.specs.Rules.{placeOf, after};
-ghost use Rattle.matching.specs.Stretches.{takes, matchOf, RightSide, reductLength};
+ghost use Rattle.matching.specs.Stretches.{takes, Fits, RightSide, reductLength};
 use crate::Found;
 use crate::Match;
 use system::Shape;
@@ -22,6 +22,12 @@ pub struct Place {
     pub rhs: usize,
     pub size: usize,
     pub next: usize,
+}
+
+// What was found, and how many words the left side that matched took: all those of the subterm.
+pub struct Fit {
+    pub found: Match,
+    pub width: usize,
 }
 
 // The rule whose first length stands at `at`.
@@ -61,13 +67,14 @@ fn takes(book: &[u16], l: u16, ws: &[u16]) -> usize
 
 // The first rule that matches the subterm at the front of ws; what follows the subterm does not count. Most rules start with another
 // symbol: they are given up before the stretches are cleared.
-pub fn first_rule(book: &[u16], shape: Shape, ws: &[u16]) -> Match
+pub fn first_rule(book: &[u16], shape: Shape, ws: &[u16]) -> Fit
     requires { ⌜ Accepted (now book) shape ⌝ }
-    ensures { λ r. ⌜ r ≡ matchOf (systemOf (now (book .entry))) (now (ws .entry)) ⌝ }
+    ensures { λ r. ⌜ Fits (systemOf (now (book .entry))) (now (ws .entry)) r ⌝ }
 {
     let mut found = Found::Nothing;
     let mut starts = [0usize; 16];
     let mut lengths = [0usize; 16];
+    let mut end = 0;
     let mut k = 0;
     let mut at = shape.first_rule;
     'rules: while k < shape.rules {
@@ -105,12 +112,16 @@ pub fn first_rule(book: &[u16], shape: Shape, ws: &[u16]) -> Match
         };
         starts = s;
         lengths = l;
+        end = q;
         break 'rules;
     }
-    Match {
-        found: found,
-        starts: starts,
-        lengths: lengths,
+    Fit {
+        found: Match {
+            found: found,
+            starts: starts,
+            lengths: lengths,
+        },
+        width: end,
     }
 }
 

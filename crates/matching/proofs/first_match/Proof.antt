@@ -16,7 +16,7 @@ first-rule-requires : tie.Need-first-rule-requires
 first-rule-requires c κs = let a = c .before .before .before .before .before .args in let x = c .before .before .shape-of in shape-accepted (a .book .now) (x .result) (x .ensures) (c .if1 .left)
 
 returns-2 : tie.Need-returns-2
-returns-2 c = search needs
+returns-2 c = c .before .first-rule .ensures .match
 
 pub first-match-spec : {M : Type 1} → statement M
 first-match-spec = tie.close (tie.spec shape-of-requires returns first-rule-requires returns-2)

@@ -135,47 +135,47 @@ enum-told-3 c = search needs
 
 loop-less-2 : tie.Need-loop-less-2 Inv-loop μ-loop
 loop-less-2 c =
-    let x = c .before .before .before .before .before .before .before .before .before .before .before .before .before .before .before .before .before .before .before .before .before .before .before in
+    let x = c .before .before .before .before .before .before .before .before .before .before .before .before .before .before .before .before .before .before .before .before .before .before .before .before in
     let a = x .args in
-    let l = c .before .before .before .before .before .before .before .before .before .before .before .before .before .before .before .before .loop in
-    let b = c .before .before .before .before .before .before .before .before .before .before .before .before .before .before .before .begun-before in
-    let k = c .before .before .before .before .before .before .before .before .before .before .before .before .take-turn in
-    let f = c .before .before .first-rule in
-    goes-tried (a .book .now) (a .shape) (x .pre .0) (a .area .now) (a .n) (a .start) (l .area) (l .positions) (l .level) (l .floor) (l .since) (l .inv .0) (b .result) (b .ensures) (k .result) (k .last .1 .1 .1 .0) (k .last .1 .1 .1 .1 .0) (k .ensures) (c .before .before .before .before .before .before .enum-told2 .given .1) (f .result) (f .ensures) (c .enum-told3 .given .1) .less
+    let l = c .before .before .before .before .before .before .before .before .before .before .before .before .before .before .before .before .before .loop in
+    let b = c .before .before .before .before .before .before .before .before .before .before .before .before .before .before .before .before .begun-before in
+    let k = c .before .before .before .before .before .before .before .before .before .before .before .before .before .take-turn in
+    let f = c .before .before .before .first-rule in
+    goes-tried (a .book .now) (a .shape) (x .pre .0) (a .area .now) (a .n) (a .start) (l .area) (l .positions) (l .level) (l .floor) (l .since) (l .inv .0) (b .result) (b .ensures) (k .result) (k .last .1 .1 .1 .0) (k .last .1 .1 .1 .1 .0) (k .ensures) (c .before .before .before .before .before .before .before .enum-told2 .given .1) (f .result) (f .ensures) (c .enum-told3 .given .1) .less
 
 loop-again-2 : tie.Need-loop-again-2 Inv-loop μ-loop
 loop-again-2 c =
-    let x = c .before .before .before .before .before .before .before .before .before .before .before .before .before .before .before .before .before .before .before .before .before .before .before in
+    let x = c .before .before .before .before .before .before .before .before .before .before .before .before .before .before .before .before .before .before .before .before .before .before .before .before in
     let a = x .args in
-    let l = c .before .before .before .before .before .before .before .before .before .before .before .before .before .before .before .before .loop in
-    let b = c .before .before .before .before .before .before .before .before .before .before .before .before .before .before .before .begun-before in
-    let k = c .before .before .before .before .before .before .before .before .before .before .before .before .take-turn in
-    let f = c .before .before .first-rule in
-    (goes-tried (a .book .now) (a .shape) (x .pre .0) (a .area .now) (a .n) (a .start) (l .area) (l .positions) (l .level) (l .floor) (l .since) (l .inv .0) (b .result) (b .ensures) (k .result) (k .last .1 .1 .1 .0) (k .last .1 .1 .1 .1 .0) (k .ensures) (c .before .before .before .before .before .before .enum-told2 .given .1) (f .result) (f .ensures) (c .enum-told3 .given .1) .on, k .kept .1 .1 .1 .0 ∙ l .inv .1, k .kept .1 .1 .1 .1 .0 ∙ l .inv .2)
+    let l = c .before .before .before .before .before .before .before .before .before .before .before .before .before .before .before .before .before .loop in
+    let b = c .before .before .before .before .before .before .before .before .before .before .before .before .before .before .before .before .begun-before in
+    let k = c .before .before .before .before .before .before .before .before .before .before .before .before .before .take-turn in
+    let f = c .before .before .before .first-rule in
+    (goes-tried (a .book .now) (a .shape) (x .pre .0) (a .area .now) (a .n) (a .start) (l .area) (l .positions) (l .level) (l .floor) (l .since) (l .inv .0) (b .result) (b .ensures) (k .result) (k .last .1 .1 .1 .0) (k .last .1 .1 .1 .1 .0) (k .ensures) (c .before .before .before .before .before .before .before .enum-told2 .given .1) (f .result) (f .ensures) (c .enum-told3 .given .1) .on, k .kept .1 .1 .1 .0 ∙ l .inv .1, k .kept .1 .1 .1 .1 .0 ∙ l .inv .2)
 
 enum-told-4 : tie.Need-enum-told-4 Inv-loop μ-loop
 enum-told-4 c = search needs
 
 same-length : tie.Need-same-length Inv-loop μ-loop
 same-length c =
-    let l = c .before .before .before .before .before .before .before .before .before .before .before .before .before .before .before .before .loop in
-    let k = c .before .before .before .before .before .before .before .before .before .before .before .before .take-turn in
+    let l = c .before .before .before .before .before .before .before .before .before .before .before .before .before .before .before .before .before .loop in
+    let k = c .before .before .before .before .before .before .before .before .before .before .before .before .before .take-turn in
     k .kept .1 .1 .1 .0 ∙ l .inv .1
 
 same-length-2 : tie.Need-same-length-2 Inv-loop μ-loop
 same-length-2 c =
-    let l = c .before .before .before .before .before .before .before .before .before .before .before .before .before .before .before .before .loop in
-    let k = c .before .before .before .before .before .before .before .before .before .before .before .before .take-turn in
+    let l = c .before .before .before .before .before .before .before .before .before .before .before .before .before .before .before .before .before .loop in
+    let k = c .before .before .before .before .before .before .before .before .before .before .before .before .before .take-turn in
     k .kept .1 .1 .1 .1 .0 ∙ l .inv .2
 
 returns : tie.Need-returns Inv-loop μ-loop
 returns c =
-    let x = c .before .before .before .before .before .before .before .before .before .before .before .before .before .before .before .before .before .before .before .before .before .before .before in
+    let x = c .before .before .before .before .before .before .before .before .before .before .before .before .before .before .before .before .before .before .before .before .before .before .before .before in
     let a = x .args in
-    let l = c .before .before .before .before .before .before .before .before .before .before .before .before .before .before .before .before .loop in
-    let b = c .before .before .before .before .before .before .before .before .before .before .before .before .before .before .before .begun-before in
-    let k = c .before .before .before .before .before .before .before .before .before .before .before .before .take-turn in
-    arrives-ready (a .book .now) (a .shape) (x .pre .0) (a .area .now) (a .n) (a .start) (l .area) (l .positions) (l .level) (l .floor) (l .since) (l .inv .0) (b .result) (b .ensures) (k .result) (k .last .1 .1 .1 .0) (k .last .1 .1 .1 .1 .0) (k .ensures) (c .before .before .before .before .before .before .enum-told2 .given .1) (c .before .before .first-rule .result) (c .before .before .first-rule .ensures) (c .enum-told4 .given .0 .0) (c .enum-told4 .given .0 .1 .0) (c .enum-told4 .given .0 .1 .1 .0) (c .enum-told4 .given .1)
+    let l = c .before .before .before .before .before .before .before .before .before .before .before .before .before .before .before .before .before .loop in
+    let b = c .before .before .before .before .before .before .before .before .before .before .before .before .before .before .before .before .begun-before in
+    let k = c .before .before .before .before .before .before .before .before .before .before .before .before .before .take-turn in
+    arrives-ready (a .book .now) (a .shape) (x .pre .0) (a .area .now) (a .n) (a .start) (l .area) (l .positions) (l .level) (l .floor) (l .since) (l .inv .0) (b .result) (b .ensures) (k .result) (k .last .1 .1 .1 .0) (k .last .1 .1 .1 .1 .0) (k .ensures) (c .before .before .before .before .before .before .before .enum-told2 .given .1) (c .before .before .before .first-rule .result) (c .before .before .before .first-rule .ensures) (c .enum-told4 .given .0 .0) (c .enum-told4 .given .0 .1 .0) (c .enum-told4 .given .0 .1 .1 .0) (c .enum-told4 .given .1)
 
 enum-told-5 : tie.Need-enum-told-5 Inv-loop μ-loop
 enum-told-5 c = search needs

@@ -29,7 +29,7 @@ area-length : (c : tie.At-loop Inv-loop μ-loop) → length (c .loop .area) ≡ 
 area-length c = stored-length (systemOf (c .before .before .before .before .before .before .before .before .before .before .before .args .book .now)) (c .loop .area) (c .loop .n) (c .loop .level) (c .loop .inv .holds .stored) ∙ sym (c .before .before .before .before .before .before .before .before .before .before .before .pre .3)
 
 -- a rewrite is next
-before : (c : tie.After-enum-told3 Inv-loop μ-loop) → Before (systemOf (c .before .before .before .before .before .before .before .before .before .before .before .before .before .before .before .before .before .before .before .before .args .book .now)) (c .before .before .before .before .before .before .before .before .before .before .before .before .before .before .before .before .before .before .before .before .args .limit) (c .before .before .before .before .before .before .before .before .before .before .before .before .before .before .before .before .before .before .before .before .args .term .now) (c .before .before .before .before .before .advance .last .1 .1 .1 .0) (c .before .before .before .before .before .advance .last .1 .1 .1 .1 .0) (c .before .before .before .before .before .before .before .before .before .loop .n) (c .before .before .before .before .before .advance .result .level) (c .before .before .before .before .before .before .before .before .before .loop .steps) (c .before .before .before .before .before .advance .result .found)
+before : (c : tie.After-enum-told3 Inv-loop μ-loop) → Before (systemOf (c .before .before .before .before .before .before .before .before .before .before .before .before .before .before .before .before .before .before .before .before .args .book .now)) (c .before .before .before .before .before .before .before .before .before .before .before .before .before .before .before .before .before .before .before .before .args .limit) (c .before .before .before .before .before .before .before .before .before .before .before .before .before .before .before .before .before .before .before .before .args .term .now) (c .before .before .before .before .before .advance .last .1 .1 .1 .0) (c .before .before .before .before .before .advance .last .1 .1 .1 .1 .0) (c .before .before .before .before .before .before .before .before .before .loop .n) (c .before .before .before .before .before .advance .result .level) (c .before .before .before .before .before .before .before .before .before .loop .steps) (c .before .before .before .before .before .advance .result .found) (c .before .before .before .before .before .advance .result .width)
 before c =
     let a = c .before .before .before .before .before .before .before .before .before .before .before .before .before .before .before .before .before .before .before .before in
     let l = c .before .before .before .before .before .before .before .before .before .loop in
@@ -41,14 +41,14 @@ room c =
     let a = c .before .before .before .before .before .before .before .before .before .before .before .before .before .before .before .before .before .before .before .before in
     let l = c .before .before .before .before .before .before .before .before .before .loop in
     let d = c .before .before .before .before .before .advance in
-    before-room (systemOf (a .args .book .now)) (wf a) (a .args .limit) (a .args .term .now) (d .last .1 .1 .1 .0) (d .last .1 .1 .1 .1 .0) (l .n) (d .result .level) (l .steps) (d .result .found) (before c)
+    before-room (systemOf (a .args .book .now)) (wf a) (a .args .limit) (a .args .term .now) (d .last .1 .1 .1 .0) (d .last .1 .1 .1 .1 .0) (l .n) (d .result .level) (l .steps) (d .result .found) (d .result .width) (before c)
 
 position-is : (c : tie.After-enum-told3 Inv-loop μ-loop) → getD (c .before .before .before .before .before .advance .last .1 .1 .1 .1 .0) (c .before .before .before .before .before .advance .result .level) 0 ≡ position (systemOf (c .before .before .before .before .before .before .before .before .before .before .before .before .before .before .before .before .before .before .before .before .args .book .now)) (termIn (c .before .before .before .before .before .advance .last .1 .1 .1 .0) (c .before .before .before .before .before .before .before .before .before .loop .n)) (outerIn (c .before .before .before .before .before .advance .last .1 .1 .1 .0) (c .before .before .before .before .before .advance .result .level)) 0
 position-is c =
     let a = c .before .before .before .before .before .before .before .before .before .before .before .before .before .before .before .before .before .before .before .before in
     let l = c .before .before .before .before .before .before .before .before .before .loop in
     let d = c .before .before .before .before .before .advance in
-    before-position (systemOf (a .args .book .now)) (wf a) (a .args .limit) (a .args .term .now) (d .last .1 .1 .1 .0) (d .last .1 .1 .1 .1 .0) (l .n) (d .result .level) (l .steps) (d .result .found) (before c)
+    before-position (systemOf (a .args .book .now)) (wf a) (a .args .limit) (a .args .term .now) (d .last .1 .1 .1 .0) (d .last .1 .1 .1 .1 .0) (l .n) (d .result .level) (l .steps) (d .result .found) (d .result .width) (before c)
 
 -- an argument would be opened from level 64: the evaluation's outcome, and what the area holds
 deep : (c : tie.After-enum-told2 Inv-loop μ-loop) → (evaluation (systemOf (c .before .before .before .before .before .before .before .before .before .before .before .before .before .before .before .before .before .before .before .before .args .book .now)) (c .before .before .before .before .before .before .before .before .before .before .before .before .before .before .before .before .before .before .before .before .args .limit) (c .before .before .before .before .before .before .before .before .before .before .before .before .before .before .before .before .before .before .before .before .args .term .now) ≡ stopped 13 (c .before .before .before .before .before .before .before .before .before .loop .steps)) × Laid (c .before .before .before .before .before .advance .last .1 .1 .1 .0) (c .before .before .before .before .before .before .before .before .before .loop .n) (c .before .before .before .before .before .advance .result .level)
@@ -67,7 +67,7 @@ long c =
     let b = before (c .before .before .before .before .before .before .before) in
     let p = position-is (c .before .before .before .before .before .before .before) in
     let r = c .before .before .before .rewrite in
-    stops-long (systemOf (a .args .book .now)) (wf a) (a .args .limit) (a .args .term .now) (d .last .1 .1 .1 .0) (d .last .1 .1 .1 .1 .0) (l .n) (d .result .level) (l .steps) (d .result .found) b (c .before .before .before .before .before .before .if1 .left) _ p (r .result) (r .last .1 .1 .0) (r .ensures (b .x) (rw p (b .matched))) (c .if2 .taken)
+    stops-long (systemOf (a .args .book .now)) (wf a) (a .args .limit) (a .args .term .now) (d .last .1 .1 .1 .0) (d .last .1 .1 .1 .1 .0) (l .n) (d .result .level) (l .steps) (d .result .found) (d .result .width) b (c .before .before .before .before .before .before .if1 .left) _ p (r .result) (r .last .1 .1 .0) (r .ensures (b .x) (rw p (b .matched))) (c .if2 .taken)
 
 start-requires : tie.Need-start-requires Inv-loop μ-loop
 start-requires c κs = (let p = c .before .before .before .before .pre .2 in omega arith, c .before .before .before .before .pre .3)
@@ -135,7 +135,7 @@ clear-state-requires-2 c κs =
     let a = c .before .before .before .before .before .before .before .before .before .before .before .before .before .before .before .before .before .before .before .before .before .before in
     let l = c .before .before .before .before .before .before .before .before .before .before .before .loop in
     let d = c .before .before .before .before .before .before .before .advance in
-    before-laid (systemOf (a .args .book .now)) (wf a) (a .args .limit) (a .args .term .now) (d .last .1 .1 .1 .0) (d .last .1 .1 .1 .1 .0) (l .n) (d .result .level) (l .steps) (d .result .found) (before (c .before .before))
+    before-laid (systemOf (a .args .book .now)) (wf a) (a .args .limit) (a .args .term .now) (d .last .1 .1 .1 .0) (d .last .1 .1 .1 .1 .0) (l .n) (d .result .level) (l .steps) (d .result .found) (d .result .width) (before (c .before .before))
 
 outcome-requires-3 : tie.Need-outcome-requires-3 Inv-loop μ-loop
 outcome-requires-3 c κs = tt
@@ -149,7 +149,7 @@ returns-3 c =
     let l = c .before .before .before .before .before .before .before .before .before .before .before .before .before .before .before .loop in
     let d = c .before .before .before .before .before .before .before .before .before .before .before .advance in
     ends-stopped (evaluation (systemOf (a .args .book .now)) (a .args .limit) (a .args .term .now)) 11 (l .steps) (c .outcome3 .result) (c .before .before .before .clear-state2 .last .0)
-    (stops-spent (systemOf (a .args .book .now)) (wf a) (a .args .limit) (a .args .term .now) (d .last .1 .1 .1 .0) (d .last .1 .1 .1 .1 .0) (l .n) (d .result .level) (l .steps) (d .result .found) (before (c .before .before .before .before .before .before)) (c .before .before .before .before .before .if1 .taken))
+    (stops-spent (systemOf (a .args .book .now)) (wf a) (a .args .limit) (a .args .term .now) (d .last .1 .1 .1 .0) (d .last .1 .1 .1 .1 .0) (l .n) (d .result .level) (l .steps) (d .result .found) (d .result .width) (before (c .before .before .before .before .before .before)) (c .before .before .before .before .before .if1 .taken))
     (c .outcome3 .ensures) (c .before .before .before .clear-state2 .ensures)
 
 mul-rewrite : tie.Need-mul-rewrite Inv-loop μ-loop
@@ -162,7 +162,7 @@ rewrite-requires : tie.Need-rewrite-requires Inv-loop μ-loop
 rewrite-requires c κs = let a = c .before .before .before .before .before .before .before .before .before .before .before .before .before .before .before .before .before .before .before .before .before .before .before in
     let b = before (c .before .before .before) in
     let p = position-is (c .before .before .before) in
-    ((a .pre .0, b .holds .stored), ((p, b .found ∙ ap (λ q. matchOf (systemOf (a .args .book .now)) (drop q (take (c .before .before .before .before .before .before .before .before .before .before .before .before .loop .n) (c .before .before .before .before .before .before .before .before .advance .last .1 .1 .1 .0)))) (sym p)), (b .x, rw p (b .matched))))
+    ((a .pre .0, b .holds .stored), ((p, b .found ∙ ap (λ q. matchOf (systemOf (a .args .book .now)) (drop q (take (c .before .before .before .before .before .before .before .before .before .before .before .before .loop .n) (c .before .before .before .before .before .before .before .before .advance .last .1 .1 .1 .0)))) (sym p), rw p (b .wide)), (b .x, rw p (b .matched))))
 
 clear-state-requires-3 : tie.Need-clear-state-requires-3 Inv-loop μ-loop
 clear-state-requires-3 c κs = long (c .before) .1
@@ -191,7 +191,7 @@ loop-again c = let a = c .before .before .before .before .before .before .before
     let b = before (c .before .before .before .before .before .before .before) in
     let p = position-is (c .before .before .before .before .before .before .before) in
     let r = c .before .before .before .rewrite in
-    goes-on (systemOf (a .args .book .now)) (wf a) (a .args .limit) (a .args .term .now) (d .last .1 .1 .1 .0) (d .last .1 .1 .1 .1 .0) (l .n) (d .result .level) (l .steps) (d .result .found) b (c .before .before .before .before .before .before .if1 .left) _ p (r .result) (r .last .1 .1 .0) (r .ensures (b .x) (rw p (b .matched))) (c .if2 .left)
+    goes-on (systemOf (a .args .book .now)) (wf a) (a .args .limit) (a .args .term .now) (d .last .1 .1 .1 .0) (d .last .1 .1 .1 .1 .0) (l .n) (d .result .level) (l .steps) (d .result .found) (d .result .width) b (c .before .before .before .before .before .before .if1 .left) _ p (r .result) (r .last .1 .1 .0) (r .ensures (b .x) (rw p (b .matched))) (c .if2 .left)
 
 pub run-spec : {M : Type 1} → statement M
 run-spec =

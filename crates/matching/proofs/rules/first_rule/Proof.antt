@@ -10,16 +10,16 @@ use Rattle.matching.proofs.rules.first_rule.Statement.{statement}
 use Rattle.matching.proofs.rules.first_rule.Tie as tie
 
 abbrev Inv-words : tie.InvT-words
-Inv-words book shape ws found starts lengths k at this r lhs width s₀ l₀ j₀ q₀ s l j q = Walked book ws this width j q s l
+Inv-words book shape ws found starts lengths end k at this r lhs width s₀ l₀ j₀ q₀ s l j q = Walked book ws this width j q s l
 
 abbrev μ-words : tie.MeasureT-words
-μ-words book shape ws found starts lengths k at this r lhs width s₀ l₀ j₀ q₀ s l j q = width - j
+μ-words book shape ws found starts lengths end k at this r lhs width s₀ l₀ j₀ q₀ s l j q = width - j
 
 abbrev Inv-rules : tie.InvT-rules
-Inv-rules book shape ws found₀ starts₀ lengths₀ k₀ at₀ found starts lengths k at = Searched book shape ws found starts lengths k at
+Inv-rules book shape ws found₀ starts₀ lengths₀ end₀ k₀ at₀ found starts lengths end k at = Searched book shape ws found starts lengths k at
 
 abbrev μ-rules : tie.MeasureT-rules
-μ-rules book shape ws found₀ starts₀ lengths₀ k₀ at₀ found starts lengths k at = shape .rules - k
+μ-rules book shape ws found₀ starts₀ lengths₀ end₀ k₀ at₀ found starts lengths end k at = shape .rules - k
 
 -- the rule of this turn
 turn : (c : tie.After-rule-at Inv-words μ-words Inv-rules μ-rules) →
@@ -121,7 +121,7 @@ words-again c = let t = turn (c .before .before .before .before .before .before 
     (c .if4 .came)
 
 returns : tie.Need-returns Inv-words μ-words Inv-rules μ-rules
-returns c = search-ends (c .before .before .before .before .before .pre) (c .before .before .rules .inv) (c .if1 .left)
+returns c = search-ends (c .before .before .before .before .before .pre) (c .before .before .rules .end) (c .before .before .rules .inv) (c .if1 .left)
 
 returns-2 : tie.Need-returns-2 Inv-words μ-words Inv-rules μ-rules
 returns-2 c = matches-here (turn (c .before .before .before .before .before)) (c .before .before .before .before .before .before .before .before .rules .inv) (c .before .words .inv) (c .words-test .left)
