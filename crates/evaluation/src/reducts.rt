@@ -118,7 +118,6 @@ pub fn rewrite(
 ) -> usize
     requires { ⌜ Accepted (now book) shape × Stored (systemOf (now book)) (now area) n level ⌝ }
     requires { ⌜ (p ≡ position (systemOf (now book)) (termIn (now area) n) (outerIn (now area) level) 0) × (m ≡ matchOf (systemOf (now book)) (drop p (termIn (now area) n))) × (width ≡ span (systemOf (now book) .arities) (drop p (termIn (now area) n)) 1) ⌝ }
-    requires { ⌜ ((x : Redex) × (redex (systemOf (now book)) (drop p (termIn (now area) n)) ≡ some x)) ⌝ }
     ensures { λ r. ⌜ ((x : Redex) → redex (systemOf (now (book .entry))) (drop p (termIn (now (area .entry)) n)) ≡ some x → Rewritten (systemOf (now (book .entry))) (now (area .entry)) n level p x r (now (area .exit))) ⌝ }
 {
     let found = m.found;

@@ -6,7 +6,7 @@ use Rattle.evaluation.proofs.reducts.rewrite.Statement.{statement}
 use Rattle.evaluation.proofs.reducts.rewrite.Tie as tie
 
 state : (c : tie.Start) → Before (c .args .book .now) (c .args .shape) (c .args .area .now) (c .args .n) (c .args .level) (c .args .p) (c .args .m) (c .args .width)
-state c = record { accepted = c .pre .0 .0; stored = c .pre .0 .1; place = c .pre .1 .0 .0; match = c .pre .1 .0 .1; wide = c .pre .1 .0 .2 }
+state c = record { accepted = c .pre .0 .0; stored = c .pre .0 .1; place = c .pre .1 .0; match = c .pre .1 .1; wide = c .pre .1 .2 }
 
 enum-told : tie.Need-enum-told
 enum-told c = search needs

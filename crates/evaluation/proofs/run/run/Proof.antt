@@ -162,7 +162,7 @@ rewrite-requires : tie.Need-rewrite-requires Inv-loop μ-loop
 rewrite-requires c κs = let a = c .before .before .before .before .before .before .before .before .before .before .before .before .before .before .before .before .before .before .before .before .before .before .before in
     let b = before (c .before .before .before) in
     let p = position-is (c .before .before .before) in
-    ((a .pre .0, b .holds .stored), ((p, b .found ∙ ap (λ q. matchOf (systemOf (a .args .book .now)) (drop q (take (c .before .before .before .before .before .before .before .before .before .before .before .before .loop .n) (c .before .before .before .before .before .before .before .before .advance .last .1 .1 .1 .0)))) (sym p), rw p (b .wide)), (b .x, rw p (b .matched))))
+    ((a .pre .0, b .holds .stored), (p, b .found ∙ ap (λ q. matchOf (systemOf (a .args .book .now)) (drop q (take (c .before .before .before .before .before .before .before .before .before .before .before .before .loop .n) (c .before .before .before .before .before .before .before .before .advance .last .1 .1 .1 .0)))) (sym p), rw p (b .wide)))
 
 clear-state-requires-3 : tie.Need-clear-state-requires-3 Inv-loop μ-loop
 clear-state-requires-3 c κs = long (c .before) .1
