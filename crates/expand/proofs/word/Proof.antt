@@ -1,0 +1,16 @@
+-- `word` meets its contract.
+use borrow.Author.Needs.{needs}
+use Rattle.expand.proofs.word.Statement.{statement}
+use Rattle.expand.proofs.word.Tie as tie
+
+mul-result : tie.Need-mul-result
+mul-result c = search needs
+
+add-result : tie.Need-add-result
+add-result c = search needs
+
+returns : tie.Need-returns
+returns c = search needs
+
+pub word-spec : {M : Type 1} → statement M
+word-spec = tie.close (tie.spec mul-result add-result returns)
