@@ -2,6 +2,7 @@
 use Prim.Native.Nat.{ℕ, suc, _+_, _-_, _≤_, _<_}
 use native.Mathlib.Omega.{arith}
 use mathlib.Core.Path.{_≡_, refl, sym, ap, _∙_, subst, subst₂}
+use mathlib.Core.Bool.{true}
 use mathlib.Core.List.{List, [], _∷_, _++_}
 use lib.ListN.{length, getD, take, drop, length-append}
 use lib.Seq.{take-all, take-suc, length-take-le, append-snoc}
@@ -20,13 +21,14 @@ use Rattle.evaluation.specs.declared.machine.Advanced.{Advanced}
 use Rattle.evaluation.specs.declared.machine.Turn.{Turn}
 use Rattle.evaluation.specs.declared.machine.Turn.the-variants.{Passed, Tried, Opened, Left, TooDeep}
 use Rattle.evaluation.specs.declared.machine.Stop.the-variants.{Finished, Deep, Ready}
-use Rattle.evaluation.specs.Machine.{strategyAt, position, Opened as Below, Next, finished, deep, ready, advance}
-use Rattle.evaluation.specs.Area.{area, termIn, outerIn, countIn, Going, Stored, Holds}
-use Rattle.evaluation.specs.Turn.{Turned, turn, Taken, sinceAt}
-use Rattle.evaluation.specs.Arrival.{Arrived}
+use Rattle.evaluation.specs.machine.Machine.{strategyAt, position, Opened as Below, Next, finished, deep, ready, advance}
+use Rattle.evaluation.specs.machine.Area.{area, termIn, outerIn, countIn, Going, Stored, Holds}
+use Rattle.evaluation.specs.machine.Turn.{Turned, turn, Taken, sinceAt}
+use Rattle.evaluation.specs.machine.Arrival.{Arrived}
 use Rattle.evaluation.proofs.Laws.{entry-at}
 use Rattle.evaluation.proofs.Actives.{at-parted}
 use Rattle.evaluation.proofs.Goings.{going-here}
+use Rattle.evaluation.proofs.Strategies.{stood}
 use Rattle.evaluation.proofs.Passing as passing
 use Rattle.evaluation.proofs.Passing.{Passes, passed-start, passed-again, passed-more, passed-open, passed-left}
 use Rattle.evaluation.proofs.Turns.{turns, turns-pop, turns-pass, turns-open}
@@ -62,9 +64,82 @@ pub record Goes (s : System) (ws₀ : List ℕ) (n start : ℕ) (ws : List ℕ) 
   pub on : Advancing s ws₀ n start ws′ positions′ level′ floor′ since′
   pub less : turnsIn s ws′ n level′ < turnsIn s ws n level
 
-module _ (b : List ℕ) (sh : Shape) (acc : Accepted b sh) (ws₀ : List ℕ) (n start : ℕ) (ws positions : List ℕ) (level floor since : ℕ)
-    (v : Advancing (systemOf b) ws₀ n start ws positions level floor since) (f : ℕ) (before : f ≡ sinceAt floor since level) (r : Turn) (ws′ positions′ : List ℕ)
-    (k : Taken (systemOf b) (termIn ws n) n ws positions (turn (systemOf b) (termIn ws n) (outerIn ws level) f (countIn ws level)) r ws′ positions′) where
+-- a turn of the loop: the book, the area at the loop's start, the state before the turn, and what the turn left
+pub record Turning : Type 0 where
+  pub b : List ℕ
+  pub sh : Shape
+  pub acc : Accepted b sh
+  pub ws₀ : List ℕ
+  pub n : ℕ
+  pub start : ℕ
+  pub ws : List ℕ
+  pub positions : List ℕ
+  pub level : ℕ
+  pub floor : ℕ
+  pub since : ℕ
+  pub v : Advancing (systemOf b) ws₀ n start ws positions level floor since
+  pub f : ℕ
+  pub before : f ≡ sinceAt floor since level
+  pub r : Turn
+  pub ws′ : List ℕ
+  pub positions′ : List ℕ
+  pub k : Taken (systemOf b) (termIn ws n) n ws positions (turn (systemOf b) (termIn ws n) (outerIn ws level) f (countIn ws level)) r ws′ positions′
+
+module _ (τ : Turning) where
+  abbrev b : List ℕ
+  b = τ .b
+
+  abbrev sh : Shape
+  sh = τ .sh
+
+  abbrev acc : Accepted b sh
+  acc = τ .acc
+
+  abbrev ws₀ : List ℕ
+  ws₀ = τ .ws₀
+
+  abbrev n : ℕ
+  n = τ .n
+
+  abbrev start : ℕ
+  start = τ .start
+
+  abbrev ws : List ℕ
+  ws = τ .ws
+
+  abbrev positions : List ℕ
+  positions = τ .positions
+
+  abbrev level : ℕ
+  level = τ .level
+
+  abbrev floor : ℕ
+  floor = τ .floor
+
+  abbrev since : ℕ
+  since = τ .since
+
+  abbrev v : Advancing (systemOf b) ws₀ n start ws positions level floor since
+  v = τ .v
+
+  abbrev f : ℕ
+  f = τ .f
+
+  abbrev before : f ≡ sinceAt floor since level
+  before = τ .before
+
+  abbrev r : Turn
+  r = τ .r
+
+  abbrev ws′ : List ℕ
+  ws′ = τ .ws′
+
+  abbrev positions′ : List ℕ
+  positions′ = τ .positions′
+
+  abbrev k : Taken (systemOf b) (termIn ws n) n ws positions (turn (systemOf b) (termIn ws n) (outerIn ws level) f (countIn ws level)) r ws′ positions′
+  k = τ .k
+
   abbrev s : System
   s = systemOf b
 
@@ -141,7 +216,7 @@ module _ (b : List ℕ) (sh : Shape) (acc : Accepted b sh) (ws₀ : List ℕ) (n
     where
       go : {o : Turned} → Entered s t outer f c o → Taken s t n ws positions o r ws′ positions′ → Goes s ws₀ n start ws level ws′ positions′ level floor since
       go (repeated q w) x =
-          over-it q (x .1) (x .3) (passed-again s t outer c floor since (v .passed) (rw (before ∙ ap (sinceAt floor since) (sym levels)) at w))
+          over-it q (x .1) (x .3) (passed-again s t outer c floor since (v .passed) (subst (λ y. stood entries y c ≡ true) (before ∙ ap (sinceAt floor since) (sym levels)) w))
       go (over q) x = absurd (let z : _≡_ {A = ℕ} 0 1 = cc (x .0) in omega arith)
       go (trying q w) x = absurd (let z : _≡_ {A = ℕ} 0 1 = cc (x .0) in omega arith)
       go (inside i q w l) x = absurd (let z : _≡_ {A = ℕ} 0 1 = cc (x .0) in omega arith)

@@ -10,7 +10,7 @@ use lib.Seq.{append-snoc}
 use Rattle.system.specs.Signature.{argument}
 use Rattle.system.specs.System.{System}
 use Rattle.matching.specs.Matching.{Redex, redex}
-use Rattle.evaluation.specs.Machine.{strategyAt, down, position, lower, Next, finished, deep, ready, around, scan, enter, advance}
+use Rattle.evaluation.specs.machine.Machine.{strategyAt, down, position, lower, Next, finished, deep, ready, around, scan, enter, advance}
 use Rattle.evaluation.proofs.Laws.{next-entry, entry-at, lower-sub}
 use Rattle.evaluation.proofs.Iterate.{scan-fire}
 use Rattle.evaluation.proofs.Passing.{Passes, scan-over}

@@ -8,7 +8,7 @@ use lib.ListN.{getD, drop}
 use Rattle.system.specs.Signature.{argument}
 use Rattle.system.specs.System.{System, strategy}
 use Rattle.matching.specs.Matching.{Redex, redex}
-use Rattle.evaluation.specs.Evaluation.{Run, Outcome, settled, stopped, after, follow, atRoot, evaluate}
+use Rattle.evaluation.specs.Evaluation.{Run, Outcome, settled, stopped, after, follow, atRoot, evaluate, spent, nested}
 use Rattle.evaluation.proofs.Walks.{never, after-settled, rewrite-settled, rewrite-same, follow-end, follow-pass, follow-fire, follow-open}
 
 module _ (s : System) (limit : ℕ) where
@@ -33,12 +33,12 @@ module _ (s : System) (limit : ℕ) where
 
   atRoot-mono : (inner : ℕ → Run → Outcome) → Mono inner → (left : ℕ) → Mono (atRoot s limit inner left)
   unfolding atRoot
-  atRoot-mono inner hi zero p r = follow-mono inner (λ p r. stopped 11 (r .steps)) hi (λ p r r′ e. never 11 (r .steps) r′ e) _ p r
+  atRoot-mono inner hi zero p r = follow-mono inner (λ p r. stopped spent (r .steps)) hi (λ p r r′ e. never spent (r .steps) r′ e) _ p r
   atRoot-mono inner hi (suc left) p r = follow-mono inner (atRoot s limit inner left) hi (atRoot-mono inner hi left) _ p r
 
   pub evaluate-mono : (l : ℕ) → Mono (evaluate s limit l)
   unfolding evaluate
-  evaluate-mono zero p r r′ e = never 13 (r .steps) r′ e
+  evaluate-mono zero p r r′ e = never nested (r .steps) r′ e
   evaluate-mono (suc l) p r r′ e = atRoot-mono (evaluate s limit l) (evaluate-mono l) limit p r r′ e
 
   -- two ways to start anew that agree on later runs within the limit

@@ -10,7 +10,7 @@ use Rattle.buffers.specs.Words.{pad, zeros}
 use Rattle.buffers.proofs.Over.{set-right}
 use Rattle.buffers.proofs.Pads.{length-pad, take-pad, pad-zero, pad-push}
 use Rattle.system.specs.System.{System}
-use Rattle.evaluation.specs.Area.{area, termIn, outerIn, countIn, Going, Positioned, Stored, Holds}
+use Rattle.evaluation.specs.machine.Area.{area, termIn, outerIn, countIn, Going, Positioned, Stored, Holds}
 
 module _ (t counts : List ℕ) (small : length t ≤ 4096) where
   pub area-length : length counts ≤ 4096 → length (area t counts) ≡ 8192

@@ -8,7 +8,7 @@ use lib.Seq.{sets-eq, length-take-le}
 use Rattle.buffers.specs.Words.{pad, zeros, over}
 use Rattle.buffers.proofs.Over.{over-left, over-right}
 use Rattle.buffers.proofs.Pads.{length-zeros, length-pad, zeros-append}
-use Rattle.evaluation.specs.Area.{area, termIn, outerIn, countIn, Laid}
+use Rattle.evaluation.specs.machine.Area.{area, termIn, outerIn, countIn, Laid}
 use Rattle.evaluation.proofs.Starts.{over-all}
 
 pad-cleared : (m n : ℕ) (xs : List ℕ) → length xs ≡ n → n ≤ m → over (pad m xs) 0 (zeros n) ≡ zeros m

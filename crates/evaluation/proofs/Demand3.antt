@@ -1,5 +1,5 @@
 -- Demand 3 of the evaluator's own answers, which its contract gives as `expansion`: "done" and "found".
-use Prim.Native.Nat.{ℕ, _+_, _≤_}
+use Prim.Native.Nat.{ℕ, zero, suc, _+_, _≤_}
 use native.Mathlib.Omega.{arith}
 use native.Mathlib.Decide.{decLt, ℕ-discrete}
 use mathlib.Core.Path.{_≡_, refl, sym, ap, _∙_, subst, subst₂}
@@ -14,13 +14,18 @@ use Rattle.system.specs.Answers.{termAnswer}
 use Rattle.system.proofs.TermChecks.{whole-fault}
 use Rattle.matching.specs.Accepted.{systemOf}
 use Rattle.matching.specs.Safety.{Safe, Tested, passed, failed, TestedBook}
-use Rattle.evaluation.specs.Evaluation.{Run, Outcome, settled, stopped, evaluation}
-use Rattle.evaluation.specs.Expansion.{Expansion, ended, expansion}
+use Rattle.evaluation.specs.Evaluation.{Run, Outcome, settled, stopped, evaluation, Limit, spent, overlong, nested, limitNumber}
+use Rattle.evaluation.specs.Expansion.{Expansion, ended, expansion, secondly}
 use Rattle.evaluation.specs.Promises.{Done, handedBack, IsDone, IsHandedBack, Rests, Settled, IsFound, RestsAgain}
 use Rattle.evaluation.proofs.Done.{theorem-done, steps-last}
 use Rattle.evaluation.proofs.Found.{theorem-found}
-use Rattle.evaluation.proofs.Stops.{Limited, evaluation-limited}
 use Rattle.evaluation.proofs.Expanding.{Checks, checks, checks-well, cramped-answer, cramped-work, refuses, evaluates}
+
+-- no limit has number 0
+limit-number : (n : Limit) → 11 ≤ limitNumber n
+limit-number spent = omega arith
+limit-number overlong = omega arith
+limit-number nested = omega arith
 
 -- the words written over the front of a buffer are its first words
 pub written : (out t : List ℕ) (n : ℕ) → length t ≡ n → n ≤ length out → take n (over out 0 t) ≡ t
@@ -63,7 +68,7 @@ module _ (book term : List ℕ) (limit : ℕ) (out work : List ℕ) where
         equal = evaluates book term limit out work h k g ∙ ap (ended out work) q;
       }
       go h k g (stopped n m) q = absurd (
-          let l : Limited (stopped n m) = subst Limited q (evaluation-limited (systemOf book) limit term) in
+          let l = limit-number n in
           let z = sym (ap (λ y. y .numbers .number) (evaluates book term limit out work h k g ∙ ap (ended out work) q)) ∙ e in
           omega arith)
 
@@ -124,6 +129,7 @@ module _ (book term : List ℕ) (limit : ℕ) (out work : List ℕ) where
       let g = whole-checked book (h .run .term) (c .accepted) (f .whole) (handed-bounded book term limit out work h) in
       subst (Settled book) (sym (handed-words book term limit out work h)) (record {
         whole = f .whole;
+        bounded = handed-bounded book term limit out work h;
         normal = f .normal;
         again = λ l out′ work′ a b. rests book (h .run .term) l out′ work′ a b g (f .again l);
       })
@@ -162,3 +168,36 @@ module _ (book term : List ℕ) (limit : ℕ) (out work : List ℕ) (r : Answer)
     answer-again out′ work′ v r′ answer′ e n w z z′ a b =
         subst₂ (λ y x. Rests (handedBack r answer) y x) (sym (n ∙ ap (λ y. expansion book y 0 out′ work′ .numbers) e)) (sym (w ∙ ap (λ y. expansion book y 0 out′ work′ .answer) e))
         (answer-found z z′ .again 0 out′ work′ a b)
+
+-- ---- expanded again
+
+pub secondly-none : (book : List ℕ) (e : Expansion) (out work : List ℕ) → (e .numbers .number ≡ 0 → ⊥) →
+    secondly book e out work ≡ record { numbers = e .numbers; answer = out; work = work }
+unfolding secondly
+secondly-none book e out work h = go (e .numbers .number) refl
+  where
+    go : (n : ℕ) → e .numbers .number ≡ n → secondly book e out work ≡ record { numbers = e .numbers; answer = out; work = work }
+    go zero q = absurd (h q)
+    go (suc m) q = rw q
+
+pub secondly-goes : (book : List ℕ) (e : Expansion) (out work : List ℕ) → e .numbers .number ≡ 0 →
+    secondly book e out work ≡ expansion book (take (e .numbers .place) (e .answer)) 0 out work
+unfolding secondly
+secondly-goes book e out work h = rw h
+
+module _ (book term : List ℕ) (limit : ℕ) (out work : List ℕ) (r : Answer) (answer : List ℕ)
+    (numbers : r ≡ expansion book term limit out work .numbers) (words : answer ≡ expansion book term limit out work .answer) (out′ work′ : List ℕ) where
+  -- nothing was handed back
+  pub second-none : (r .number ≡ 0 → ⊥) →
+      secondly book (expansion book term limit out work) out′ work′ ≡ record { numbers = r; answer = out′; work = work′ }
+  second-none h =
+      secondly-none book (expansion book term limit out work) out′ work′ (λ z. h (ap (λ y. y .number) numbers ∙ z))
+      ∙ ap (λ y. record { numbers = y; answer = out′; work = work′ }) (sym numbers)
+
+  -- v is what was handed back
+  pub second-goes : r .number ≡ 0 → (v : List ℕ) → v ≡ handedBack r answer →
+      secondly book (expansion book term limit out work) out′ work′ ≡ expansion book v 0 out′ work′
+  second-goes h v e =
+      secondly-goes book (expansion book term limit out work) out′ work′ (sym (ap (λ y. y .number) numbers) ∙ h)
+      ∙ ap (λ y. expansion book y 0 out′ work′)
+      (ap (take (expansion book term limit out work .numbers .place)) (sym words) ∙ sym (ap (λ y. take (y .place) answer) numbers) ∙ sym e)

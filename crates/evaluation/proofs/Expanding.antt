@@ -18,7 +18,7 @@ use Rattle.system.proofs.TermChecks.{fault-whole}
 use Rattle.matching.specs.Accepted.{systemOf, Accepted}
 use Rattle.evaluation.specs.declared.run.Ended.{Ended}
 use Rattle.evaluation.specs.Evaluation.{Run, Outcome, settled, stopped, evaluation}
-use Rattle.evaluation.specs.Ended.{Ends}
+use Rattle.evaluation.specs.machine.Ended.{Ends}
 use Rattle.evaluation.specs.Expansion.{ended, expansion}
 use Rattle.evaluation.proofs.Done.{theorem-done, steps-last}
 

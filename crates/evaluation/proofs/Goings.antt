@@ -10,8 +10,8 @@ use Rattle.system.specs.System.{System}
 use Rattle.system.specs.Terms.{Whole, WellFormed}
 use Rattle.matching.specs.Matching.{Redex, redex}
 use Rattle.evaluation.specs.Rewriting.{Active, root, below}
-use Rattle.evaluation.specs.Machine.{strategyAt, down, position, Opened, base, level}
-use Rattle.evaluation.specs.Area.{Going}
+use Rattle.evaluation.specs.machine.Machine.{strategyAt, down, position, Opened, base, level}
+use Rattle.evaluation.specs.machine.Area.{Going}
 use Rattle.system.proofs.Forests.{stands-getD}
 use Rattle.system.proofs.Places.{patch, at-replace}
 use Rattle.matching.proofs.Firsts.{redex-at, fired}

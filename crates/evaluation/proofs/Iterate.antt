@@ -10,8 +10,8 @@ use Rattle.system.specs.Signature.{argument, replace}
 use Rattle.system.specs.System.{System}
 use Rattle.system.specs.Terms.{WellFormed}
 use Rattle.matching.specs.Matching.{Redex, redex}
-use Rattle.evaluation.specs.Evaluation.{Run, settled, stopped, after, rewrite, evaluation}
-use Rattle.evaluation.specs.Machine.{strategyAt, down, position, resume, Next, finished, deep, ready, around, scan, enter, advance, iterate}
+use Rattle.evaluation.specs.Evaluation.{Run, settled, stopped, after, rewrite, evaluation, nested}
+use Rattle.evaluation.specs.machine.Machine.{strategyAt, down, position, resume, Next, finished, deep, ready, around, scan, enter, advance}
 use Rattle.matching.proofs.Firsts.{redex-empty}
 use Rattle.evaluation.proofs.Walks.{rewrite-same, follow-end}
 use Rattle.evaluation.proofs.Laws.{next-entry, position-le, rest, resume-top, resume-under, resume-end, resume-deep, resume-evaluation, top-pass, top-open, top-fire, level-rewrite}
@@ -41,7 +41,7 @@ module _ (s : System) where
     -- what is left to do from the state xs, told by where the machine comes to
     abbrev pub Reached : ℕ → List ℕ → ℕ → Next → Type 0
     Reached l xs p finished = resume s limit l xs p r ≡ settled r
-    Reached l xs p deep = resume s limit l xs p r ≡ stopped 13 (r .steps)
+    Reached l xs p deep = resume s limit l xs p r ≡ stopped nested (r .steps)
     Reached l xs p (ready cs c x) = (redex s (drop (position s t cs p) t) ≡ some x) ×
         (resume s limit l xs p r ≡ rewrite s limit (position s t cs p) r x (λ r′. resume s limit l (cs ++ 0 ∷ []) p r′))
 
@@ -91,22 +91,3 @@ module _ (s : System) where
     reached zero (c ∷ cs) p = resume-deep s limit c cs p r
     reached (suc l) (c ∷ cs) p = reached-around l c p cs (advance s l cs t (down s t p c)) (scan s (enter s l t) t (drop c (strategyAt s t p)) c p)
         (reached l cs (down s t p c)) (reached-scan l (reached-enter l) p (drop c (strategyAt s t p)) c refl)
-
-  pub iterate-resume : (wf : WellFormed s) (limit k : ℕ) (cs : List ℕ) (r : Run) → r .steps ≤ limit → limit < k + r .steps →
-      iterate s limit k cs r ≡ resume s limit 64 cs 0 r
-  unfolding iterate
-  iterate-resume wf limit zero cs r h m = absurd (omega arith)
-  iterate-resume wf limit (suc k) cs r h m = go (advance s 64 cs (r .term) 0) refl (reached wf limit r 64 cs 0) (λ cs r. iterate-resume wf limit k cs r)
-    where
-      go : (n : Next) → advance s 64 cs (r .term) 0 ≡ n → Reached wf limit r 64 cs 0 (advance s 64 cs (r .term) 0) →
-          ((cs : List ℕ) (r : Run) → r .steps ≤ limit → limit < k + r .steps → iterate s limit k cs r ≡ resume s limit 64 cs 0 r) →
-          iterate s limit (suc k) cs r ≡ resume s limit 64 cs 0 r
-      go finished e c ih = rw (e, iterate) (sym (rw e at c))
-      go deep e c ih = rw (e, iterate) (sym (rw e at c))
-      go (ready cs′ d x) e c ih =
-          let y = rw e at c in
-          rw (e, iterate) (rewrite-same s limit (position s (r .term) cs′ 0) r x (λ r′. iterate s limit k (cs′ ++ 0 ∷ []) r′) (λ r′. resume s limit 64 (cs′ ++ 0 ∷ []) 0 r′)
-          (λ n. ih (cs′ ++ 0 ∷ []) (record { term = replace (s .arities) (r .term) (position s (r .term) cs′ 0) (x .reduct); steps = suc (r .steps) }) n (omega arith)) ∙ sym (y .1))
-
-  pub evaluation-iterate : WellFormed s → (limit : ℕ) (t : List ℕ) → evaluation s limit t ≡ iterate s limit (suc limit) (0 ∷ []) (record { term = t; steps = 0 })
-  evaluation-iterate wf limit t = sym (iterate-resume wf limit (suc limit) (0 ∷ []) (record { term = t; steps = 0 }) (omega arith) (omega arith) ∙ resume-evaluation s limit t)

@@ -10,8 +10,8 @@ use lib.Seq.{drop-cons}
 use Rattle.system.specs.Signature.{argument, replace}
 use Rattle.system.specs.System.{System, strategy}
 use Rattle.matching.specs.Matching.{Redex, redex}
-use Rattle.evaluation.specs.Evaluation.{Run, Outcome, settled, stopped, after, rewrite, follow, evaluate, evaluation}
-use Rattle.evaluation.specs.Machine.{others, last, strategyAt, down, position, lower, resume}
+use Rattle.evaluation.specs.Evaluation.{Run, Outcome, settled, stopped, after, rewrite, follow, evaluate, evaluation, nested}
+use Rattle.evaluation.specs.machine.Machine.{others, last, strategyAt, down, position, lower, resume}
 use Rattle.system.proofs.Places.{replace-word, replace-argument}
 use Rattle.evaluation.proofs.Walks.{rewrite-same, after-rewrite, follow-end, follow-pass, follow-fire, follow-open}
 use Rattle.evaluation.proofs.Again.{evaluate-again}
@@ -76,7 +76,7 @@ module _ (s : System) (limit : ℕ) where
   unfolding resume
   resume-end l p r = refl
 
-  pub resume-deep : (c : ℕ) (cs : List ℕ) (p : ℕ) (r : Run) → resume s limit zero (c ∷ cs) p r ≡ stopped 13 (r .steps)
+  pub resume-deep : (c : ℕ) (cs : List ℕ) (p : ℕ) (r : Run) → resume s limit zero (c ∷ cs) p r ≡ stopped nested (r .steps)
   unfolding resume
   resume-deep c cs p r = refl
 
@@ -92,9 +92,6 @@ module _ (s : System) (limit : ℕ) where
 
   -- the laws at the innermost level
   module _ (l c p : ℕ) (r : Run) where
-    top-pop : length (strategyAt s (r .term) p) ≤ c → resume s limit (suc l) (c ∷ []) p r ≡ settled r
-    top-pop h = resume-top l c p r ∙ rw (drop-of-length-le (strategyAt s (r .term) p) h) (follow-end s limit _ _ p r)
-
     module _ (es : List ℕ) where
       pub top-pass : drop c (strategyAt s (r .term) p) ≡ 0 ∷ es → redex s (drop p (r .term)) ≡ none →
           resume s limit (suc l) (c ∷ []) p r ≡ resume s limit (suc l) (suc c ∷ []) p r
@@ -115,17 +112,6 @@ module _ (s : System) (limit : ℕ) where
           resume-top l c p r ∙ ap (λ e. rest l e p r) q ∙ follow-fire s limit (evaluate s limit l) (evaluate s limit (suc l)) es p r x f
           ∙ rewrite-same s limit p r x (evaluate s limit (suc l) p) (λ r′. resume s limit (suc l) (0 ∷ []) p r′) (λ _. sym (resume-start (suc l) p _))
 
-  -- a change at the innermost level, below the levels cs
-  under : (cs : List ℕ) (l p : ℕ) (r : Run) (xs ys : List ℕ) →
-      resume s limit (lower l cs) xs (position s (r .term) cs p) r ≡ resume s limit (lower l cs) ys (position s (r .term) cs p) r →
-      resume s limit l (cs ++ xs) p r ≡ resume s limit l (cs ++ ys) p r
-  unfolding lower position
-  under [] l p r xs ys e = e
-  under (c ∷ cs) zero p r xs ys e = resume-deep c (cs ++ xs) p r ∙ sym (resume-deep c (cs ++ ys) p r)
-  under (c ∷ cs) (suc l) p r xs ys e =
-      resume-under l c (cs ++ xs) p r ∙ ap (λ o. after o (λ r′. rest l (drop c (strategyAt s (r .term) p)) p r′)) (under cs l (down s (r .term) p c) r xs ys e)
-      ∙ sym (resume-under l c (cs ++ ys) p r)
-
   -- a rewrite further down, seen from one level above it
   pub level-rewrite : (l c p : ℕ) (r : Run) (x : Redex) (q : ℕ) (xs ys : List ℕ) → q < length (r .term) → down s (r .term) p c ≤ q →
       resume s limit l xs (down s (r .term) p c) r ≡ rewrite s limit q r x (λ r′. resume s limit l ys (down s (r .term) p c) r′) →
@@ -137,47 +123,3 @@ module _ (s : System) (limit : ℕ) where
       resume-under l c xs p r ∙ ap (λ o. after o k) e ∙ after-rewrite s limit q r x (λ r′. resume s limit l ys (down s t p c) r′) k
       ∙ rewrite-same s limit q r x (λ r′. after (resume s limit l ys (down s t p c) r′) k) (λ r′. resume s limit (suc l) (c ∷ ys) p r′)
       (λ _. sym (rw (replace-down s t (x .reduct) p q c h m, replace-strategy s t (x .reduct) p q c h m) at (resume-under l c ys p (record { term = t′; steps = suc (r .steps) }))))
-
-  under-rewrite : (cs : List ℕ) (l p : ℕ) (r : Run) (x : Redex) (xs ys : List ℕ) → position s (r .term) cs p < length (r .term) → length cs < l →
-      resume s limit (lower l cs) xs (position s (r .term) cs p) r ≡ rewrite s limit (position s (r .term) cs p) r x (λ r′. resume s limit (lower l cs) ys (position s (r .term) cs p) r′) →
-      resume s limit l (cs ++ xs) p r ≡ rewrite s limit (position s (r .term) cs p) r x (λ r′. resume s limit l (cs ++ ys) p r′)
-  unfolding lower position
-  under-rewrite [] l p r x xs ys h n e = e
-  under-rewrite (c ∷ cs) zero p r x xs ys h n e = absurd (not-suc-le-zero n)
-  under-rewrite (c ∷ cs) (suc l) p r x xs ys h n e =
-      level-rewrite l c p r x (position s (r .term) cs (down s (r .term) p c)) (cs ++ xs) (cs ++ ys) h (position-le s (r .term) cs (down s (r .term) p c))
-      (under-rewrite cs l (down s (r .term) p c) r x xs ys h (le-of-suc-le-suc n) e)
-
-  -- too many levels
-  pub too-deep : (l : ℕ) (cs : List ℕ) (p : ℕ) (r : Run) → l < length cs → resume s limit l cs p r ≡ stopped 13 (r .steps)
-  too-deep l [] p r h = absurd (not-suc-le-zero h)
-  too-deep zero (c ∷ cs) p r h = resume-deep c cs p r
-  too-deep (suc l) (c ∷ cs) p r h = resume-under l c cs p r ∙ ap (λ o. after o (λ r′. rest l (drop c (strategyAt s (r .term) p)) p r′)) (too-deep l cs _ r (le-of-suc-le-suc h))
-
-  -- the transition laws, at the level below the levels cs, where c entries are begun
-  module _ (l p : ℕ) (r : Run) (cs : List ℕ) (c : ℕ) (room : length cs < l) where
-    abbrev here : ℕ
-    here = position s (r .term) cs p
-
-    lower-suc : lower l cs ≡ suc (l - suc (length cs))
-    lower-suc = let z = lower-sub l cs in omega arith
-
-    -- a level that is finished
-    pub law-pop : length (strategyAt s (r .term) here) ≤ c → resume s limit l (cs ++ c ∷ []) p r ≡ resume s limit l cs p r
-    law-pop h = under cs l p r (c ∷ []) [] (rw lower-suc (top-pop (l - suc (length cs)) c here r h ∙ sym (resume-end _ here r)))
-        ∙ ap (λ z. resume s limit l z p r) (append-nil cs)
-
-    module _ (es : List ℕ) where
-      -- an entry 0 where no rule matches
-      pub law-pass : drop c (strategyAt s (r .term) here) ≡ 0 ∷ es → redex s (drop here (r .term)) ≡ none →
-          resume s limit l (cs ++ c ∷ []) p r ≡ resume s limit l (cs ++ suc c ∷ []) p r
-      law-pass q f = under cs l p r (c ∷ []) (suc c ∷ []) (rw lower-suc (top-pass (l - suc (length cs)) c here r es q f))
-
-      -- an entry that opens an argument
-      pub law-open : (i : ℕ) → drop c (strategyAt s (r .term) here) ≡ suc i ∷ es → resume s limit l (cs ++ c ∷ []) p r ≡ resume s limit l (cs ++ suc c ∷ 0 ∷ []) p r
-      law-open i q = under cs l p r (c ∷ []) (suc c ∷ 0 ∷ []) (rw lower-suc (top-open (l - suc (length cs)) c here r es i q))
-
-      -- an entry 0 where a rule matches
-      pub law-fire : (x : Redex) → here < length (r .term) → drop c (strategyAt s (r .term) here) ≡ 0 ∷ es → redex s (drop here (r .term)) ≡ some x →
-          resume s limit l (cs ++ c ∷ []) p r ≡ rewrite s limit here r x (λ r′. resume s limit l (cs ++ 0 ∷ []) p r′)
-      law-fire x h q f = under-rewrite cs l p r x (c ∷ []) (0 ∷ []) h room (rw lower-suc (top-fire (l - suc (length cs)) c here r es x q f))

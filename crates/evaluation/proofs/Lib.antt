@@ -4,7 +4,6 @@ pub mod Walks
 pub mod Done
 pub mod Quiet
 pub mod Found
-pub mod Stops
 -- The machine: its laws, and the measure of a loop that runs it
 pub mod Again
 pub mod Laws
@@ -31,5 +30,6 @@ pub mod Cleared
 pub mod Runs
 pub mod Expanding
 -- Demand 3 of the evaluator's answers, and the starred cases
+pub mod Demand1
 pub mod Demand3
 pub mod Cases

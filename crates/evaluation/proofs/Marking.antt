@@ -8,7 +8,7 @@ use lib.ListN.{length, getD, set, length-set}
 use lib.Seq.{getD-set-same, getD-set-other}
 use Rattle.system.specs.declared.Shape.{Shape}
 use Rattle.matching.specs.Accepted.{Accepted, Standing}
-use Rattle.evaluation.specs.Marks.{Marked}
+use Rattle.evaluation.specs.machine.Marks.{Marked}
 use Rattle.matching.proofs.Standings.{standing-start}
 
 -- the first n marks are made

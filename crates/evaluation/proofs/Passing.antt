@@ -15,8 +15,8 @@ use Rattle.system.specs.Signature.{argument}
 use Rattle.system.specs.System.{System}
 use Rattle.system.specs.Terms.{Stands, first, later}
 use Rattle.matching.specs.Matching.{redex}
-use Rattle.evaluation.specs.Machine.{strategyAt, down, position, Opened, level, finished, around, scan, enter}
-use Rattle.evaluation.specs.Turn.{between, among, sinceAt}
+use Rattle.evaluation.specs.machine.Machine.{strategyAt, down, position, Opened, level, finished, around, scan, enter}
+use Rattle.evaluation.specs.machine.Turn.{between, among, sinceAt}
 use Rattle.evaluation.proofs.Laws.{position-snoc}
 use Rattle.evaluation.proofs.Iterate.{scan-pass}
 use Rattle.evaluation.proofs.Repeats.{among-stands, between-none, between-more, between-all}

@@ -13,7 +13,7 @@ use Rattle.system.specs.Signature.{Signature, Symbol, arity, argument}
 use Rattle.system.specs.System.{System, strategy, head}
 use Rattle.system.specs.Terms.{Whole, Stands, first, later, WellFormed}
 use Rattle.matching.specs.Matching.{redex}
-use Rattle.evaluation.specs.Evaluation.{Run, Outcome, settled, stopped, after, follow, atRoot, evaluate}
+use Rattle.evaluation.specs.Evaluation.{Run, Outcome, settled, stopped, after, follow, atRoot, evaluate, spent}
 use Rattle.system.proofs.Forests.{focus-here, Node, node-whole, as-node}
 use Rattle.system.proofs.Places.{at-word, at-argument}
 use Rattle.matching.proofs.Firsts.{redex-at}
@@ -77,7 +77,7 @@ module _ (s : System) where
     atRoot-start : (inner : ℕ → Run → Outcome) (left p : ℕ) (r : Run) →
         (again : ℕ → Run → Outcome) × (atRoot s limit inner left p r ≡ follow s limit inner again (strategy s (getD (r .term) p 0)) p r)
     unfolding atRoot
-    atRoot-start inner zero p r = (λ p′ r′. stopped 11 (r′ .steps), refl)
+    atRoot-start inner zero p r = (λ p′ r′. stopped spent (r′ .steps), refl)
     atRoot-start inner (suc left) p r = (atRoot s limit inner left, refl)
 
     abbrev Rests : ℕ → Type 0

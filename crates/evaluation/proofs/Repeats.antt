@@ -12,7 +12,7 @@ use lib.Dec.{eqb}
 use borrow.Author.Tests.{eqb-true, eq-eqb, ne-eqb}
 use Rattle.buffers.proofs.Over.{part-slice}
 use Rattle.system.specs.Terms.{Stands, first, later}
-use Rattle.evaluation.specs.Turn.{between, among}
+use Rattle.evaluation.specs.machine.Turn.{between, among}
 use Rattle.evaluation.proofs.Quiet.{stands-nil}
 
 pub among-stands : (e : ℕ) (ds : List ℕ) → among e ds ≡ true → Stands e ds

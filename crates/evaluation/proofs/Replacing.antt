@@ -13,7 +13,7 @@ use Rattle.buffers.proofs.Replaced.{longer, shorter}
 use Rattle.matching.specs.Stretches.{Stretches, value, reductLength, Within}
 use Rattle.matching.proofs.Matched.{instance-cong}
 use Rattle.matching.proofs.Reducts.{reduct-length}
-use Rattle.evaluation.specs.Rewritten.{filled, Behind, Room, replaced}
+use Rattle.evaluation.specs.machine.Rewritten.{filled, Behind, Room, replaced}
 
 -- ---- laws of words written over a list
 

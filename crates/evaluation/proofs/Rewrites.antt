@@ -23,10 +23,10 @@ use Rattle.matching.specs.Stretches.{matchOf, reductLength, RightSide, Within}
 use Rattle.matching.proofs.Firsts.{redex-rest}
 use Rattle.matching.proofs.Books.{well}
 use Rattle.matching.proofs.Reducts.{match-right, match-within, match-none, match-some, match-length}
-use Rattle.evaluation.specs.Machine.{down, position}
+use Rattle.evaluation.specs.machine.Machine.{down, position}
 use Rattle.evaluation.specs.Rewriting.{root}
-use Rattle.evaluation.specs.Area.{area, termIn, outerIn, countIn, Stored}
-use Rattle.evaluation.specs.Rewritten.{rewritten, Rewritten, done, long, side, filled, Behind, Room, replaced}
+use Rattle.evaluation.specs.machine.Area.{area, termIn, outerIn, countIn, Stored}
+use Rattle.evaluation.specs.machine.Rewritten.{rewritten, Rewritten, done, long, side, filled, Behind, Room, replaced}
 use Rattle.evaluation.proofs.Actives.{At, at-parted, active-whole}
 use Rattle.evaluation.proofs.Done.{whole-within}
 use Rattle.evaluation.proofs.Laws.{down-lt}

@@ -18,12 +18,12 @@ use Rattle.matching.specs.Stretches.{matchOf}
 use Rattle.evaluation.specs.declared.machine.Advanced.{Advanced}
 use Rattle.evaluation.specs.declared.run.Ended.{Ended}
 use Rattle.evaluation.specs.declared.machine.Stop.the-variants.{Finished, Deep, Ready}
-use Rattle.evaluation.specs.Evaluation.{Run, Outcome, stopped, rewrite, evaluation}
-use Rattle.evaluation.specs.Machine.{position, Opened, base, down, resume, Next, finished, deep, ready, advance}
-use Rattle.evaluation.specs.Area.{area, termIn, outerIn, countIn, Laid, Going, Positioned, Stored, Holds}
-use Rattle.evaluation.specs.Arrival.{Arrived}
-use Rattle.evaluation.specs.Rewritten.{Rewritten, done, long}
-use Rattle.evaluation.specs.Ended.{Ends}
+use Rattle.evaluation.specs.Evaluation.{Run, Outcome, stopped, rewrite, evaluation, Limit, spent, overlong, nested, limitNumber}
+use Rattle.evaluation.specs.machine.Machine.{position, Opened, base, down, resume, Next, finished, deep, ready, advance}
+use Rattle.evaluation.specs.machine.Area.{area, termIn, outerIn, countIn, Laid, Going, Positioned, Stored, Holds}
+use Rattle.evaluation.specs.machine.Arrival.{Arrived}
+use Rattle.evaluation.specs.machine.Rewritten.{Rewritten, done, long}
+use Rattle.evaluation.specs.machine.Ended.{Ends}
 use Rattle.evaluation.proofs.Walks.{rewrite-spent, rewrite-long, rewrite-goes}
 use Rattle.evaluation.proofs.Laws.{position-le, resume-evaluation}
 use Rattle.evaluation.proofs.Iterate.{Reached, reached}
@@ -32,7 +32,7 @@ use Rattle.evaluation.proofs.Areas.{held-term, held-outer, held-count, 
 use Rattle.evaluation.proofs.Starts.{area-bare}
 
 -- a run that was stopped, its area cleared
-pub ends-stopped : (o : Outcome) (n k : ℕ) (e : Ended) (ws : List ℕ) → o ≡ stopped n k → e ≡ record { number = n; size = 0; steps = k } → ws ≡ zeros 8192 → Ends o e ws
+pub ends-stopped : (o : Outcome) (n : Limit) (k : ℕ) (e : Ended) (ws : List ℕ) → o ≡ stopped n k → e ≡ record { number = limitNumber n; size = 0; steps = k } → ws ≡ zeros 8192 → Ends o e ws
 ends-stopped o n k e ws q h w = rw q (h, w)
 
 -- ---- the levels around one of the open levels
@@ -136,10 +136,10 @@ module _ (s : System) (wf : WellFormed s) (limit : ℕ) (t₀ ws positions : Lis
         go deep h k = absurd (let z : _≡_ {A = ℕ} 0 1 = cc in omega arith)
         go (ready outer c x) h k = absurd (let z : _≡_ {A = ℕ} 0 1 = cc in omega arith)
 
-    pub stops-deep : Came (advance s 64 state (termIn ws n) 0) → a .stop ≡ Deep → (evaluation s limit t₀ ≡ stopped 13 steps) × Laid ws′ n (a .level)
+    pub stops-deep : Came (advance s 64 state (termIn ws n) 0) → a .stop ≡ Deep → (evaluation s limit t₀ ≡ stopped nested steps) × Laid ws′ n (a .level)
     stops-deep h e = go (advance s 64 state (termIn ws n) 0) h (reached s wf limit r 64 state 0)
       where
-        go : (x : Next) → Came x → Reached s wf limit r 64 state 0 x → (evaluation s limit t₀ ≡ stopped 13 steps) × Laid ws′ n (a .level)
+        go : (x : Next) → Came x → Reached s wf limit r 64 state 0 x → (evaluation s limit t₀ ≡ stopped nested steps) × Laid ws′ n (a .level)
         go finished h k = absurd (let z : _≡_ {A = ℕ} 0 1 = cc in omega arith)
         go deep h k = (sym (v .same) ∙ k, stored-laid s ws′ n (a .level) (h .1))
         go (ready outer c x) h k = absurd (let z : _≡_ {A = ℕ} 0 1 = cc in omega arith)
@@ -186,7 +186,7 @@ module _ (s : System) (wf : WellFormed s) (limit : ℕ) (t₀ ws positions : Lis
     pub before-laid : Laid ws n level
     before-laid = stored-laid s ws n level (b .holds .stored)
 
-    pub stops-spent : limit ≤ steps → evaluation s limit t₀ ≡ stopped 11 steps
+    pub stops-spent : limit ≤ steps → evaluation s limit t₀ ≡ stopped spent steps
     stops-spent l = sym (b .same) ∙ rewrite-spent s limit (position s t outer 0) r (b .x) l (λ r′. resume s limit 64 (outer ++ 0 ∷ []) 0 r′)
 
     -- ---- after `rewrite`, at p
@@ -205,7 +205,7 @@ module _ (s : System) (wf : WellFormed s) (limit : ℕ) (t₀ ws positions : Lis
       not-none (long h e f) z = (h, f)
       not-none (done h e f) z = absurd (let y = forest-some (stepped h .whole) in omega arith)
 
-      pub stops-long : Rewritten s ws n level p (b .x) k ws′ → k ≡ 0 → (evaluation s limit t₀ ≡ stopped 12 steps) × Laid ws′ n level
+      pub stops-long : Rewritten s ws n level p (b .x) k ws′ → k ≡ 0 → (evaluation s limit t₀ ≡ stopped overlong steps) × Laid ws′ n level
       stops-long h z =
           let w = not-none h z in (
             sym (b .same) ∙ rewrite-long s limit (position s t outer 0) r (b .x) l (rw (← ep) (w .0)) (λ r′. resume s limit 64 (outer ++ 0 ∷ []) 0 r′),

@@ -8,7 +8,7 @@ use lib.Seq.{sets-eq}
 use Rattle.buffers.specs.Words.{pad, zeros, over}
 use Rattle.buffers.proofs.Over.{over-append}
 use Rattle.buffers.proofs.Pads.{length-pad, zeros-append}
-use Rattle.evaluation.specs.Area.{area}
+use Rattle.evaluation.specs.machine.Area.{area}
 
 pub over-all : (ws xs : List ℕ) → length ws ≡ length xs → over ws 0 xs ≡ xs
 over-all ws xs e =

@@ -14,7 +14,7 @@ use Rattle.matching.specs.Accepted.{systemOf, Accepted, StrategyAt}
 use Rattle.matching.proofs.Standings.{strategy-count}
 use Rattle.evaluation.specs.declared.entries.Entry.{Entry}
 use Rattle.evaluation.specs.declared.entries.Entry.the-variants.{End, Again, Rules, Argument}
-use Rattle.evaluation.specs.Turn.{entryFrom, between, among, entryOf}
+use Rattle.evaluation.specs.machine.Turn.{entryFrom, between, among, entryOf}
 use Rattle.evaluation.proofs.Repeats.{between-take}
 
 -- ---- what an entry asks for

@@ -15,7 +15,7 @@ use Rattle.system.specs.Terms.{Forest, empty, more, Word, Whole, Lawful, WellFo
 use Rattle.system.proofs.Signatures.{arity-variable, symbol-below, few-symbols}
 use Rattle.system.proofs.Forests.{span-forest, split, Split}
 use Rattle.matching.specs.Stretches.{Stretches, unset, takes, note, stretches, matchFrom, matchOf}
-use Rattle.evaluation.specs.Rewritten.{Behind}
+use Rattle.evaluation.specs.machine.Rewritten.{Behind}
 use Rattle.matching.proofs.Stretched.{zero-at}
 use Rattle.matching.proofs.MatchSteps.{cons-stop, cons-next, takes-variable, takes-differ, takes-same, note-symbol, note-variable, from-nil, from-here, from-next}
 

@@ -20,9 +20,9 @@ use Rattle.matching.proofs.Books.{well, signature}
 use Rattle.evaluation.specs.declared.entries.Entry.{Entry}
 use Rattle.evaluation.specs.declared.entries.Entry.the-variants.{End, Again, Rules, Argument}
 use Rattle.evaluation.specs.declared.machine.Turn.the-variants.{Passed, Tried, Opened, Left, TooDeep}
-use Rattle.evaluation.specs.Machine.{strategyAt, down, position}
-use Rattle.evaluation.specs.Area.{area, termIn, outerIn, countIn, Going, Positioned, Holds}
-use Rattle.evaluation.specs.Turn.{entryOf, Turned, passed, tried, opened, left, tooDeep, turn, Taken}
+use Rattle.evaluation.specs.machine.Machine.{strategyAt, down, position}
+use Rattle.evaluation.specs.machine.Area.{area, termIn, outerIn, countIn, Going, Positioned, Holds}
+use Rattle.evaluation.specs.machine.Turn.{entryOf, Turned, passed, tried, opened, left, tooDeep, turn, Taken}
 use Rattle.evaluation.proofs.Laws.{position-snoc}
 use Rattle.evaluation.proofs.Goings.{going-within, going-pop, going-pass, going-open}
 use Rattle.evaluation.proofs.Strategies.{stood, entry-past, entry-again, entry-rules, entry-argument, Asks, end, again, rules, opens, asks, asked-end, asked-again, asked-rules, asked-argument}

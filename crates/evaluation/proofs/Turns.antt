@@ -7,7 +7,7 @@ use mathlib.Core.List.{List, [], _∷_, _++_, append-nil}
 use lib.ListN.{length, drop, drop-of-length-le}
 use Rattle.system.specs.Signature.{argument}
 use Rattle.system.specs.System.{System}
-use Rattle.evaluation.specs.Machine.{strategyAt, down, position, lower}
+use Rattle.evaluation.specs.machine.Machine.{strategyAt, down, position, lower}
 use Rattle.evaluation.proofs.Laws.{next-entry, lower-sub}
 
 module _ (s : System) (t : List ℕ) where

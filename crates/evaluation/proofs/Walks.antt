@@ -11,7 +11,7 @@ use Rattle.system.specs.Signature.{Signature, Symbol, arity, argument, replace}
 use Rattle.system.specs.System.{System, strategy, head}
 use Rattle.system.specs.Terms.{Whole, Stands, first, later, WellFormed}
 use Rattle.matching.specs.Matching.{Redex, redex}
-use Rattle.evaluation.specs.Evaluation.{Run, Outcome, settled, stopped, after, rewrite, follow, atRoot, evaluate}
+use Rattle.evaluation.specs.Evaluation.{Run, Outcome, settled, stopped, after, rewrite, follow, atRoot, evaluate, Limit, spent, overlong, nested}
 use Rattle.system.proofs.Forests.{Node, node-whole, node-set, as-node, focus, focus-here}
 use Rattle.system.proofs.Places.{at-word, at-argument, at-replace}
 use Rattle.matching.proofs.Firsts.{redex-at, fired}
@@ -36,7 +36,7 @@ Bounded s (open′ {w} {i} {us} d m k f) a b = Bounded s k (a ++ w ∷ flatten (
 pub run-path : (r : Run) (t : List ℕ) (n : ℕ) → r .term ≡ t → r .steps ≡ n → r ≡ record { term = t; steps = n }
 run-path r t n p q = λ i. record { term = p i; steps = q i }
 
-pub never : {X : Type 0} (n k : ℕ) (r : Run) → stopped n k ≡ settled r → X
+pub never : {X : Type 0} (n : Limit) (k : ℕ) (r : Run) → stopped n k ≡ settled r → X
 never n k r e = absurd (let z : _≡_ {A = ℕ} 0 1 = cc in omega arith)
 
 pub after-settled : (o : Outcome) (on : Run → Outcome) (r : Run) → after o on ≡ settled r → (r₁ : Run) × (o ≡ settled r₁) × (on r₁ ≡ settled r)
@@ -50,11 +50,11 @@ module _ (s : System) where
   module _ (limit : ℕ) where
     -- the limits of a rewrite
     module _ (p : ℕ) (r : Run) (x : Redex) where
-      pub rewrite-spent : limit ≤ r .steps → (on : Run → Outcome) → rewrite s limit p r x on ≡ stopped 11 (r .steps)
+      pub rewrite-spent : limit ≤ r .steps → (on : Run → Outcome) → rewrite s limit p r x on ≡ stopped spent (r .steps)
       unfolding rewrite
       rewrite-spent h on = rw (le-ltb (r .steps) limit h, rewrite)
 
-      pub rewrite-long : r .steps < limit → 4096 < length (replace g (r .term) p (x .reduct)) → (on : Run → Outcome) → rewrite s limit p r x on ≡ stopped 12 (r .steps)
+      pub rewrite-long : r .steps < limit → 4096 < length (replace g (r .term) p (x .reduct)) → (on : Run → Outcome) → rewrite s limit p r x on ≡ stopped overlong (r .steps)
       unfolding rewrite
       rewrite-long h m on = rw (lt-ltb (r .steps) limit h, rewrite) (rw (lt-leb _ 4096 m))
 
@@ -65,15 +65,15 @@ module _ (s : System) where
 
       -- a rewrite stops at a limit, or goes on with the changed term, whatever comes after
       pub data Rewritten : Type 0 where
-        halts : (n k : ℕ) → ((on : Run → Outcome) → rewrite s limit p r x on ≡ stopped n k) → Rewritten
+        halts : (n : Limit) (k : ℕ) → ((on : Run → Outcome) → rewrite s limit p r x on ≡ stopped n k) → Rewritten
         goes : r .steps < limit → length (replace g (r .term) p (x .reduct)) ≤ 4096 →
             ((on : Run → Outcome) → rewrite s limit p r x on ≡ on (record { term = replace g (r .term) p (x .reduct); steps = suc (r .steps) })) → Rewritten
 
       pub rewritten : Rewritten
       rewritten = elim (decLt (r .steps) limit) [
-        | no h ↦ halts 11 (r .steps) (rewrite-spent (omega arith))
+        | no h ↦ halts spent (r .steps) (rewrite-spent (omega arith))
         | yes h ↦ elim (decLe (length (replace g (r .term) p (x .reduct))) 4096) [
-          | no m ↦ halts 12 (r .steps) (rewrite-long h (omega arith))
+          | no m ↦ halts overlong (r .steps) (rewrite-long h (omega arith))
           | yes m ↦ goes h m (rewrite-goes h m)
         ]
       ]
@@ -217,11 +217,11 @@ module _ (s : System) where
 
       atRoot-local : (l : ℕ) (inner : ℕ → Run → Outcome) → Locally l inner → (left : ℕ) → Locally (suc l) (atRoot s limit inner left)
       unfolding atRoot
-      atRoot-local l inner hi zero = start-local l inner (λ p r. stopped 11 (r .steps)) hi (λ a b u n r h e. never 11 n r e)
+      atRoot-local l inner hi zero = start-local l inner (λ p r. stopped spent (r .steps)) hi (λ a b u n r h e. never spent n r e)
       atRoot-local l inner hi (suc left) = start-local l inner (atRoot s limit inner left) hi (atRoot-local l inner hi left)
 
       -- evaluating at a position is a walk on the subterm there, and changes nothing else
       pub evaluate-local : (levels : ℕ) → Locally levels (evaluate s limit levels)
       unfolding evaluate
-      evaluate-local zero a b u n r h e = never 13 n r e
+      evaluate-local zero a b u n r h e = never nested n r e
       evaluate-local (suc l) a b u n r h e = atRoot-local l (evaluate s limit l) (evaluate-local l) limit a b u n r h e

@@ -14,7 +14,7 @@ use Rattle.matching.specs.Stretches.{value, reductLength, RightSide, Within}
 use Rattle.matching.proofs.Matched.{instance-nil}
 use Rattle.matching.proofs.Words.{fill-symbol, fill-variable}
 use Rattle.matching.proofs.Reducts.{length-symbol, length-variable, value-length}
-use Rattle.evaluation.specs.Rewritten.{side, filled}
+use Rattle.evaluation.specs.machine.Rewritten.{side, filled}
 
 -- the first j words of the side are written, up to the index `to`
 pub record Writing (book : List ℕ) (rhs size : ℕ) (starts lengths ws₀ : List ℕ) (at base to j : ℕ) (ws : List ℕ) : Type 0 where

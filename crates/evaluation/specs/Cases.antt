@@ -6,6 +6,7 @@ use Rattle.system.specs.Cases.{Case, numbers, bookB, earlyB, readerCases}
 use Rattle.matching.specs.Cases.{strategyCases}
 use Rattle.evaluation.specs.Expansion.{Expansion, expansion}
 use Rattle.evaluation.specs.Promises.{handedBack}
+use Rattle.evaluation.specs.Limits.{areaWords, termWords}
 
 -- the three numbers, and the words that are handed back
 abbrev pub told : Expansion → List ℕ
@@ -13,7 +14,7 @@ told e = numbers (e .numbers) ++ handedBack (e .numbers) (e .answer)
 
 -- in buffers of just the words that the evaluator asks for
 unfoldable pub expanding : List ℕ → List ℕ → ℕ → List ℕ
-expanding book term limit = told (expansion book term limit (zeros 4096) (zeros 8192))
+expanding book term limit = told (expansion book term limit (zeros termWords) (zeros areaWords))
 
 unfoldable pub evaluatorCases : List Case
 evaluatorCases =

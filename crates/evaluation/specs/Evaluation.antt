@@ -8,16 +8,32 @@ use lib.Dec.{leb, ltb}
 use Rattle.system.specs.Signature.{argument, replace}
 use Rattle.system.specs.System.{System, strategy}
 use Rattle.matching.specs.Matching.{Redex, redex}
+use Rattle.evaluation.specs.Limits.{levels, termWords}
 
 -- the whole term as it stands, and the steps taken so far
 pub record Run : Type 0 where
   pub term : List ℕ
   pub steps : ℕ
 
--- how an evaluation ends: settled, or stopped with a number of 01's table (11, 12 or 13) and "the steps completed"
+-- the limits that stop an evaluation
+pub data Limit : Type 0 where
+  -- "one more step would pass the allowance" (the step limit)
+  spent : Limit
+  -- "the step would leave the whole cue above 4,096 words"
+  overlong : Limit
+  -- "an argument would be opened from level 64"
+  nested : Limit
+
+-- their numbers in 01's table
+abbrev pub limitNumber : Limit → ℕ
+limitNumber spent = 11
+limitNumber overlong = 12
+limitNumber nested = 13
+
+-- how an evaluation ends: settled, or stopped by a limit, with "the steps completed"
 pub data Outcome : Type 0 where
   settled : Run → Outcome
-  stopped : ℕ → ℕ → Outcome
+  stopped : Limit → ℕ → Outcome
 
 -- go on with a run that has settled
 abbrev pub after : Outcome → (Run → Outcome) → Outcome
@@ -31,9 +47,9 @@ module _ (s : System) (limit : ℕ) where
   rewrite p r x on =
       let t = replace (s .arities) (r .term) p (x .reduct) in
       elim (ltb (r .steps) limit) [
-        | false ↦ stopped 11 (r .steps)
-        | true ↦ elim (leb (length t) 4096) [
-          | false ↦ stopped 12 (r .steps)
+        | false ↦ stopped spent (r .steps)
+        | true ↦ elim (leb (length t) termWords) [
+          | false ↦ stopped overlong (r .steps)
           | true ↦ on (record { term = t; steps = suc (r .steps) })
         ]
       ]
@@ -53,14 +69,14 @@ module _ (s : System) (limit : ℕ) where
   -- "follow its name's order from the first entry", at one level, with at most `left` steps at p itself. (Where none is left, one more
   -- would pass the limit: no outcome depends on `left` from the limit on.)
   unfoldable pub atRoot : (ℕ → Run → Outcome) → ℕ → ℕ → Run → Outcome
-  atRoot inner zero p r = follow inner (λ p′ r′. stopped 11 (r′ .steps)) (strategy s (getD (r .term) p 0)) p r
+  atRoot inner zero p r = follow inner (λ p′ r′. stopped spent (r′ .steps)) (strategy s (getD (r .term) p 0)) p r
   atRoot inner (suc left) p r = follow inner (atRoot inner left) (strategy s (getD (r .term) p 0)) p r
 
   -- evaluate the subterm at p, with `levels` levels left, its own among them; "from level 64 this is 13, whatever the argument"
   unfoldable pub evaluate : ℕ → ℕ → Run → Outcome
-  evaluate zero p r = stopped 13 (r .steps)
+  evaluate zero p r = stopped nested (r .steps)
   evaluate (suc levels) p r = atRoot (evaluate levels) limit p r
 
 -- "The whole cue starts at level 1", and there are 64
 unfoldable pub evaluation : System → ℕ → List ℕ → Outcome
-evaluation s limit t = evaluate s limit 64 0 (record { term = t; steps = 0 })
+evaluation s limit t = evaluate s limit levels 0 (record { term = t; steps = 0 })

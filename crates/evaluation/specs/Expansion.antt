@@ -2,13 +2,14 @@
 use Prim.Native.Nat.{ℕ, zero, suc}
 use mathlib.Core.Bool.{true, false, _&&_}
 use mathlib.Core.List.{List}
-use lib.ListN.{length}
+use lib.ListN.{length, take}
 use lib.Dec.{leb}
 use Rattle.buffers.specs.Words.{over, zeros}
 use Rattle.system.specs.declared.Answer.{Answer}
 use Rattle.system.specs.Answers.{termAnswer}
 use Rattle.matching.specs.Accepted.{systemOf}
-use Rattle.evaluation.specs.Evaluation.{Outcome, settled, stopped, evaluation}
+use Rattle.evaluation.specs.Evaluation.{Outcome, settled, stopped, limitNumber, evaluation}
+use Rattle.evaluation.specs.Limits.{areaWords, termWords}
 
 -- the three numbers, the answer buffer and the work buffer
 pub record Expansion : Type 0 where
@@ -22,17 +23,26 @@ abbrev pub ended : List ℕ → List ℕ → Outcome → Expansion
 ended out work (settled r) = record {
   numbers = record { number = 0; place = length (r .term); steps = r .steps };
   answer = over out 0 (r .term);
-  work = over work 0 (zeros 8192);
+  work = over work 0 (zeros areaWords);
 }
-ended out work (stopped n k) = record { numbers = record { number = n; place = 0; steps = k }; answer = out; work = over work 0 (zeros 8192) }
+ended out work (stopped n k) = record { numbers = record { number = limitNumber n; place = 0; steps = k }; answer = out; work = over work 0 (zeros areaWords) }
 
 -- "The expander checks 10, then the book, then the cue"; "every other number touches no buffer"
 unfoldable pub expansion : List ℕ → List ℕ → ℕ → List ℕ → List ℕ → Expansion
 expansion book term limit out work =
-    elim (leb 4096 (length out) && leb 8192 (length work)) [
+    elim (leb termWords (length out) && leb areaWords (length work)) [
       | false ↦ record { numbers = record { number = 10; place = 0; steps = 0 }; answer = out; work = work }
       | true ↦ elim (termAnswer book term .number) [
         | zero ↦ ended out work (evaluation (systemOf book) limit term)
         | suc _ ↦ record { numbers = termAnswer book term; answer = out; work = work }
       ]
+    ]
+
+-- what an expansion e handed back, expanded again with no steps allowed, in the buffers out and work; where nothing was handed back, e's
+-- three numbers and the buffers as they are
+unfoldable pub secondly : List ℕ → Expansion → List ℕ → List ℕ → Expansion
+secondly book e out work =
+    elim (e .numbers .number) [
+      | zero ↦ expansion book (take (e .numbers .place) (e .answer)) 0 out work
+      | suc _ ↦ record { numbers = e .numbers; answer = out; work = work }
     ]

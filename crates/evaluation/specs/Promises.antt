@@ -12,12 +12,13 @@ use Rattle.matching.specs.Matching.{Matches}
 use Rattle.evaluation.specs.Evaluation.{Run, settled, evaluation}
 use Rattle.evaluation.specs.Rewriting.{Active, Steps}
 use Rattle.evaluation.specs.Expansion.{expansion}
+use Rattle.evaluation.specs.Limits.{areaWords, termWords}
 
 -- "Done", whether or not the system is safe. "The reported number is the steps of the expander's answer. That the list of steps leads
 -- from the cue handed in to the cue handed back is one claim about the whole list": n steps lead from t₀ to t, which is whole; with none
 -- the two are equal; the step limit allows n; no term in that list has more than 4,096 words
 pub record Done (s : System) (limit : ℕ) (t₀ t : List ℕ) (n : ℕ) : Type 0 where
-  pub path : Steps s 4096 n t₀ t
+  pub path : Steps s termWords n t₀ t
   pub none : n ≡ 0 → t₀ ≡ t
   pub afford : n ≤ limit
   pub whole : Whole (s .arities) t
@@ -46,7 +47,7 @@ IsDone book term limit r answer = r .number ≡ 0 → (length (handedBack r answ
 -- and where the checks pass and the evaluation ends within its limits, a term is handed back: it and the count are the evaluation's
 abbrev pub IsHandedBack : List ℕ → List ℕ → ℕ → List ℕ → List ℕ → Answer → List ℕ → Type 0
 IsHandedBack book term limit out work r answer =
-    4096 ≤ length out → 8192 ≤ length work → termAnswer book term .number ≡ 0 → (e : Run) → evaluation (systemOf book) limit term ≡ settled e →
+    termWords ≤ length out → areaWords ≤ length work → termAnswer book term .number ≡ 0 → (e : Run) → evaluation (systemOf book) limit term ≡ settled e →
     (r ≡ record { number = 0; place = length (e .term); steps = e .steps }) × (handedBack r answer ≡ e .term)
 
 -- an answer that takes no step and hands back the words t
@@ -56,9 +57,11 @@ Rests t r answer = (r ≡ record { number = 0; place = length t; steps = 0 }) ×
 -- what was found, where the strategy test answers 0 for the book and the evaluator 0 for the term: "expanding it again with allowance 0 in
 -- any buffers that pass the checks" (and with any other step limit)
 pub record Settled (book t : List ℕ) : Type 0 where
+  -- "in 1 to 4,096 words; one so written is whole"
   pub whole : Whole (systemOf book .arities) t
+  pub bounded : length t ≤ 4096
   pub normal : Normal (systemOf book) t
-  pub again : (limit : ℕ) (out work : List ℕ) → 4096 ≤ length out → 8192 ≤ length work →
+  pub again : (limit : ℕ) (out work : List ℕ) → termWords ≤ length out → areaWords ≤ length work →
       Rests t (expansion book t limit out work .numbers) (expansion book t limit out work .answer)
 
 -- `test` is the strategy test's answer
@@ -68,4 +71,4 @@ IsFound book test r answer = test .number ≡ 0 → r .number ≡ 0 → Settled 
 -- and of a second expansion of what was handed back, with step limit 0 in the buffers out′ and work′
 abbrev pub RestsAgain : Answer → Answer → List ℕ → List ℕ → List ℕ → Answer → List ℕ → Type 0
 RestsAgain test r answer out′ work′ r′ answer′ =
-    test .number ≡ 0 → r .number ≡ 0 → 4096 ≤ length out′ → 8192 ≤ length work′ → Rests (handedBack r answer) r′ answer′
+    test .number ≡ 0 → r .number ≡ 0 → termWords ≤ length out′ → areaWords ≤ length work′ → Rests (handedBack r answer) r′ answer′

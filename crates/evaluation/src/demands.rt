@@ -1,7 +1,9 @@
 // Demand 3 as contracts: small functions that call the strategy test and the evaluator, and whose contracts are its sentences.
+ghost use mathlib.Core.Path.{_≡_};
 ghost use lib.ListN.{length};
 ghost use Rattle.system.specs.Reader.{read};
 ghost use Rattle.matching.specs.Safety.{TestedBook};
+ghost use Rattle.evaluation.specs.Expansion.{expansion, secondly};
 ghost use Rattle.evaluation.specs.Promises.{IsDone, IsHandedBack, IsFound, RestsAgain};
 use crate::expand;
 use system::Answer;
@@ -21,6 +23,9 @@ pub fn expand_checked(
     work: &mut [u16],
 ) -> Checked
     ensures tested { λ r. ⌜ TestedBook (read (now (book .entry))) (r .test) ⌝ }
+    ensures numbers { λ r. ⌜ r .answer ≡ expansion (now (book .entry)) (now (term .entry)) limit (now (out .entry)) (now (work .entry)) .numbers ⌝ }
+    ensures answer { λ _. ⌜ now (out .exit) ≡ expansion (now (book .entry)) (now (term .entry)) limit (now (out .entry)) (now (work .entry)) .answer ⌝ }
+    ensures zeroed { λ _. ⌜ now (work .exit) ≡ expansion (now (book .entry)) (now (term .entry)) limit (now (out .entry)) (now (work .entry)) .work ⌝ }
     ensures done { λ r. ⌜ IsDone (now (book .entry)) (now (term .entry)) limit (r .answer) (now (out .exit)) ⌝ }
     ensures handed { λ r. ⌜ IsHandedBack (now (book .entry)) (now (term .entry)) limit (now (out .entry)) (now (work .entry)) (r .answer) (now (out .exit)) ⌝ }
     ensures found { λ r. ⌜ IsFound (now (book .entry)) (r .test) (r .answer) (now (out .exit)) ⌝ }
@@ -49,6 +54,12 @@ pub fn expand_twice(
     spare: &mut [u16],
 ) -> Twice
     ensures tested { λ r. ⌜ TestedBook (read (now (book .entry))) (r .test) ⌝ }
+    ensures numbers { λ r. ⌜ r .first ≡ expansion (now (book .entry)) (now (term .entry)) limit (now (out .entry)) (now (work .entry)) .numbers ⌝ }
+    ensures answer { λ _. ⌜ now (out .exit) ≡ expansion (now (book .entry)) (now (term .entry)) limit (now (out .entry)) (now (work .entry)) .answer ⌝ }
+    ensures zeroed { λ _. ⌜ now (work .exit) ≡ expansion (now (book .entry)) (now (term .entry)) limit (now (out .entry)) (now (work .entry)) .work ⌝ }
+    ensures second { λ r. ⌜ r .second ≡ secondly (now (book .entry)) (expansion (now (book .entry)) (now (term .entry)) limit (now (out .entry)) (now (work .entry))) (now (again .entry)) (now (spare .entry)) .numbers ⌝ }
+    ensures again { λ _. ⌜ now (again .exit) ≡ secondly (now (book .entry)) (expansion (now (book .entry)) (now (term .entry)) limit (now (out .entry)) (now (work .entry))) (now (again .entry)) (now (spare .entry)) .answer ⌝ }
+    ensures spare { λ _. ⌜ now (spare .exit) ≡ secondly (now (book .entry)) (expansion (now (book .entry)) (now (term .entry)) limit (now (out .entry)) (now (work .entry))) (now (again .entry)) (now (spare .entry)) .work ⌝ }
     ensures found { λ r. ⌜ IsFound (now (book .entry)) (r .test) (r .first) (now (out .exit)) ⌝ }
     ensures rests { λ r. ⌜ RestsAgain (r .test) (r .first) (now (out .exit)) (now (again .entry)) (now (spare .entry)) (r .second) (now (again .exit)) ⌝ }
 {

@@ -3,7 +3,7 @@ ghost use mathlib.Core.Path.{_≡_};
 ghost use Prim.Native.Nat.{_≤_, _<_};
 ghost use lib.ListN.{length};
 ghost use Rattle.matching.specs.Accepted.{Accepted, StrategyAt, Standing};
-ghost use Rattle.evaluation.specs.Marks.{Marked};
+ghost use Rattle.evaluation.specs.machine.Marks.{Marked};
 use system::Shape;
 use system::words::wide;
 

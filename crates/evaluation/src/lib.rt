@@ -8,10 +8,13 @@ ghost use Rattle.evaluation.specs.Expansion.{expansion};
 pub mod demands;
 mod entries;
 mod index;
+mod limits;
 mod machine;
 mod reducts;
 mod run;
 
+use crate::limits::AREA_WORDS;
+use crate::limits::TERM_WORDS;
 use crate::run::Ended;
 use system::Answer;
 
@@ -25,10 +28,10 @@ pub fn expand(book: &[u16], term: &[u16], limit: u32, out: &mut [u16], work: &mu
     ensures answer { λ _. ⌜ now (out .exit) ≡ expansion (now (book .entry)) (now (term .entry)) limit (now (out .entry)) (now (work .entry)) .answer ⌝ }
     ensures zeroed { λ _. ⌜ now (work .exit) ≡ expansion (now (book .entry)) (now (term .entry)) limit (now (out .entry)) (now (work .entry)) .work ⌝ }
 {
-    if out.len() < 4096 {
+    if out.len() < TERM_WORDS {
         return refused(10);
     }
-    if work.len() < 8192 {
+    if work.len() < AREA_WORDS {
         return refused(10);
     }
     let c = system::check_term(book, term);
@@ -36,7 +39,7 @@ pub fn expand(book: &[u16], term: &[u16], limit: u32, out: &mut [u16], work: &mu
         return c;
     }
     let shape = system::shape_of(book);
-    let e = run::run(book, shape, term, limit, &mut work[0..8192]);
+    let e = run::run(book, shape, term, limit, &mut work[0..AREA_WORDS]);
     finish(out, work, e)
 }
 

@@ -2,13 +2,14 @@
 ghost use mathlib.Core.Path.{_≡_};
 ghost use mathlib.Core.List.{[], _∷_, _++_};
 ghost use Rattle.matching.specs.Accepted.{systemOf, Accepted};
-ghost use Rattle.evaluation.specs.Machine.{advance};
-ghost use Rattle.evaluation.specs.Area.{Holds, termIn, outerIn, countIn};
-ghost use Rattle.evaluation.specs.Turn.{turn, Taken, sinceAt};
-ghost use Rattle.evaluation.specs.Arrival.{Arrived};
-ghost use Rattle.evaluation.specs.Marks.{Marked};
+ghost use Rattle.evaluation.specs.machine.Machine.{advance};
+ghost use Rattle.evaluation.specs.machine.Area.{Holds, termIn, outerIn, countIn};
+ghost use Rattle.evaluation.specs.machine.Turn.{turn, Taken, sinceAt};
+ghost use Rattle.evaluation.specs.machine.Arrival.{Arrived};
+ghost use Rattle.evaluation.specs.machine.Marks.{Marked};
 use crate::entries::Entry;
 use crate::entries::entry_of;
+use crate::limits::TERM_WORDS;
 use matching::Found;
 use matching::Match;
 use matching::rules::first_rule;
@@ -57,20 +58,20 @@ fn take_turn(
     ensures { λ r. ⌜ Taken (systemOf (now (book .entry))) (termIn (now (area .entry)) n) n (now (area .entry)) (now (positions .entry)) (turn (systemOf (now (book .entry))) (termIn (now (area .entry)) n) (outerIn (now (area .entry)) level) since (countIn (now (area .entry)) level)) r (now (area .exit)) (now (positions .exit)) ⌝ }
 {
     let p = positions[level];
-    let c = area[4096 + level];
+    let c = area[TERM_WORDS + level];
     let begun = c + 1;
     let e = entry_of(book, shape, marks, area[p], since, wide(c));
     match e {
         Entry::End => {
-            area[4096 + level] = 0;
+            area[TERM_WORDS + level] = 0;
             return Turn::Left;
         }
         Entry::Again => {
-            area[4096 + level] = begun;
+            area[TERM_WORDS + level] = begun;
             return Turn::Passed;
         }
         Entry::Rules => {
-            area[4096 + level] = begun;
+            area[TERM_WORDS + level] = begun;
             return Turn::Tried;
         }
         Entry::Argument(i) => {
@@ -79,7 +80,7 @@ fn take_turn(
             }
             let a = p + 1;
             let q = a + spans(book, &area[a..n], i);
-            area[4096 + level] = begun;
+            area[TERM_WORDS + level] = begun;
             positions[level + 1] = q;
             return Turn::Opened;
         }
@@ -114,7 +115,7 @@ pub fn advance(
 {
     let mut level = start;
     let mut floor = start;
-    let mut since = wide(area[4096 + start]);
+    let mut since = wide(area[TERM_WORDS + start]);
     loop {
         let before = begun_before(floor, since, level);
         let t = take_turn(book, shape, marks, area, positions, n, level, before);
@@ -147,7 +148,7 @@ pub fn advance(
                 level -= 1;
                 if level < floor {
                     floor = level;
-                    since = wide(area[4096 + level]);
+                    since = wide(area[TERM_WORDS + level]);
                 }
             }
             Turn::TooDeep => {

@@ -8,9 +8,10 @@ ghost use Rattle.system.specs.Signature.{span};
 ghost use Rattle.matching.specs.Accepted.{systemOf, Accepted};
 ghost use Rattle.matching.specs.Matching.{Redex, redex};
 ghost use Rattle.matching.specs.Stretches.{matchOf, reductLength, RightSide, Within};
-ghost use Rattle.evaluation.specs.Machine.{position};
-ghost use Rattle.evaluation.specs.Area.{Stored, termIn, outerIn};
-ghost use Rattle.evaluation.specs.Rewritten.{Rewritten, side, filled, Behind, Room, replaced};
+ghost use Rattle.evaluation.specs.machine.Machine.{position};
+ghost use Rattle.evaluation.specs.machine.Area.{Stored, termIn, outerIn};
+ghost use Rattle.evaluation.specs.machine.Rewritten.{Rewritten, side, filled, Behind, Room, replaced};
+use crate::limits::TERM_WORDS;
 use buffers::clear;
 use buffers::move_words;
 use matching::Found;
@@ -92,7 +93,7 @@ fn replace_subterm(
     requires { ⌜ Within (part p width (now area)) starts lengths × Behind starts lengths ⌝ }
     ensures { λ _. ⌜ now (area .exit) ≡ replaced (now (area .entry)) n level p width (filled (part p width (now (area .entry))) starts lengths (side (now (book .entry)) rhs size)) ⌝ }
 {
-    let base = 4096 + level;
+    let base = TERM_WORDS + level;
     let end = p + width;
     move_words(area, p + 1, base + 1, width - 1);
     move_tail(area, end, p + k, n - end);
@@ -134,7 +135,7 @@ pub fn rewrite(
             let lengths = m.lengths;
             let k = reduct_length(book, rhs, size, lengths);
             let after = n - width + k;
-            if 4096 < after {
+            if TERM_WORDS < after {
                 return 0;
             }
             replace_subterm(

@@ -6,9 +6,11 @@ ghost use Rattle.buffers.specs.Words.{zeros, pad};
 ghost use Rattle.system.specs.Terms.{Whole};
 ghost use Rattle.matching.specs.Accepted.{systemOf, Accepted};
 ghost use Rattle.evaluation.specs.Evaluation.{evaluation};
-ghost use Rattle.evaluation.specs.Area.{Laid};
-ghost use Rattle.evaluation.specs.Ended.{Ends};
+ghost use Rattle.evaluation.specs.machine.Area.{Laid};
+ghost use Rattle.evaluation.specs.machine.Ended.{Ends};
 use crate::index::mark;
+use crate::limits::AREA_WORDS;
+use crate::limits::TERM_WORDS;
 use crate::machine::Stop;
 use crate::machine::advance;
 use crate::reducts::rewrite;
@@ -38,7 +40,7 @@ fn start(area: &mut [u16], term: &[u16])
 {
     let n = term.len();
     buffers::copy_in(area, 0, term);
-    buffers::clear(area, n, 8192 - n);
+    buffers::clear(area, n, AREA_WORDS - n);
 }
 
 // Clears the term's words and the counts; all other words are zero already.
@@ -47,7 +49,7 @@ fn clear_state(area: &mut [u16], n: usize, level: usize)
     ensures { λ _. ⌜ now (area .exit) ≡ zeros 8192 ⌝ }
 {
     buffers::clear(area, 0, n);
-    buffers::clear(area, 4096, level + 1);
+    buffers::clear(area, TERM_WORDS, level + 1);
 }
 
 // Evaluates a term in an area of 8,192 words.

@@ -22,7 +22,7 @@ returns c = let a = c .before .before .before .before .before .before .before .b
     let e = c .before .before .before .before .expand in
     let n = e .ensures .0 in
     let w = e .ensures .1 .0 in
-    (t .ensures, (answer-done (a .book .now) (a .term .now) (a .limit) (a .out .now) (a .work .now) (e .result) (e .last .1 .1 .1 .0) n w, (answer-handed-back (a .book .now) (a .term .now) (a .limit) (a .out .now) (a .work .now) (e .result) (e .last .1 .1 .1 .0) n w, answer-found (a .book .now) (a .term .now) (a .limit) (a .out .now) (a .work .now) (e .result) (e .last .1 .1 .1 .0) n w (t .result) (t .ensures))))
+    (t .ensures, (n, (w, (e .ensures .1 .1, (answer-done (a .book .now) (a .term .now) (a .limit) (a .out .now) (a .work .now) (e .result) (e .last .1 .1 .1 .0) n w, (answer-handed-back (a .book .now) (a .term .now) (a .limit) (a .out .now) (a .work .now) (e .result) (e .last .1 .1 .1 .0) n w, answer-found (a .book .now) (a .term .now) (a .limit) (a .out .now) (a .work .now) (e .result) (e .last .1 .1 .1 .0) n w (t .result) (t .ensures)))))))
 
 pub expand-checked-spec : {M : Type 1} → statement M
 expand-checked-spec =

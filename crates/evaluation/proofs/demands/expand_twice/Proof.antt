@@ -1,8 +1,8 @@
 -- `demands::expand_twice` meets its contract.
 use Prim.Native.Nat.{_-_}
-use Rattle.evaluation.proofs.Demand3.{answer-found, answer-fits, answer-again}
+use Rattle.evaluation.proofs.Demand3.{answer-found, answer-fits, answer-again, second-none, second-goes}
 use lib.ListN.{take}
-use mathlib.Core.Path.{ap}
+use mathlib.Core.Path.{sym, ap, _∙_}
 use native.Mathlib.Nat.{sub-zero}
 use borrow.Author.Needs.{needs}
 use Rattle.evaluation.proofs.demands.expand_twice.Statement.{statement}
@@ -24,7 +24,8 @@ returns : tie.Need-returns
 returns c = let a = c .before .before .before .before .before .before .before .before .before .before .before .before .before .before .before .before .args in
     let t = c .before .before .before .before .before .before .before .before .before .test-strategies in
     let e = c .before .before .before .before .before .before .expand in
-    (t .ensures, (answer-found (a .book .now) (a .term .now) (a .limit) (a .out .now) (a .work .now) (e .result) (e .last .1 .1 .1 .0) (e .ensures .0) (e .ensures .1 .0) (t .result) (t .ensures), λ z z′. absurd (c .if1 .taken z′)))
+    let q = second-none (a .book .now) (a .term .now) (a .limit) (a .out .now) (a .work .now) (e .result) (e .last .1 .1 .1 .0) (e .ensures .0) (e .ensures .1 .0) (a .again .now) (a .spare .now) (c .if1 .taken) in
+    (t .ensures, (e .ensures .0, (e .ensures .1 .0, (e .ensures .1 .1, (sym (ap (λ y. y .numbers) q), (sym (ap (λ y. y .answer) q), (sym (ap (λ y. y .work) q), (answer-found (a .book .now) (a .term .now) (a .limit) (a .out .now) (a .work .now) (e .result) (e .last .1 .1 .1 .0) (e .ensures .0) (e .ensures .1 .0) (t .result) (t .ensures), λ z z′. absurd (c .if1 .taken z′)))))))))
 
 sub-expand : tie.Need-sub-expand
 sub-expand c = search needs
@@ -58,7 +59,8 @@ returns-2 c = let a = c .before .before .before .before .before .before .before 
     let t = c .before .before .before .before .before .before .before .before .before .before .before .before .before .before .before .before .before .before .test-strategies in
     let e = c .before .before .before .before .before .before .before .before .before .before .before .before .before .before .before .expand in
     let f = c .before .before .before .before .expand2 in
-    (t .ensures, (answer-found (a .book .now) (a .term .now) (a .limit) (a .out .now) (a .work .now) (e .result) (e .last .1 .1 .1 .0) (e .ensures .0) (e .ensures .1 .0) (t .result) (t .ensures), answer-again (a .book .now) (a .term .now) (a .limit) (a .out .now) (a .work .now) (e .result) (e .last .1 .1 .1 .0) (e .ensures .0) (e .ensures .1 .0) (t .result) (t .ensures) (a .again .now) (a .spare .now) (take (e .result .place - 0) (e .last .1 .1 .1 .0)) (f .result) (f .last .1 .1 .1 .0) (ap (λ n. take n (e .last .1 .1 .1 .0)) (sub-zero (e .result .place))) (f .ensures .0) (f .ensures .1 .0)))
+    let q = second-goes (a .book .now) (a .term .now) (a .limit) (a .out .now) (a .work .now) (e .result) (e .last .1 .1 .1 .0) (e .ensures .0) (e .ensures .1 .0) (a .again .now) (a .spare .now) (c .before .before .before .before .before .before .before .before .before .if1 .left) (take (e .result .place - 0) (e .last .1 .1 .1 .0)) (ap (λ n. take n (e .last .1 .1 .1 .0)) (sub-zero (e .result .place))) in
+    (t .ensures, (e .ensures .0, (e .ensures .1 .0, (e .ensures .1 .1, (f .ensures .0 ∙ sym (ap (λ y. y .numbers) q), (f .ensures .1 .0 ∙ sym (ap (λ y. y .answer) q), (f .ensures .1 .1 ∙ sym (ap (λ y. y .work) q), (answer-found (a .book .now) (a .term .now) (a .limit) (a .out .now) (a .work .now) (e .result) (e .last .1 .1 .1 .0) (e .ensures .0) (e .ensures .1 .0) (t .result) (t .ensures), answer-again (a .book .now) (a .term .now) (a .limit) (a .out .now) (a .work .now) (e .result) (e .last .1 .1 .1 .0) (e .ensures .0) (e .ensures .1 .0) (t .result) (t .ensures) (a .again .now) (a .spare .now) (take (e .result .place - 0) (e .last .1 .1 .1 .0)) (f .result) (f .last .1 .1 .1 .0) (ap (λ n. take n (e .last .1 .1 .1 .0)) (sub-zero (e .result .place))) (f .ensures .0) (f .ensures .1 .0)))))))))
 
 pub expand-twice-spec : {M : Type 1} → statement M
 expand-twice-spec =

@@ -5,7 +5,7 @@ use native.Mathlib.Omega.{arith}
 use mathlib.Core.Path.{_≡_, refl, _∙_}
 use lib.ListN.{getD, drop}
 use borrow.Author.Needs.{needs}
-use Rattle.evaluation.specs.Turn.{between, among}
+use Rattle.evaluation.specs.machine.Turn.{between, among}
 use Rattle.evaluation.proofs.Repeats.{stood-end, stood-found, stood-next}
 use Rattle.evaluation.proofs.entries.stood_before.Statement.{statement}
 use Rattle.evaluation.proofs.entries.stood_before.Tie as tie

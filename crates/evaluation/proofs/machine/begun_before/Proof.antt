@@ -1,7 +1,7 @@
 -- `machine::begun_before` meets its contract.
 use borrow.Author.Tests.{lt-ltb, le-ltb}
 use native.Mathlib.Omega.{arith}
-use Rattle.evaluation.specs.Turn.{sinceAt}
+use Rattle.evaluation.specs.machine.Turn.{sinceAt}
 use Rattle.evaluation.proofs.machine.begun_before.Statement.{statement}
 use Rattle.evaluation.proofs.machine.begun_before.Tie as tie
 

@@ -1,6 +1,6 @@
 -- `reducts::replace_subterm` meets its contract.
 use Rattle.evaluation.proofs.Replacing.{second-length, second-within, all-edits}
-use Rattle.evaluation.specs.Rewritten.{side}
+use Rattle.evaluation.specs.machine.Rewritten.{side}
 use native.Mathlib.Omega.{arith}
 use borrow.Author.Needs.{needs}
 use Rattle.evaluation.proofs.reducts.replace_subterm.Statement.{statement}

@@ -1,8 +1,8 @@
 -- `run::run` meets its contract.
-use Rattle.evaluation.specs.Evaluation.{stopped, evaluation}
+use Rattle.evaluation.specs.Evaluation.{stopped, evaluation, spent, overlong, nested}
 use Rattle.matching.specs.Stretches.{matchOf}
-use Rattle.evaluation.specs.Machine.{position}
-use Rattle.evaluation.specs.Area.{termIn, outerIn, Laid}
+use Rattle.evaluation.specs.machine.Machine.{position}
+use Rattle.evaluation.specs.machine.Area.{termIn, outerIn, Laid}
 use Rattle.matching.proofs.Books.{well}
 use Rattle.system.specs.Terms.{WellFormed}
 use lib.ListN.{length, getD, take, drop}
@@ -51,7 +51,7 @@ position-is c =
     before-position (systemOf (a .args .book .now)) (wf a) (a .args .limit) (a .args .term .now) (d .last .1 .1 .1 .0) (d .last .1 .1 .1 .1 .0) (l .n) (d .result .level) (l .steps) (d .result .found) (d .result .width) (before c)
 
 -- an argument would be opened from level 64: the evaluation's outcome, and what the area holds
-deep : (c : tie.After-enum-told2 Inv-loop μ-loop) → (evaluation (systemOf (c .before .before .before .before .before .before .before .before .before .before .before .before .before .before .before .before .before .before .before .before .args .book .now)) (c .before .before .before .before .before .before .before .before .before .before .before .before .before .before .before .before .before .before .before .before .args .limit) (c .before .before .before .before .before .before .before .before .before .before .before .before .before .before .before .before .before .before .before .before .args .term .now) ≡ stopped 13 (c .before .before .before .before .before .before .before .before .before .loop .steps)) × Laid (c .before .before .before .before .before .advance .last .1 .1 .1 .0) (c .before .before .before .before .before .before .before .before .before .loop .n) (c .before .before .before .before .before .advance .result .level)
+deep : (c : tie.After-enum-told2 Inv-loop μ-loop) → (evaluation (systemOf (c .before .before .before .before .before .before .before .before .before .before .before .before .before .before .before .before .before .before .before .before .args .book .now)) (c .before .before .before .before .before .before .before .before .before .before .before .before .before .before .before .before .before .before .before .before .args .limit) (c .before .before .before .before .before .before .before .before .before .before .before .before .before .before .before .before .before .before .before .before .args .term .now) ≡ stopped nested (c .before .before .before .before .before .before .before .before .before .loop .steps)) × Laid (c .before .before .before .before .before .advance .last .1 .1 .1 .0) (c .before .before .before .before .before .before .before .before .before .loop .n) (c .before .before .before .before .before .advance .result .level)
 deep c =
     let a = c .before .before .before .before .before .before .before .before .before .before .before .before .before .before .before .before .before .before .before .before in
     let l = c .before .before .before .before .before .before .before .before .before .loop in
@@ -59,7 +59,7 @@ deep c =
     stops-deep (systemOf (a .args .book .now)) (wf a) (a .args .limit) (a .args .term .now) (l .area) (l .positions) (l .n) (l .level) (l .steps) (l .inv) (d .result) (d .last .1 .1 .1 .0) (d .last .1 .1 .1 .1 .0) (d .ensures) (c .enum-told2 .given .1)
 
 -- the rewrite would leave too many words: the same
-long : (c : tie.Then2 Inv-loop μ-loop) → (evaluation (systemOf (c .before .before .before .before .before .before .before .before .before .before .before .before .before .before .before .before .before .before .before .before .before .before .before .before .before .before .before .args .book .now)) (c .before .before .before .before .before .before .before .before .before .before .before .before .before .before .before .before .before .before .before .before .before .before .before .before .before .before .before .args .limit) (c .before .before .before .before .before .before .before .before .before .before .before .before .before .before .before .before .before .before .before .before .before .before .before .before .before .before .before .args .term .now) ≡ stopped 12 (c .before .before .before .before .before .before .before .before .before .before .before .before .before .before .before .before .loop .steps)) × Laid (c .before .before .before .rewrite .last .1 .1 .0) (c .before .before .before .before .before .before .before .before .before .before .before .before .before .before .before .before .loop .n) (c .before .before .before .before .before .before .before .before .before .before .before .before .advance .result .level)
+long : (c : tie.Then2 Inv-loop μ-loop) → (evaluation (systemOf (c .before .before .before .before .before .before .before .before .before .before .before .before .before .before .before .before .before .before .before .before .before .before .before .before .before .before .before .args .book .now)) (c .before .before .before .before .before .before .before .before .before .before .before .before .before .before .before .before .before .before .before .before .before .before .before .before .before .before .before .args .limit) (c .before .before .before .before .before .before .before .before .before .before .before .before .before .before .before .before .before .before .before .before .before .before .before .before .before .before .before .args .term .now) ≡ stopped overlong (c .before .before .before .before .before .before .before .before .before .before .before .before .before .before .before .before .loop .steps)) × Laid (c .before .before .before .rewrite .last .1 .1 .0) (c .before .before .before .before .before .before .before .before .before .before .before .before .before .before .before .before .loop .n) (c .before .before .before .before .before .before .before .before .before .before .before .before .advance .result .level)
 long c =
     let a = c .before .before .before .before .before .before .before .before .before .before .before .before .before .before .before .before .before .before .before .before .before .before .before .before .before .before .before in
     let l = c .before .before .before .before .before .before .before .before .before .before .before .before .before .before .before .before .loop in
@@ -125,7 +125,7 @@ same-length-2 c = c .before .before .before .clear-state .kept .0 ∙ c .before 
 returns-2 : tie.Need-returns-2 Inv-loop μ-loop
 returns-2 c =
     let a = c .before .before .before .before .before .before .before .before .before .before .before .before .before .before .before .before .before .before .before .before .before .before .before .before .before in
-    ends-stopped (evaluation (systemOf (a .args .book .now)) (a .args .limit) (a .args .term .now)) 13 (c .before .before .before .before .before .before .before .before .before .before .before .before .before .before .loop .steps) (c .outcome2 .result) (c .before .before .before .clear-state .last .0) (deep (c .before .before .before .before .before) .0) (c .outcome2 .ensures) (c .before .before .before .clear-state .ensures)
+    ends-stopped (evaluation (systemOf (a .args .book .now)) (a .args .limit) (a .args .term .now)) nested (c .before .before .before .before .before .before .before .before .before .before .before .before .before .before .loop .steps) (c .outcome2 .result) (c .before .before .before .clear-state .last .0) (deep (c .before .before .before .before .before) .0) (c .outcome2 .ensures) (c .before .before .before .clear-state .ensures)
 
 enum-told-3 : tie.Need-enum-told-3 Inv-loop μ-loop
 enum-told-3 c = search needs
@@ -148,7 +148,7 @@ returns-3 c =
     let a = c .before .before .before .before .before .before .before .before .before .before .before .before .before .before .before .before .before .before .before .before .before .before .before .before .before .before in
     let l = c .before .before .before .before .before .before .before .before .before .before .before .before .before .before .before .loop in
     let d = c .before .before .before .before .before .before .before .before .before .before .before .advance in
-    ends-stopped (evaluation (systemOf (a .args .book .now)) (a .args .limit) (a .args .term .now)) 11 (l .steps) (c .outcome3 .result) (c .before .before .before .clear-state2 .last .0)
+    ends-stopped (evaluation (systemOf (a .args .book .now)) (a .args .limit) (a .args .term .now)) spent (l .steps) (c .outcome3 .result) (c .before .before .before .clear-state2 .last .0)
     (stops-spent (systemOf (a .args .book .now)) (wf a) (a .args .limit) (a .args .term .now) (d .last .1 .1 .1 .0) (d .last .1 .1 .1 .1 .0) (l .n) (d .result .level) (l .steps) (d .result .found) (d .result .width) (before (c .before .before .before .before .before .before)) (c .before .before .before .before .before .if1 .taken))
     (c .outcome3 .ensures) (c .before .before .before .clear-state2 .ensures)
 
@@ -176,7 +176,7 @@ same-length-4 c = c .before .before .before .clear-state3 .kept .0 ∙ c .before
 returns-4 : tie.Need-returns-4 Inv-loop μ-loop
 returns-4 c =
     let a = c .before .before .before .before .before .before .before .before .before .before .before .before .before .before .before .before .before .before .before .before .before .before .before .before .before .before .before .before .before .before .before .before in
-    ends-stopped (evaluation (systemOf (a .args .book .now)) (a .args .limit) (a .args .term .now)) 12 (c .before .before .before .before .before .before .before .before .before .before .before .before .before .before .before .before .before .before .before .before .before .loop .steps) (c .outcome4 .result) (c .before .before .before .clear-state3 .last .0) (long (c .before .before .before .before .before) .0) (c .outcome4 .ensures) (c .before .before .before .clear-state3 .ensures)
+    ends-stopped (evaluation (systemOf (a .args .book .now)) (a .args .limit) (a .args .term .now)) overlong (c .before .before .before .before .before .before .before .before .before .before .before .before .before .before .before .before .before .before .before .before .before .loop .steps) (c .outcome4 .result) (c .before .before .before .clear-state3 .last .0) (long (c .before .before .before .before .before) .0) (c .outcome4 .ensures) (c .before .before .before .clear-state3 .ensures)
 
 add-steps : tie.Need-add-steps Inv-loop μ-loop
 add-steps c = omega (arith, c .before .before .before .before .before .before .if1 .left, c .before .before .before .before .before .before .before .before .before .before .before .before .before .before .before .before .before .before .before .before .before .before .before .before .before .before .before .fits .limit)

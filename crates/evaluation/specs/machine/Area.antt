@@ -7,34 +7,35 @@ use lib.ListN.{length, getD, take, drop}
 use Rattle.buffers.specs.Words.{pad}
 use Rattle.system.specs.System.{System}
 use Rattle.system.specs.Terms.{Whole}
-use Rattle.evaluation.specs.Machine.{strategyAt, position, Opened}
+use Rattle.evaluation.specs.machine.Machine.{strategyAt, position, Opened}
+use Rattle.evaluation.specs.Limits.{areaWords, levels, termWords}
 
 unfoldable pub area : List ℕ → List ℕ → List ℕ
-area t counts = pad 4096 t ++ pad 4096 counts
+area t counts = pad termWords t ++ pad termWords counts
 
 -- what an area holds: a term of n words; and with `level` levels around the innermost one, the counts of those and the innermost one's
 abbrev pub termIn : List ℕ → ℕ → List ℕ
 termIn ws n = take n ws
 
 abbrev pub outerIn : List ℕ → ℕ → List ℕ
-outerIn ws level = take level (drop 4096 ws)
+outerIn ws level = take level (drop termWords ws)
 
 abbrev pub countIn : List ℕ → ℕ → ℕ
-countIn ws level = getD ws (4096 + level) 0
+countIn ws level = getD ws (termWords + level) 0
 
 -- an area that holds nothing but a term of n words and the counts of level + 1 levels: zeros stand behind each
 pub record Laid (ws : List ℕ) (n level : ℕ) : Type 0 where
-  pub bounded : n ≤ 4096
-  pub room : level < 64
-  pub total : length ws ≡ 8192
+  pub bounded : n ≤ termWords
+  pub room : level < levels
+  pub total : length ws ≡ areaWords
   pub equal : ws ≡ area (termIn ws n) (outerIn ws level ++ countIn ws level ∷ [])
 
 -- a state that the machine may be in, the levels `outer` around the innermost one, of which c entries are begun:
 -- never more than 4,096 words in the term, never more than 64 levels
 pub record Going (s : System) (t outer : List ℕ) (c : ℕ) : Type 0 where
   pub whole : Whole (s .arities) t
-  pub bounded : length t ≤ 4096
-  pub room : length outer < 64
+  pub bounded : length t ≤ termWords
+  pub room : length outer < levels
   pub opened : Opened s t 0 outer
   pub begun : c ≤ length (strategyAt s t (position s t outer 0))
 
@@ -52,5 +53,5 @@ pub record Stored (s : System) (ws : List ℕ) (n level : ℕ) : Type 0 where
 -- and the positions of its levels
 pub record Holds (s : System) (ws positions : List ℕ) (n level : ℕ) : Type 0 where
   pub stored : Stored s ws n level
-  pub slots : length positions ≡ 64
+  pub slots : length positions ≡ levels
   pub positioned : Positioned s (termIn ws n) (outerIn ws level) positions

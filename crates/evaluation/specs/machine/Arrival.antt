@@ -10,8 +10,8 @@ use Rattle.matching.specs.Matching.{redex}
 use Rattle.matching.specs.Stretches.{matchOf}
 use Rattle.evaluation.specs.declared.machine.Advanced.{Advanced}
 use Rattle.evaluation.specs.declared.machine.Stop.the-variants.{Finished, Deep, Ready}
-use Rattle.evaluation.specs.Machine.{Next, finished, deep, ready, position}
-use Rattle.evaluation.specs.Area.{area, Stored, Holds}
+use Rattle.evaluation.specs.machine.Machine.{Next, finished, deep, ready, position}
+use Rattle.evaluation.specs.machine.Area.{area, Stored, Holds}
 
 -- at the end the counts are gone; where it would be too deep the area holds the state as it stands; where a rewrite is next it holds the
 -- state just before it, its 0 counted as begun

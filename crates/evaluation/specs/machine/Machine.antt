@@ -8,7 +8,7 @@ use lib.ListN.{length, getD, drop}
 use Rattle.system.specs.Signature.{argument}
 use Rattle.system.specs.System.{System, strategy}
 use Rattle.matching.specs.Matching.{Redex, redex}
-use Rattle.evaluation.specs.Evaluation.{Run, Outcome, settled, stopped, after, rewrite, follow, evaluate}
+use Rattle.evaluation.specs.Evaluation.{Run, Outcome, settled, stopped, after, rewrite, follow, evaluate, nested}
 
 -- how many arguments stand before the one that an entry tells of
 abbrev pub others : ℕ → ℕ
@@ -47,7 +47,7 @@ lower (suc l) (c ∷ cs) = lower l cs
 -- what is left to do from a state: at the innermost level, then at each level around it
 unfoldable pub resume : System → ℕ → ℕ → List ℕ → ℕ → Run → Outcome
 resume s limit l [] p r = settled r
-resume s limit zero (c ∷ cs) p r = stopped 13 (r .steps)
+resume s limit zero (c ∷ cs) p r = stopped nested (r .steps)
 resume s limit (suc l) (c ∷ cs) p r =
     after (resume s limit l cs (down s (r .term) p c) r)
     (λ r′. follow s limit (evaluate s limit l) (evaluate s limit (suc l)) (drop c (strategyAt s (r .term) p)) p r′)
@@ -87,13 +87,3 @@ advance s zero (c ∷ cs) t p = deep
 advance s (suc l) (c ∷ cs) t p =
     let on = scan s (enter s l t) t (drop c (strategyAt s t p)) c p in
     around c (advance s l cs t (down s t p c)) on
-
--- advance and rewrite, at most so many times
-unfoldable pub iterate : System → ℕ → ℕ → List ℕ → Run → Outcome
-iterate s limit zero cs r = stopped 11 (r .steps)
-iterate s limit (suc k) cs r =
-    elim (advance s 64 cs (r .term) 0) [
-      | finished ↦ settled r
-      | deep ↦ stopped 13 (r .steps)
-      | ready cs′ c x ↦ rewrite s limit (position s (r .term) cs′ 0) r x (λ r′. iterate s limit k (cs′ ++ 0 ∷ []) r′)
-    ]

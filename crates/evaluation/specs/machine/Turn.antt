@@ -6,8 +6,8 @@ use mathlib.Core.List.{List, [], _∷_, _++_}
 use lib.ListN.{length, getD, set, take, drop}
 use lib.Dec.{ltb, leb, eqb}
 use Rattle.system.specs.System.{System}
-use Rattle.evaluation.specs.Machine.{strategyAt, position}
-use Rattle.evaluation.specs.Area.{area, Holds}
+use Rattle.evaluation.specs.machine.Machine.{strategyAt, position}
+use Rattle.evaluation.specs.machine.Area.{area, Holds}
 use Rattle.evaluation.specs.declared.entries.Entry.{Entry}
 use Rattle.evaluation.specs.declared.entries.Entry.the-variants.{End, Again, Rules, Argument}
 use Rattle.evaluation.specs.declared.machine.Turn.{Turn}

@@ -1,0 +1,8 @@
+-- The evaluation as a machine in lent words: what the inner functions' contracts cite. No public contract rests on it.
+pub mod Machine
+pub mod Turn
+pub mod Area
+pub mod Arrival
+pub mod Rewritten
+pub mod Ended
+pub mod Marks
