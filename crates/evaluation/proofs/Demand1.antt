@@ -48,7 +48,7 @@ term-early book t = go (read book) refl
 -- what is left where no term is handed back: 1 to 10 touch no buffer; 11 to 13 leave the first 8,192 words of the work buffer zero
 pub data Refused (out work : List ℕ) : Expansion → Type 0 where
   untouched : {a : Answer} → 1 ≤ a .number → a .number ≤ 10 → a .steps ≡ 0 → Refused out work (record { numbers = a; answer = out; work = work })
-  cleared : {l : Limit} {k : ℕ} → Refused out work (record { numbers = record { number = limitNumber l; place = 0; steps = k }; answer = out; work = over work 0 (zeros 8192) })
+  cleared : (l : Limit) {k : ℕ} → Refused out work (record { numbers = record { number = limitNumber l; place = 0; steps = k }; answer = out; work = over work 0 (zeros 8192) })
 
 pub refused : (book term : List ℕ) (limit : ℕ) (out work : List ℕ) → (expansion book term limit out work .numbers .number ≡ 0 → ⊥) →
     Refused out work (expansion book term limit out work)
@@ -69,4 +69,4 @@ refused book term limit out work d = elim (decLt (length out) 4096) [
     go : 4096 ≤ length out → 8192 ≤ length work → termAnswer book term .number ≡ 0 → (o : Outcome) → evaluation (systemOf book) limit term ≡ o →
         Refused out work (expansion book term limit out work)
     go h k g (settled r) q = absurd (d (ap (λ y. y .numbers .number) (evaluates book term limit out work h k g ∙ ap (ended out work) q)))
-    go h k g (stopped l m) q = subst (Refused out work) (sym (evaluates book term limit out work h k g ∙ ap (ended out work) q)) cleared
+    go h k g (stopped l m) q = subst (Refused out work) (sym (evaluates book term limit out work h k g ∙ ap (ended out work) q)) (cleared l)
