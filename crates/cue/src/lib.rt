@@ -7,8 +7,8 @@ ghost use Rattle.system.specs.Signature.{span};
 ghost use Rattle.matching.specs.Accepted.{systemOf};
 ghost use Rattle.matching.specs.Stretches.{matchOf};
 ghost use Rattle.matching.specs.Safety.{TestedBook};
-ghost use Rattle.evaluation.specs.Expansion.{expansion, secondly};
-ghost use Rattle.evaluation.specs.Promises.{IsDone, IsHandedBack, IsFound, RestsAgain};
+ghost use Rattle.evaluation.specs.Expansion.{result, expansion, secondly};
+ghost use Rattle.evaluation.specs.Demand3.{IsDone, IsHandedBack, IsFound, RestsAgain};
 ghost use Rattle.cue.specs.Exports.{answerFor, asAnswer, shapeFor, partFor, matchFor};
 use matching::Found;
 use system::Answer;
@@ -178,9 +178,8 @@ pub extern "C" fn cue_expand(
     out: &mut [u16],
     work: &mut [u16],
 ) -> CueAnswer
-    ensures numbers { λ r. ⌜ r ≡ answerFor (expansion (now (book .entry)) (now (term .entry)) limit (now (out .entry)) (now (work .entry)) .numbers) ⌝ }
-    ensures answer { λ _. ⌜ now (out .exit) ≡ expansion (now (book .entry)) (now (term .entry)) limit (now (out .entry)) (now (work .entry)) .answer ⌝ }
-    ensures zeroed { λ _. ⌜ now (work .exit) ≡ expansion (now (book .entry)) (now (term .entry)) limit (now (out .entry)) (now (work .entry)) .work ⌝ }
+    ensures { λ r. ⌜ result (asAnswer r) (now (out .exit)) (now (work .exit))
+        ≡ expansion (now (book .entry)) (now (term .entry)) limit (now (out .entry)) (now (work .entry)) ⌝ }
 {
     answer_for(evaluation::expand(book, term, limit, out, work))
 }
@@ -195,12 +194,12 @@ pub extern "C" fn cue_expand_checked(
     work: &mut [u16],
 ) -> CueChecked
     ensures tested { λ r. ⌜ TestedBook (read (now (book .entry))) (asAnswer (r .test)) ⌝ }
-    ensures numbers { λ r. ⌜ asAnswer (r .answer) ≡ expansion (now (book .entry)) (now (term .entry)) limit (now (out .entry)) (now (work .entry)) .numbers ⌝ }
-    ensures answer { λ _. ⌜ now (out .exit) ≡ expansion (now (book .entry)) (now (term .entry)) limit (now (out .entry)) (now (work .entry)) .answer ⌝ }
-    ensures zeroed { λ _. ⌜ now (work .exit) ≡ expansion (now (book .entry)) (now (term .entry)) limit (now (out .entry)) (now (work .entry)) .work ⌝ }
-    ensures done { λ r. ⌜ IsDone (now (book .entry)) (now (term .entry)) limit (asAnswer (r .answer)) (now (out .exit)) ⌝ }
-    ensures handed { λ r. ⌜ IsHandedBack (now (book .entry)) (now (term .entry)) limit (now (out .entry)) (now (work .entry)) (asAnswer (r .answer)) (now (out .exit)) ⌝ }
-    ensures found { λ r. ⌜ IsFound (now (book .entry)) (asAnswer (r .test)) (asAnswer (r .answer)) (now (out .exit)) ⌝ }
+    ensures expanded { λ r. ⌜ result (asAnswer (r .answer)) (now (out .exit)) (now (work .exit))
+        ≡ expansion (now (book .entry)) (now (term .entry)) limit (now (out .entry)) (now (work .entry)) ⌝ }
+    ensures done { λ r. ⌜ IsDone (now (book .entry)) (now (term .entry)) limit (result (asAnswer (r .answer)) (now (out .exit)) (now (work .exit))) ⌝ }
+    ensures handed { λ r. ⌜ IsHandedBack (now (book .entry)) (now (term .entry)) limit (now (out .entry)) (now (work .entry))
+        (result (asAnswer (r .answer)) (now (out .exit)) (now (work .exit))) ⌝ }
+    ensures found { λ r. ⌜ IsFound (now (book .entry)) (asAnswer (r .test)) (result (asAnswer (r .answer)) (now (out .exit)) (now (work .exit))) ⌝ }
 {
     let c = evaluation::demands::expand_checked(book, term, limit, out, work);
     CueChecked {
@@ -222,14 +221,14 @@ pub extern "C" fn cue_expand_twice(
     spare: &mut [u16],
 ) -> CueTwice
     ensures tested { λ r. ⌜ TestedBook (read (now (book .entry))) (asAnswer (r .test)) ⌝ }
-    ensures numbers { λ r. ⌜ asAnswer (r .first) ≡ expansion (now (book .entry)) (now (term .entry)) limit (now (out .entry)) (now (work .entry)) .numbers ⌝ }
-    ensures answer { λ _. ⌜ now (out .exit) ≡ expansion (now (book .entry)) (now (term .entry)) limit (now (out .entry)) (now (work .entry)) .answer ⌝ }
-    ensures zeroed { λ _. ⌜ now (work .exit) ≡ expansion (now (book .entry)) (now (term .entry)) limit (now (out .entry)) (now (work .entry)) .work ⌝ }
-    ensures second { λ r. ⌜ asAnswer (r .second) ≡ secondly (now (book .entry)) (expansion (now (book .entry)) (now (term .entry)) limit (now (out .entry)) (now (work .entry))) (now (again .entry)) (now (spare .entry)) .numbers ⌝ }
-    ensures again { λ _. ⌜ now (again .exit) ≡ secondly (now (book .entry)) (expansion (now (book .entry)) (now (term .entry)) limit (now (out .entry)) (now (work .entry))) (now (again .entry)) (now (spare .entry)) .answer ⌝ }
-    ensures spare { λ _. ⌜ now (spare .exit) ≡ secondly (now (book .entry)) (expansion (now (book .entry)) (now (term .entry)) limit (now (out .entry)) (now (work .entry))) (now (again .entry)) (now (spare .entry)) .work ⌝ }
-    ensures found { λ r. ⌜ IsFound (now (book .entry)) (asAnswer (r .test)) (asAnswer (r .first)) (now (out .exit)) ⌝ }
-    ensures rests { λ r. ⌜ RestsAgain (asAnswer (r .test)) (asAnswer (r .first)) (now (out .exit)) (now (again .entry)) (now (spare .entry)) (asAnswer (r .second)) (now (again .exit)) ⌝ }
+    ensures expanded { λ r. ⌜ result (asAnswer (r .first)) (now (out .exit)) (now (work .exit))
+        ≡ expansion (now (book .entry)) (now (term .entry)) limit (now (out .entry)) (now (work .entry)) ⌝ }
+    ensures second { λ r. ⌜ result (asAnswer (r .second)) (now (again .exit)) (now (spare .exit))
+        ≡ secondly (now (book .entry)) (expansion (now (book .entry)) (now (term .entry)) limit (now (out .entry)) (now (work .entry)))
+        (now (again .entry)) (now (spare .entry)) ⌝ }
+    ensures found { λ r. ⌜ IsFound (now (book .entry)) (asAnswer (r .test)) (result (asAnswer (r .first)) (now (out .exit)) (now (work .exit))) ⌝ }
+    ensures rests { λ r. ⌜ RestsAgain (asAnswer (r .test)) (result (asAnswer (r .first)) (now (out .exit)) (now (work .exit)))
+        (now (again .entry)) (now (spare .entry)) (result (asAnswer (r .second)) (now (again .exit)) (now (spare .exit))) ⌝ }
 {
     let c = evaluation::demands::expand_twice(book, term, limit, out, work, again, spare);
     CueTwice {

@@ -10,7 +10,7 @@ use Rattle.system.specs.System.{System, strategy, head}
 use Rattle.system.specs.Terms.{more, Whole, Stands, first, later, WellFormed}
 use Rattle.evaluation.specs.Evaluation.{Run, settled, evaluation}
 use Rattle.evaluation.specs.Rewriting.{Active, root, below, Steps, done, step}
-use Rattle.evaluation.specs.Promises.{Done}
+use Rattle.evaluation.specs.Outcomes.{Done}
 use Rattle.system.proofs.Forests.{focus, focus-here, node-whole, node-set}
 use Rattle.system.proofs.Places.{patch, at-word, at-argument, at-replace}
 use Rattle.matching.proofs.Firsts.{fired}

@@ -1,6 +1,7 @@
 -- What `expansion` is at each of the evaluator's checks, and after a run.
 use Prim.Native.Nat.{ℕ, zero, suc, _+_, _≤_, _<_}
 use native.Mathlib.Omega.{arith}
+use native.Mathlib.Decide.{decLt, ℕ-discrete}
 use mathlib.Core.Path.{_≡_, refl, sym, ap, _∙_}
 use mathlib.Core.List.{List, [], _++_}
 use lib.ListN.{length, take, drop, length-append, length-drop}
@@ -8,6 +9,7 @@ use lib.Seq.{take-at, drop-at, sets-eq}
 use borrow.Author.Tests.{le-leb, lt-leb}
 use Rattle.buffers.specs.Words.{over, zeros, pad}
 use Rattle.buffers.proofs.Pads.{length-zeros, take-pad}
+use Rattle.system.specs.declared.Answer.{Answer}
 use Rattle.system.specs.declared.Shape.{Shape}
 use Rattle.system.specs.Terms.{Whole, WellFormed}
 use Rattle.system.specs.Reader.{read, ok}
@@ -19,7 +21,7 @@ use Rattle.matching.specs.Accepted.{systemOf, Accepted}
 use Rattle.evaluation.specs.declared.run.Ended.{Ended}
 use Rattle.evaluation.specs.Evaluation.{Run, Outcome, settled, stopped, evaluation}
 use Rattle.evaluation.specs.machine.Ended.{Ends}
-use Rattle.evaluation.specs.Expansion.{ended, expansion}
+use Rattle.evaluation.specs.Expansion.{result, ended, expansion}
 use Rattle.evaluation.proofs.Done.{theorem-done, steps-last}
 
 -- ---- what the check of a term tells
@@ -48,30 +50,56 @@ module _ (book term : List ℕ) (c : Checks book term) where
 
 -- ---- the checks of the evaluator
 
+abbrev pub cramped : Answer
+cramped = record { number = 10; place = 0; steps = 0 }
+
 module _ (book term : List ℕ) (limit : ℕ) (out work : List ℕ) where
-  pub cramped-answer : length out < 4096 → expansion book term limit out work ≡ record { numbers = record { number = 10; place = 0; steps = 0 }; answer = out; work = work }
+  pub cramped-answer : length out < 4096 → expansion book term limit out work ≡ result cramped out work
   unfolding expansion
   cramped-answer h = rw (lt-leb 4096 (length out) h, expansion)
 
-  pub cramped-work : 4096 ≤ length out → length work < 8192 → expansion book term limit out work ≡ record { numbers = record { number = 10; place = 0; steps = 0 }; answer = out; work = work }
+  pub cramped-work : 4096 ≤ length out → length work < 8192 → expansion book term limit out work ≡ result cramped out work
   unfolding expansion
   cramped-work h k = rw (le-leb 4096 (length out) h, lt-leb 8192 (length work) k, expansion)
 
   module _ (room-answer : 4096 ≤ length out) (room-work : 8192 ≤ length work) where
-    pub refuses : (termAnswer book term .number ≡ 0 → ⊥) → expansion book term limit out work ≡ record { numbers = termAnswer book term; answer = out; work = work }
+    pub refuses : (termAnswer book term .number ≡ 0 → ⊥) → expansion book term limit out work ≡ result (termAnswer book term) out work
     unfolding expansion
     refuses bad = go (termAnswer book term .number) refl
       where
-        go : (n : ℕ) → termAnswer book term .number ≡ n → expansion book term limit out work ≡ record { numbers = termAnswer book term; answer = out; work = work }
+        go : (n : ℕ) → termAnswer book term .number ≡ n → expansion book term limit out work ≡ result (termAnswer book term) out work
         go zero e = absurd (bad e)
         go (suc n) e = rw (le-leb 4096 (length out) room-answer, le-leb 8192 (length work) room-work, e, expansion)
-            (λ i. record { numbers = record { number = e i; place = termAnswer book term .place; steps = termAnswer book term .steps }; answer = out; work = work })
+            (λ i. result (record { number = e i; place = termAnswer book term .place; steps = termAnswer book term .steps }) out work)
 
     pub evaluates : termAnswer book term .number ≡ 0 → expansion book term limit out work ≡ ended out work (evaluation (systemOf book) limit term)
     unfolding expansion
     evaluates e = rw (le-leb 4096 (length out) room-answer, le-leb 8192 (length work) room-work, e, expansion)
 
+  -- which of the checks a call meets first, and what comes of it
+  pub data Course : Type 0 where
+    narrow : expansion book term limit out work ≡ result cramped out work → Course
+    wrong : (termAnswer book term .number ≡ 0 → ⊥) → expansion book term limit out work ≡ result (termAnswer book term) out work → Course
+    runs : 4096 ≤ length out → 8192 ≤ length work → termAnswer book term .number ≡ 0 →
+        expansion book term limit out work ≡ ended out work (evaluation (systemOf book) limit term) → Course
+
+  pub course : Course
+  course =
+      elim (decLt (length out) 4096) [
+        | yes h ↦ narrow (cramped-answer h)
+        | no h ↦ elim (decLt (length work) 8192) [
+          | yes k ↦ narrow (cramped-work (omega arith) k)
+          | no k ↦ elim (ℕ-discrete (termAnswer book term .number) 0) [
+            | no b ↦ wrong b (refuses (omega arith) (omega arith) b)
+            | yes g ↦ runs (omega arith) (omega arith) g (evaluates (omega arith) (omega arith) g)
+          ]
+        ]
+      ]
+
 -- ---- after a run
+
+pub same-result : {r r′ : Answer} {out out′ work work′ : List ℕ} → r ≡ r′ → out ≡ out′ → work ≡ work′ → result r out work ≡ result r′ out′ work′
+same-result p q s i = result (p i) (q i) (s i)
 
 -- what is handed back is no longer than a term may be
 pub size-bounded : (book term : List ℕ) (limit : ℕ) → Checks book term → (e : Ended) (ws : List ℕ) → Ends (evaluation (systemOf book) limit term) e ws → e .size ≤ 4096
@@ -113,16 +141,7 @@ module _ (work ws : List ℕ) (room : 8192 ≤ length work) (size : length ws �
 
   -- the end: the numbers, the answer buffer and the work buffer
   pub finishes : (o : Outcome) (e : Ended) (out : List ℕ) → Ends o e ws →
-      (record { number = e .number; place = e .size; steps = e .steps } ≡ ended out work o .numbers) ×
-      (over out 0 (take (e .size) (ws ++ drop 8192 work)) ≡ ended out work o .answer) ×
-      (over (ws ++ drop 8192 work) 0 (zeros 8192) ≡ ended out work o .work)
-  finishes (settled r) e out h = (
-    rw (h .0),
-    ap (over out 0) (ends-words r e ws (drop 8192 work) h),
-    zeroed,
-  )
-  finishes (stopped n k) e out h = (
-    rw (h .0),
-    ap (λ y. over out 0 (take (y .size) (ws ++ drop 8192 work))) (h .0),
-    zeroed,
-  )
+      result (record { number = e .number; place = e .size; steps = e .steps }) (over out 0 (take (e .size) (ws ++ drop 8192 work)))
+      (over (ws ++ drop 8192 work) 0 (zeros 8192)) ≡ ended out work o
+  finishes (settled r) e out h = same-result (rw (h .0)) (ap (over out 0) (ends-words r e ws (drop 8192 work) h)) zeroed
+  finishes (stopped n k) e out h = same-result (rw (h .0)) (ap (λ y. over out 0 (take (y .size) (ws ++ drop 8192 work))) (h .0)) zeroed

@@ -14,7 +14,7 @@ use Rattle.system.specs.System.{System, strategy, head}
 use Rattle.system.specs.Terms.{more, Whole, Stands, first, later, WellFormed}
 use Rattle.matching.specs.Matching.{redex}
 use Rattle.evaluation.specs.Evaluation.{Run, settled, evaluation}
-use Rattle.evaluation.specs.Promises.{Found}
+use Rattle.evaluation.specs.Outcomes.{Stable}
 use Rattle.matching.specs.Safety.{IdleEntry, idle, Guarded, Constructor, Safe}
 use Rattle.matching.proofs.Firsts.{fired, unfired}
 use Rattle.evaluation.proofs.Walks.{Walk, end, pass, fire, open′, evaluate-local}
@@ -133,14 +133,14 @@ module _ (s : System) where
     ]
 
     -- whatever the limit: what an evaluation hands back over a safe system
-    pub theorem-found : (limit : ℕ) (t : List ℕ) (r : Run) → Whole g t → evaluation s limit t ≡ settled r → Found s (r .term)
+    pub theorem-found : (limit : ℕ) (t : List ℕ) (r : Run) → Whole g t → evaluation s limit t ≡ settled r → Stable s (r .term)
     unfolding evaluation
     theorem-found limit t r h e =
         let c = evaluate-local s limit wf 64 [] [] t 0 r h (rw (append-nil t) e) in
         let k : Still s 64 (c .part) = walk-found (c .walk) h (start h) (λ i st. inl st) in
-        subst (Found s) (sym (c .term ∙ append-nil (c .part))) (go (c .part) (c .whole) k)
+        subst (Stable s) (sym (c .term ∙ append-nil (c .part))) (go (c .part) (c .whole) k)
       where
-        go : (v : List ℕ) → Whole g v → Still s 64 v → Found s v
+        go : (v : List ℕ) → Whole g v → Still s 64 v → Stable s v
         go v h c = record {
           whole = h;
           normal = λ p act k m x. let y = active-at s wf (λ u. (l : ℕ) × Still s l u) still-inherited h (64, c) act in

@@ -4,13 +4,12 @@ use mathlib.Core.List.{List, [], _∷_, _++_}
 use Rattle.buffers.specs.Words.{zeros}
 use Rattle.system.specs.Cases.{Case, numbers, bookB, earlyB, readerCases}
 use Rattle.matching.specs.Cases.{strategyCases}
-use Rattle.evaluation.specs.Expansion.{Expansion, expansion}
-use Rattle.evaluation.specs.Promises.{handedBack}
+use Rattle.evaluation.specs.Expansion.{Expansion, expansion, handedBack}
 use Rattle.evaluation.specs.Limits.{areaWords, termWords}
 
 -- the three numbers, and the words that are handed back
 abbrev pub told : Expansion → List ℕ
-told e = numbers (e .numbers) ++ handedBack (e .numbers) (e .answer)
+told x = numbers (x .numbers) ++ handedBack x
 
 -- in buffers of just the words that the evaluator asks for
 unfoldable pub expanding : List ℕ → List ℕ → ℕ → List ℕ

@@ -17,32 +17,37 @@ pub record Expansion : Type 0 where
   pub answer : List ℕ
   pub work : List ℕ
 
+-- an answer and both buffers as an operation leaves them
+abbrev pub result : Answer → List ℕ → List ℕ → Expansion
+result r out work = record { numbers = r; answer = out; work = work }
+
 -- "On 0 the answer stands in the first words of the answer buffer and the rest is unchanged; otherwise that buffer is unchanged."
 -- "On 11 to 13 and on 0 the first 8,192 words of the expander's work buffer are zero and the rest unchanged"
 abbrev pub ended : List ℕ → List ℕ → Outcome → Expansion
-ended out work (settled r) = record {
-  numbers = record { number = 0; place = length (r .term); steps = r .steps };
-  answer = over out 0 (r .term);
-  work = over work 0 (zeros areaWords);
-}
-ended out work (stopped n k) = record { numbers = record { number = limitNumber n; place = 0; steps = k }; answer = out; work = over work 0 (zeros areaWords) }
+ended out work (settled r) =
+    result (record { number = 0; place = length (r .term); steps = r .steps }) (over out 0 (r .term)) (over work 0 (zeros areaWords))
+ended out work (stopped n k) = result (record { number = limitNumber n; place = 0; steps = k }) out (over work 0 (zeros areaWords))
 
 -- "The expander checks 10, then the book, then the cue"; "every other number touches no buffer"
 unfoldable pub expansion : List ℕ → List ℕ → ℕ → List ℕ → List ℕ → Expansion
 expansion book term limit out work =
     elim (leb termWords (length out) && leb areaWords (length work)) [
-      | false ↦ record { numbers = record { number = 10; place = 0; steps = 0 }; answer = out; work = work }
+      | false ↦ result (record { number = 10; place = 0; steps = 0 }) out work
       | true ↦ elim (termAnswer book term .number) [
         | zero ↦ ended out work (evaluation (systemOf book) limit term)
-        | suc _ ↦ record { numbers = termAnswer book term; answer = out; work = work }
+        | suc _ ↦ result (termAnswer book term) out work
       ]
     ]
 
--- what an expansion e handed back, expanded again with no steps allowed, in the buffers out and work; where nothing was handed back, e's
--- three numbers and the buffers as they are
+-- the words that are handed back: "the answer stands in the first words of the answer buffer", as many as the place says
+abbrev pub handedBack : Expansion → List ℕ
+handedBack x = take (x .numbers .place) (x .answer)
+
+-- what an expansion x handed back, expanded again with no steps allowed, in the buffers out and work; where nothing was handed back,
+-- x's three numbers and the buffers as they are
 unfoldable pub secondly : List ℕ → Expansion → List ℕ → List ℕ → Expansion
-secondly book e out work =
-    elim (e .numbers .number) [
-      | zero ↦ expansion book (take (e .numbers .place) (e .answer)) 0 out work
-      | suc _ ↦ record { numbers = e .numbers; answer = out; work = work }
+secondly book x out work =
+    elim (x .numbers .number) [
+      | zero ↦ expansion book (handedBack x) 0 out work
+      | suc _ ↦ result (x .numbers) out work
     ]

@@ -2,8 +2,10 @@
 pub mod Limits
 pub mod Evaluation
 pub mod Rewriting
-pub mod Promises
+pub mod Outcomes
 pub mod Expansion
+pub mod Demand1
+pub mod Demand3
 pub mod Cases
 -- The machine: inner
 pub mod machine

@@ -3,8 +3,8 @@ ghost use mathlib.Core.Path.{_≡_};
 ghost use lib.ListN.{length};
 ghost use Rattle.system.specs.Reader.{read};
 ghost use Rattle.matching.specs.Safety.{TestedBook};
-ghost use Rattle.evaluation.specs.Expansion.{expansion, secondly};
-ghost use Rattle.evaluation.specs.Promises.{IsDone, IsHandedBack, IsFound, RestsAgain};
+ghost use Rattle.evaluation.specs.Expansion.{result, expansion, secondly};
+ghost use Rattle.evaluation.specs.Demand3.{IsDone, IsHandedBack, IsFound, RestsAgain};
 use crate::expand;
 use system::Answer;
 
@@ -23,12 +23,12 @@ pub fn expand_checked(
     work: &mut [u16],
 ) -> Checked
     ensures tested { λ r. ⌜ TestedBook (read (now (book .entry))) (r .test) ⌝ }
-    ensures numbers { λ r. ⌜ r .answer ≡ expansion (now (book .entry)) (now (term .entry)) limit (now (out .entry)) (now (work .entry)) .numbers ⌝ }
-    ensures answer { λ _. ⌜ now (out .exit) ≡ expansion (now (book .entry)) (now (term .entry)) limit (now (out .entry)) (now (work .entry)) .answer ⌝ }
-    ensures zeroed { λ _. ⌜ now (work .exit) ≡ expansion (now (book .entry)) (now (term .entry)) limit (now (out .entry)) (now (work .entry)) .work ⌝ }
-    ensures done { λ r. ⌜ IsDone (now (book .entry)) (now (term .entry)) limit (r .answer) (now (out .exit)) ⌝ }
-    ensures handed { λ r. ⌜ IsHandedBack (now (book .entry)) (now (term .entry)) limit (now (out .entry)) (now (work .entry)) (r .answer) (now (out .exit)) ⌝ }
-    ensures found { λ r. ⌜ IsFound (now (book .entry)) (r .test) (r .answer) (now (out .exit)) ⌝ }
+    ensures expanded { λ r. ⌜ result (r .answer) (now (out .exit)) (now (work .exit))
+        ≡ expansion (now (book .entry)) (now (term .entry)) limit (now (out .entry)) (now (work .entry)) ⌝ }
+    ensures done { λ r. ⌜ IsDone (now (book .entry)) (now (term .entry)) limit (result (r .answer) (now (out .exit)) (now (work .exit))) ⌝ }
+    ensures handed { λ r. ⌜ IsHandedBack (now (book .entry)) (now (term .entry)) limit (now (out .entry)) (now (work .entry))
+        (result (r .answer) (now (out .exit)) (now (work .exit))) ⌝ }
+    ensures found { λ r. ⌜ IsFound (now (book .entry)) (r .test) (result (r .answer) (now (out .exit)) (now (work .exit))) ⌝ }
 {
     let test = matching::test_strategies(book);
     let answer = expand(book, term, limit, out, work);
@@ -54,14 +54,14 @@ pub fn expand_twice(
     spare: &mut [u16],
 ) -> Twice
     ensures tested { λ r. ⌜ TestedBook (read (now (book .entry))) (r .test) ⌝ }
-    ensures numbers { λ r. ⌜ r .first ≡ expansion (now (book .entry)) (now (term .entry)) limit (now (out .entry)) (now (work .entry)) .numbers ⌝ }
-    ensures answer { λ _. ⌜ now (out .exit) ≡ expansion (now (book .entry)) (now (term .entry)) limit (now (out .entry)) (now (work .entry)) .answer ⌝ }
-    ensures zeroed { λ _. ⌜ now (work .exit) ≡ expansion (now (book .entry)) (now (term .entry)) limit (now (out .entry)) (now (work .entry)) .work ⌝ }
-    ensures second { λ r. ⌜ r .second ≡ secondly (now (book .entry)) (expansion (now (book .entry)) (now (term .entry)) limit (now (out .entry)) (now (work .entry))) (now (again .entry)) (now (spare .entry)) .numbers ⌝ }
-    ensures again { λ _. ⌜ now (again .exit) ≡ secondly (now (book .entry)) (expansion (now (book .entry)) (now (term .entry)) limit (now (out .entry)) (now (work .entry))) (now (again .entry)) (now (spare .entry)) .answer ⌝ }
-    ensures spare { λ _. ⌜ now (spare .exit) ≡ secondly (now (book .entry)) (expansion (now (book .entry)) (now (term .entry)) limit (now (out .entry)) (now (work .entry))) (now (again .entry)) (now (spare .entry)) .work ⌝ }
-    ensures found { λ r. ⌜ IsFound (now (book .entry)) (r .test) (r .first) (now (out .exit)) ⌝ }
-    ensures rests { λ r. ⌜ RestsAgain (r .test) (r .first) (now (out .exit)) (now (again .entry)) (now (spare .entry)) (r .second) (now (again .exit)) ⌝ }
+    ensures expanded { λ r. ⌜ result (r .first) (now (out .exit)) (now (work .exit))
+        ≡ expansion (now (book .entry)) (now (term .entry)) limit (now (out .entry)) (now (work .entry)) ⌝ }
+    ensures second { λ r. ⌜ result (r .second) (now (again .exit)) (now (spare .exit))
+        ≡ secondly (now (book .entry)) (expansion (now (book .entry)) (now (term .entry)) limit (now (out .entry)) (now (work .entry)))
+        (now (again .entry)) (now (spare .entry)) ⌝ }
+    ensures found { λ r. ⌜ IsFound (now (book .entry)) (r .test) (result (r .first) (now (out .exit)) (now (work .exit))) ⌝ }
+    ensures rests { λ r. ⌜ RestsAgain (r .test) (result (r .first) (now (out .exit)) (now (work .exit)))
+        (now (again .entry)) (now (spare .entry)) (result (r .second) (now (again .exit)) (now (spare .exit))) ⌝ }
 {
     let test = matching::test_strategies(book);
     let first = expand(book, term, limit, out, work);

@@ -3,7 +3,7 @@ ghost use mathlib.Core.Path.{_≡_};
 ghost use Prim.Native.Nat.{_≤_};
 ghost use lib.ListN.{length, take};
 ghost use Rattle.buffers.specs.Words.{over, zeros, pad};
-ghost use Rattle.evaluation.specs.Expansion.{expansion};
+ghost use Rattle.evaluation.specs.Expansion.{result, expansion};
 
 pub mod demands;
 mod entries;
@@ -24,9 +24,8 @@ use system::Answer;
 // touches a buffer. Otherwise the first 8,192 words of `work` are zero afterwards and the rest is unchanged; and on 0 the answer
 // stands in the first words of `out`, whose other words, and on 11 to 13 all words, are unchanged.
 pub fn expand(book: &[u16], term: &[u16], limit: u32, out: &mut [u16], work: &mut [u16]) -> Answer
-    ensures numbers { λ r. ⌜ r ≡ expansion (now (book .entry)) (now (term .entry)) limit (now (out .entry)) (now (work .entry)) .numbers ⌝ }
-    ensures answer { λ _. ⌜ now (out .exit) ≡ expansion (now (book .entry)) (now (term .entry)) limit (now (out .entry)) (now (work .entry)) .answer ⌝ }
-    ensures zeroed { λ _. ⌜ now (work .exit) ≡ expansion (now (book .entry)) (now (term .entry)) limit (now (out .entry)) (now (work .entry)) .work ⌝ }
+    ensures { λ r. ⌜ result r (now (out .exit)) (now (work .exit))
+        ≡ expansion (now (book .entry)) (now (term .entry)) limit (now (out .entry)) (now (work .entry)) ⌝ }
 {
     if out.len() < TERM_WORDS {
         return refused(10);

@@ -1,6 +1,4 @@
 -- `cue_expand` meets its contract.
-use Rattle.cue.specs.Exports.{answerFor}
-use mathlib.Core.Path.{ap, _∙_}
 use borrow.Author.Needs.{needs}
 use Rattle.cue.proofs.cue_expand.Statement.{statement}
 use Rattle.cue.proofs.cue_expand.Tie as tie
@@ -18,8 +16,9 @@ same-length-2 : tie.Need-same-length-2
 same-length-2 c = search needs
 
 returns : tie.Need-returns
-returns c = let x = c .before .before .before .before .before .expand .ensures in
-    (c .answer-for .ensures ∙ ap answerFor (x .0), (x .1 .0, x .1 .1))
+returns c =
+    let e = c .answer-for .ensures in
+    rw e (c .before .before .before .before .before .expand .ensures)
 
 pub cue-expand-spec : {M : Type 1} → statement M
 cue-expand-spec =

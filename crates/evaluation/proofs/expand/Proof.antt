@@ -1,13 +1,14 @@
 -- `expand` meets its contract.
 use Prim.Native.Nat.{_≤_}
-use Rattle.evaluation.proofs.Expanding.{Checks, checks, checks-accepted, cramped-answer, cramped-work, refuses, evaluates, size-bounded, whole-length, whole-front, finishes}
+use Rattle.evaluation.proofs.Expanding.{Checks, checks, checks-accepted, cramped-answer, cramped-work, refuses, evaluates, size-bounded, whole-length, whole-front, same-result, finishes}
 use Rattle.evaluation.specs.Evaluation.{evaluation}
+use Rattle.evaluation.specs.Expansion.{result}
 use Rattle.matching.specs.Accepted.{systemOf}
 use Rattle.system.specs.Answers.{termAnswer}
 use lib.Seq.{length-take-le}
 use lib.ListN.{length}
 use native.Mathlib.Omega.{arith}
-use mathlib.Core.Path.{_≡_, refl, sym, ap, _∙_}
+use mathlib.Core.Path.{_≡_, sym, ap, _∙_}
 use borrow.Author.Needs.{needs}
 use Rattle.evaluation.proofs.expand.Statement.{statement}
 use Rattle.evaluation.proofs.expand.Tie as tie
@@ -31,14 +32,14 @@ refused-requires c κs = search needs
 
 returns : tie.Need-returns
 returns c = let a = c .before .before .before .before .before .before .args in
-    rw (cramped-answer (a .book .now) (a .term .now) (a .limit) (a .out .now) (a .work .now) (c .before .if1 .taken)) (c .refused .ensures, (refl, refl))
+    rw (cramped-answer (a .book .now) (a .term .now) (a .limit) (a .out .now) (a .work .now) (c .before .if1 .taken)) (ap (λ y. result y (a .out .now) (a .work .now)) (c .refused .ensures))
 
 refused-requires-2 : tie.Need-refused-requires-2
 refused-requires-2 c κs = search needs
 
 returns-2 : tie.Need-returns-2
 returns-2 c = let a = c .before .before .before .before .before .before .before .args in
-    rw (cramped-work (a .book .now) (a .term .now) (a .limit) (a .out .now) (a .work .now) (c .before .before .if1 .left) (c .before .if2 .taken)) (c .refused2 .ensures, (refl, refl))
+    rw (cramped-work (a .book .now) (a .term .now) (a .limit) (a .out .now) (a .work .now) (c .before .before .if1 .left) (c .before .if2 .taken)) (ap (λ y. result y (a .out .now) (a .work .now)) (c .refused2 .ensures))
 
 check-term-requires : tie.Need-check-term-requires
 check-term-requires c κs = search needs
@@ -46,7 +47,7 @@ check-term-requires c κs = search needs
 returns-3 : tie.Need-returns-3
 returns-3 c = let a = c .before .before .before .before .before .before .before .before .before .args in
     let e = c .before .before .check-term .ensures in
-    rw (refuses (a .book .now) (a .term .now) (a .limit) (a .out .now) (a .work .now) (c .before .before .before .before .if1 .left) (c .before .before .before .if2 .left) (λ z. c .if3 .taken (ap (λ y. y .number) e ∙ z))) (e, (refl, refl))
+    rw (refuses (a .book .now) (a .term .now) (a .limit) (a .out .now) (a .work .now) (c .before .before .before .before .if1 .left) (c .before .before .before .if2 .left) (λ z. c .if3 .taken (ap (λ y. y .number) e ∙ z))) (ap (λ y. result y (a .out .now) (a .work .now)) e)
 
 shape-of-requires : tie.Need-shape-of-requires
 shape-of-requires c κs = search needs
@@ -85,7 +86,7 @@ returns-4 c = let a = c .before .before .before .before .before .before .before 
     let l = c .before .before .before .before .before .before .before .before .before .before .before .before .before .before .before .if2 .left in
     let k = evaluates (a .book .now) (a .term .now) (a .limit) (a .out .now) (a .work .now) (c .before .before .before .before .before .before .before .before .before .before .before .before .before .before .before .before .if1 .left) l (good (c .before .before .before .before .before .before .before .before .before .before .before .before)) in
     let z = finishes (a .work .now) (r .last .1 .1 .1 .1 .0) l (ran (c .before .before .before .before .before .before .before .before .before)) (evaluation (systemOf (a .book .now)) (a .limit) (a .term .now)) (r .result) (a .out .now) (r .ensures) in
-    rw k (f .ensures .0 ∙ z .0, (f .ensures .1 .0 ∙ z .1, f .ensures .1 .1 ∙ z .2))
+    same-result (f .ensures .0) (f .ensures .1 .0) (f .ensures .1 .1) ∙ z ∙ sym k
 
 pub expand-spec : {M : Type 1} → statement M
 expand-spec =

@@ -1,5 +1,6 @@
 -- `expand_words` meets its contract.
-use Rattle.evaluation.proofs.Demand3.{answer-fits}
+use Rattle.evaluation.proofs.Demand3.{handed-fits}
+use Rattle.evaluation.specs.Expansion.{result}
 use borrow.Author.Needs.{needs}
 use Rattle.expand.proofs.expand_words.Statement.{statement}
 use Rattle.expand.proofs.expand_words.Tie as tie
@@ -25,7 +26,7 @@ expand-requires c κs = search needs
 print-answer-requires : tie.Need-print-answer-requires
 print-answer-requires c κs = let a = c .before .before .before .before .before .before .before .before .before .before .before .before .before .before .before .args in
     let e = c .before .before .before .before .before .expand in
-    answer-fits (a .book .now) _ (c .before .before .before .before .before .before .before .before .before .wide .result) (a .out .now) (a .work .now) (e .result) (e .last .1 .1 .1 .0) (e .ensures .0) (e .ensures .1 .0)
+    handed-fits (a .book .now) _ (c .before .before .before .before .before .before .before .before .before .wide .result) (a .out .now) (a .work .now) (result (e .result) (e .last .1 .1 .1 .0) (e .last .1 .1 .1 .1 .0)) (e .ensures)
 
 same-length : tie.Need-same-length
 same-length c = search needs

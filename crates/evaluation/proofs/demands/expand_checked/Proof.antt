@@ -1,5 +1,7 @@
 -- `demands::expand_checked` meets its contract.
-use Rattle.evaluation.proofs.Demand3.{answer-done, answer-handed-back, answer-found}
+use mathlib.Core.Path.{sym, subst}
+use Rattle.evaluation.specs.Demand3.{IsDone, IsHandedBack, IsFound}
+use Rattle.evaluation.proofs.Demand3.{is-done, is-handed-back, is-found}
 use borrow.Author.Needs.{needs}
 use Rattle.evaluation.proofs.demands.expand_checked.Statement.{statement}
 use Rattle.evaluation.proofs.demands.expand_checked.Tie as tie
@@ -17,12 +19,19 @@ same-length-2 : tie.Need-same-length-2
 same-length-2 c = search needs
 
 returns : tie.Need-returns
-returns c = let a = c .before .before .before .before .before .before .before .before .before .before .before .before .args in
+returns c =
+    let a = c .before .before .before .before .before .before .before .before .before .before .before .before .args in
     let t = c .before .before .before .before .before .before .before .test-strategies in
-    let e = c .before .before .before .before .expand in
-    let n = e .ensures .0 in
-    let w = e .ensures .1 .0 in
-    (t .ensures, (n, (w, (e .ensures .1 .1, (answer-done (a .book .now) (a .term .now) (a .limit) (a .out .now) (a .work .now) (e .result) (e .last .1 .1 .1 .0) n w, (answer-handed-back (a .book .now) (a .term .now) (a .limit) (a .out .now) (a .work .now) (e .result) (e .last .1 .1 .1 .0) n w, answer-found (a .book .now) (a .term .now) (a .limit) (a .out .now) (a .work .now) (e .result) (e .last .1 .1 .1 .0) n w (t .result) (t .ensures)))))))
+    let e = c .before .before .before .before .expand .ensures in
+    let b = a .book .now in
+    let u = a .term .now in
+    let l = a .limit in
+    let o = a .out .now in
+    let w = a .work .now in
+    let done = subst (IsDone b u l) (sym e) (is-done b u l o w) in
+    let handed = subst (IsHandedBack b u l o w) (sym e) (is-handed-back b u l o w) in
+    let found = subst (IsFound b (t .result)) (sym e) (is-found b u l o w (t .result) (t .ensures)) in
+    (t .ensures, (e, (done, (handed, found))))
 
 pub expand-checked-spec : {M : Type 1} → statement M
 expand-checked-spec =

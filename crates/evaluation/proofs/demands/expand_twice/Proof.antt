@@ -1,8 +1,10 @@
 -- `demands::expand_twice` meets its contract.
 use Prim.Native.Nat.{_-_}
-use Rattle.evaluation.proofs.Demand3.{answer-found, answer-fits, answer-again, second-none, second-goes}
+use Rattle.evaluation.specs.Expansion.{result}
+use Rattle.evaluation.specs.Demand3.{IsFound}
+use Rattle.evaluation.proofs.Demand3.{is-found, handed-fits, second-none, second-goes, second-rests}
 use lib.ListN.{take}
-use mathlib.Core.Path.{sym, ap, _∙_}
+use mathlib.Core.Path.{sym, ap, subst}
 use native.Mathlib.Nat.{sub-zero}
 use borrow.Author.Needs.{needs}
 use Rattle.evaluation.proofs.demands.expand_twice.Statement.{statement}
@@ -21,11 +23,15 @@ same-length-2 : tie.Need-same-length-2
 same-length-2 c = search needs
 
 returns : tie.Need-returns
-returns c = let a = c .before .before .before .before .before .before .before .before .before .before .before .before .before .before .before .before .args in
+returns c =
+    let a = c .before .before .before .before .before .before .before .before .before .before .before .before .before .before .before .before .args in
     let t = c .before .before .before .before .before .before .before .before .before .test-strategies in
     let e = c .before .before .before .before .before .before .expand in
-    let q = second-none (a .book .now) (a .term .now) (a .limit) (a .out .now) (a .work .now) (e .result) (e .last .1 .1 .1 .0) (e .ensures .0) (e .ensures .1 .0) (a .again .now) (a .spare .now) (c .if1 .taken) in
-    (t .ensures, (e .ensures .0, (e .ensures .1 .0, (e .ensures .1 .1, (sym (ap (λ y. y .numbers) q), (sym (ap (λ y. y .answer) q), (sym (ap (λ y. y .work) q), (answer-found (a .book .now) (a .term .now) (a .limit) (a .out .now) (a .work .now) (e .result) (e .last .1 .1 .1 .0) (e .ensures .0) (e .ensures .1 .0) (t .result) (t .ensures), λ z z′. absurd (c .if1 .taken z′)))))))))
+    let x = result (e .result) (e .last .1 .1 .1 .0) (e .last .1 .1 .1 .1 .0) in
+    let b = a .book .now in
+    let none = second-none b (a .term .now) (a .limit) (a .out .now) (a .work .now) x (e .ensures) (a .again .now) (a .spare .now) (c .if1 .taken) in
+    let found = is-found b (a .term .now) (a .limit) (a .out .now) (a .work .now) (t .result) (t .ensures) in
+    (t .ensures, (e .ensures, (none, (subst (IsFound b (t .result)) (sym (e .ensures)) found, λ z z′. absurd (c .if1 .taken z′)))))
 
 sub-expand : tie.Need-sub-expand
 sub-expand c = search needs
@@ -34,10 +40,11 @@ part-expand-start : tie.Need-part-expand-start
 part-expand-start c = search needs
 
 part-expand-end : tie.Need-part-expand-end
-part-expand-end c = let a = c .before .before .before .before .before .before .before .before .before .before .before .before .before .before .before .before .before .args in
-    let t = c .before .before .before .before .before .before .before .before .before .before .test-strategies in
+part-expand-end c =
+    let a = c .before .before .before .before .before .before .before .before .before .before .before .before .before .before .before .before .before .args in
     let e = c .before .before .before .before .before .before .before .expand in
-    answer-fits (a .book .now) (a .term .now) (a .limit) (a .out .now) (a .work .now) (e .result) (e .last .1 .1 .1 .0) (e .ensures .0) (e .ensures .1 .0) (c .before .if1 .left)
+    let x = result (e .result) (e .last .1 .1 .1 .0) (e .last .1 .1 .1 .1 .0) in
+    handed-fits (a .book .now) (a .term .now) (a .limit) (a .out .now) (a .work .now) x (e .ensures) (c .before .if1 .left)
 
 expand-requires-2 : tie.Need-expand-requires-2
 expand-requires-2 c κs = search needs
@@ -55,12 +62,22 @@ same-length-6 : tie.Need-same-length-6
 same-length-6 c = search needs
 
 returns-2 : tie.Need-returns-2
-returns-2 c = let a = c .before .before .before .before .before .before .before .before .before .before .before .before .before .before .before .before .before .before .before .before .before .before .before .before .before .args in
-    let t = c .before .before .before .before .before .before .before .before .before .before .before .before .before .before .before .before .before .before .test-strategies in
-    let e = c .before .before .before .before .before .before .before .before .before .before .before .before .before .before .before .expand in
+returns-2 c =
+    let d = c .before .before .before .before .before .before .before .before .before .before .before .before .before .before .before in
+    let a = d .before .before .before .before .before .before .before .before .before .before .args in
+    let t = d .before .before .before .test-strategies in
+    let e = d .expand in
     let f = c .before .before .before .before .expand2 in
-    let q = second-goes (a .book .now) (a .term .now) (a .limit) (a .out .now) (a .work .now) (e .result) (e .last .1 .1 .1 .0) (e .ensures .0) (e .ensures .1 .0) (a .again .now) (a .spare .now) (c .before .before .before .before .before .before .before .before .before .if1 .left) (take (e .result .place - 0) (e .last .1 .1 .1 .0)) (ap (λ n. take n (e .last .1 .1 .1 .0)) (sub-zero (e .result .place))) in
-    (t .ensures, (e .ensures .0, (e .ensures .1 .0, (e .ensures .1 .1, (f .ensures .0 ∙ sym (ap (λ y. y .numbers) q), (f .ensures .1 .0 ∙ sym (ap (λ y. y .answer) q), (f .ensures .1 .1 ∙ sym (ap (λ y. y .work) q), (answer-found (a .book .now) (a .term .now) (a .limit) (a .out .now) (a .work .now) (e .result) (e .last .1 .1 .1 .0) (e .ensures .0) (e .ensures .1 .0) (t .result) (t .ensures), answer-again (a .book .now) (a .term .now) (a .limit) (a .out .now) (a .work .now) (e .result) (e .last .1 .1 .1 .0) (e .ensures .0) (e .ensures .1 .0) (t .result) (t .ensures) (a .again .now) (a .spare .now) (take (e .result .place - 0) (e .last .1 .1 .1 .0)) (f .result) (f .last .1 .1 .1 .0) (ap (λ n. take n (e .last .1 .1 .1 .0)) (sub-zero (e .result .place))) (f .ensures .0) (f .ensures .1 .0)))))))))
+    let z = c .before .before .before .before .before .before .before .before .before .if1 .left in
+    let x = result (e .result) (e .last .1 .1 .1 .0) (e .last .1 .1 .1 .1 .0) in
+    let x′ = result (f .result) (f .last .1 .1 .1 .0) (f .last .1 .1 .1 .1 .0) in
+    let b = a .book .now in
+    let v = take (e .result .place - 0) (e .last .1 .1 .1 .0) in
+    let same = ap (λ n. take n (e .last .1 .1 .1 .0)) (sub-zero (e .result .place)) in
+    let second = second-goes b (a .term .now) (a .limit) (a .out .now) (a .work .now) x (e .ensures) (a .again .now) (a .spare .now) x′ z v same (f .ensures) in
+    let found = is-found b (a .term .now) (a .limit) (a .out .now) (a .work .now) (t .result) (t .ensures) in
+    let rests = second-rests b (a .term .now) (a .limit) (a .out .now) (a .work .now) x (e .ensures) (a .again .now) (a .spare .now) (t .result) (t .ensures) in
+    (t .ensures, (e .ensures, (second, (subst (IsFound b (t .result)) (sym (e .ensures)) found, rests x′ v same (f .ensures)))))
 
 pub expand-twice-spec : {M : Type 1} → statement M
 expand-twice-spec =

@@ -1,0 +1,47 @@
+-- What demand 3 asks of the evaluator (01: the expander), said of an expansion x: its three numbers and both buffers as it leaves them.
+use Prim.Native.Nat.{ℕ, _≤_}
+use mathlib.Core.Path.{_≡_}
+use mathlib.Core.List.{List}
+use lib.ListN.{length}
+use Rattle.system.specs.declared.Answer.{Answer}
+use Rattle.system.specs.Answers.{termAnswer}
+use Rattle.matching.specs.Accepted.{systemOf}
+use Rattle.evaluation.specs.Evaluation.{Run, settled, evaluation}
+use Rattle.evaluation.specs.Outcomes.{Done, Stable}
+use Rattle.evaluation.specs.Expansion.{Expansion, expansion, handedBack}
+use Rattle.evaluation.specs.Limits.{areaWords, termWords}
+
+-- "a cue is handed back if the expander answers 0": then that many words are there, and they are done
+abbrev pub IsDone : List ℕ → List ℕ → ℕ → Expansion → Type 0
+IsDone book term limit x =
+    x .numbers .number ≡ 0 →
+    (length (handedBack x) ≡ x .numbers .place) × Done (systemOf book) limit term (handedBack x) (x .numbers .steps)
+
+-- and where the checks pass and the evaluation ends within its limits, a term is handed back: it and the count are the evaluation's
+abbrev pub IsHandedBack : List ℕ → List ℕ → ℕ → List ℕ → List ℕ → Expansion → Type 0
+IsHandedBack book term limit out work x =
+    termWords ≤ length out → areaWords ≤ length work → termAnswer book term .number ≡ 0 →
+    (e : Run) → evaluation (systemOf book) limit term ≡ settled e →
+    (x .numbers ≡ record { number = 0; place = length (e .term); steps = e .steps }) × (handedBack x ≡ e .term)
+
+-- an expansion that takes no step and hands back the words t
+abbrev pub Rests : List ℕ → Expansion → Type 0
+Rests t x = (x .numbers ≡ record { number = 0; place = length t; steps = 0 }) × (handedBack x ≡ t)
+
+-- what is found in the words t that are handed back over a book that passed
+pub record Found (book t : List ℕ) : Type 0 where
+  -- whole, and no rule matches at an active position
+  pub stable : Stable (systemOf book) t
+  -- "in 1 to 4,096 words; one so written is whole"
+  pub bounded : length t ≤ termWords
+  -- expanding them again takes no step and hands back the same, in any buffers that pass the checks and with any step limit
+  pub again : (limit : ℕ) (out work : List ℕ) → termWords ≤ length out → areaWords ≤ length work → Rests t (expansion book t limit out work)
+
+-- `test` is the strategy test's answer
+abbrev pub IsFound : List ℕ → Answer → Expansion → Type 0
+IsFound book test x = test .number ≡ 0 → x .numbers .number ≡ 0 → Found book (handedBack x)
+
+-- and of a second expansion x′ of what x handed back, with step limit 0 in the buffers out′ and work′
+abbrev pub RestsAgain : Answer → Expansion → List ℕ → List ℕ → Expansion → Type 0
+RestsAgain test x out′ work′ x′ =
+    test .number ≡ 0 → x .numbers .number ≡ 0 → termWords ≤ length out′ → areaWords ≤ length work′ → Rests (handedBack x) x′
