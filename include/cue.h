@@ -1,15 +1,22 @@
 /*
  * The cue expander: show books, the order test, expansion.
  *
- * Link with libcue.a (`rt staticlib cue` writes it to target/staticlib/). The archive needs nothing but memcpy, memmove and memset.
+ * Link with libcue.a (`rt staticlib cue` writes it to target/staticlib/). The target is x86-64 (System V ABI, ELF; SSE registers are
+ * used, so save them in a task that can be interrupted). About 11 KB of code, no data, no bss; it needs memcpy and memset and nothing
+ * else, and links with -nostdlib. Stack, read from the compiled archive with everything that is called: cue_expand 2,784 bytes,
+ * cue_expand_twice, the deepest, 2,928, every function below 4,096 (`bash tests/stack.sh` measures it). Another target needs another
+ * back end, and the stack measured anew.
  *
  * Every slice is a pointer to its first word and the number of its words. A pointer must be valid even where the length is 0 (any
  * address of a uint16_t will do), and a buffer that is written (`out`, `work`) must not overlap any other slice of the call. Nothing
  * else is asked of a caller: every other input gets one of the answers below. No function keeps a pointer, uses the heap, or holds
  * state between calls; each may be called from any thread.
  *
+ * For a show a desk needs two of these functions: cue_test_strategies once for a book, and cue_expand for each cue. cue_expand_checked
+ * and cue_expand_twice are what both promise together, as functions of their own; the others look at a book or a cue.
+ *
  * Names. The show designers' words and the words of the field stand side by side: a book is a rewrite system, a name a symbol, an
- * order a strategy, an entry of the rules' section a rule, a placeholder a variable, a cue a term, and a part of it a subterm.
+ * order a strategy, a placeholder a variable, a cue a term, a part of it a subterm, and a place a position.
  */
 #ifndef CUE_H
 #define CUE_H
@@ -21,12 +28,24 @@
 extern "C" {
 #endif
 
+/* The version: a change of what a function takes or answers raises the first number, anything new the second. */
+#define CUE_VERSION_MAJOR 1
+#define CUE_VERSION_MINOR 0
+
 /* Sizes, in words. */
 #define CUE_TERM_WORDS 4096 /* the most words of a cue, and the least of an answer buffer */
 #define CUE_WORK_WORDS 8192 /* the least words of a work buffer */
 #define CUE_BOOK_WORDS 21251 /* the longest book that can be accepted */
+
+/* Limits of a book and of an expansion. */
+#define CUE_SYMBOLS 256 /* the most names of a book */
+#define CUE_ARGUMENTS 8 /* the most arguments of a name */
+#define CUE_ENTRIES 16 /* the most entries of an order */
+#define CUE_RULES 128 /* the most rules of a book */
+#define CUE_SIDE_WORDS 64 /* the most words of a rule's side */
 #define CUE_VARIABLES 16 /* the most placeholders of a rule */
 #define CUE_VARIABLE 32768 /* placeholder k is the word 32768 + k */
+#define CUE_LEVELS 64 /* the deepest level at which an argument is evaluated; the whole cue is level 1 */
 
 /* The numbers of an answer. */
 enum {
@@ -46,6 +65,15 @@ enum {
   CUE_NESTED = 13,   /* an argument would be opened from level 64 */
   CUE_UNSETTLED = 14 /* the order test failed */
 };
+
+#if defined(__cplusplus) || (defined(__STDC_VERSION__) && __STDC_VERSION__ >= 199901L)
+/* The word of a number in the table above, for a message; "?" for a number that is not in it. */
+static inline const char *cue_word(uint32_t number) {
+  static const char *const words[] = {"taken",   "short",      "count",   "entry", "stranger", "ragged", "headless", "stray",
+                                      "surplus", "broken cue", "cramped", "spent", "overlong", "nested", "unsettled"};
+  return number < sizeof words / sizeof words[0] ? words[number] : "?";
+}
+#endif
 
 /* Three numbers: one of the above, a place and the steps. What place and steps are is said at each function; where nothing is said, 0. */
 typedef struct cue_answer {
@@ -71,7 +99,8 @@ typedef struct cue_part {
 /*
  * A rule that fits, if found is 1: its number (from 0), the index in the book of its right side's first word, how many words the right
  * side has, and for each placeholder of the left side the index of the first word, and the number of words, of the argument that it
- * stands for. Placeholders that the left side does not have are 0 and 0. If found is 0, all is 0.
+ * stands for. Placeholders that the left side does not have are 0 and 0. If found is 0, all is 0. (`number` is a rule's here, and no
+ * number of the table.)
  */
 typedef struct cue_match {
   uint32_t found;
@@ -84,7 +113,8 @@ typedef struct cue_match {
 
 /*
  * Reads a book. 0: accepted, place is its length. 1 to 8: refused, place is the index of the word that was being read when the first
- * fault was met (for 1 the book's length).
+ * fault was met. For 1 that is the book's length. For 5 it is the first word too many or, where a side's words are used up and it is
+ * still not complete, the word behind its last one.
  */
 cue_answer cue_read(const uint16_t *book, size_t book_words);
 

@@ -25,7 +25,7 @@ printf '#include "cue.h"\nint main(void) { return CUE_TAKEN; }\n' | tee "$to/hea
 quiet gcc -std=c99 -Wall -Wextra -pedantic -Werror -Iinclude -fsyntax-only "$to/header.c"
 quiet g++ -std=c++11 -Wall -Wextra -pedantic -Werror -Iinclude -fsyntax-only "$to/header.cpp"
 nm -g --defined-only "$archive" | awk '$2 == "T" { print $3 }' | sort > "$to/exported"
-grep -oE '\bcue_[a-z_]+\(' include/cue.h | tr -d '(' | sort -u > "$to/declared"
+grep -v inline include/cue.h | grep -oE '\bcue_[a-z_]+\(' | tr -d '(' | sort -u > "$to/declared"
 diff "$to/exported" "$to/declared" || fail "the header does not declare what the archive exports"
 say "the archive exports, and the header declares, $(wc -l < "$to/exported") functions"
 
@@ -33,7 +33,9 @@ say "the archive exports, and the header declares, $(wc -l < "$to/exported") fun
 bash tests/stack.sh 4096 "$archive" || fail "the stack"
 ! bash tests/stack.sh 100 "$archive" > "$to/low" 2>&1 && grep -q 'ABOVE 100:' "$to/low" || fail "the stack is never too deep"
 
-# 3. the C example
+# 3. the header's sizes, limits and words against what the functions do, and the C example
+quiet gcc -std=c99 -Wall -Wextra -pedantic -Werror -Iinclude tests/header.c "$archive" -o "$to/header"
+"$to/header" || fail "the header's sizes are not the functions'"
 quiet gcc -std=c99 -Wall -Wextra -pedantic -Werror -Iinclude examples/c/expand.c "$archive" -o "$to/expand-c"
 "$to/expand-c" > "$to/expand-c.out"
 diff examples/c/stdout "$to/expand-c.out" || fail "the C example prints something else"
@@ -66,6 +68,15 @@ for wrong in 65536 -1 1x '2 3 four' 0x10; do
 done
 printf 'abc' > "$to/odd"
 ! tools/words unpack "$to/odd" > /dev/null 2>&1 || fail "the words tool takes an odd file"
+# a refusal says why in one line, and leaves no file behind, an old one neither
+printf '\377\376' > "$to/no-text"
+for wrong in "$to/wrong.txt" "$to/no-text"; do
+    echo old > "$to/stale"
+    ! tools/words pack "$wrong" "$to/stale" 2> "$to/why" || fail "the words tool packs $wrong"
+    [ ! -e "$to/stale" ] && [ "$(wc -l < "$to/why")" = 1 ] || fail "the words tool leaves an old file, or more than a line, for $wrong"
+done
+tools/words --help > /dev/null || fail "the words tool has no --help"
+[ "$(tools/words where examples/book-b/book.txt 11 | cut -d: -f1)" = 'word 11 is 1, number 2 in line 10' ] || fail "the words tool does not tell where word 11 is"
 say "the words tool goes there and back"
 
 # 6. the examples, by the program
