@@ -1,0 +1,47 @@
+"""The layout that docs/CHANGING.md asks for: lengths of lines, files and functions. Prints what is over, and exits with 1 if anything is.
+
+    python3 tests/house.py      from the repository's top
+"""
+import glob
+import re
+import sys
+
+LINE = {"src": 150, "specs": 150, "proofs": 200}  # characters
+FILE = 300  # lines of a file of proofs
+BODY = 40  # lines of a function's body
+PARAMETERS = 6
+# document 01 asks for both loops in one function; two pairs of buffers are lent to one call
+LONG_BODY = {"first_rule"}
+MANY = {"expand_twice", "cue_expand_twice"}
+
+
+def functions(text):
+    """Each function's name, its parameters, and how many lines stand between its braces."""
+    for m in re.finditer(r'^ *(?:pub )?(?:extern "C" )?fn (\w+)(?:<[^>]*>)?\((.*?)\)(?: ->[^\n]*)?\n(.*?)^( *)\{\n(.*?)^\4\}', text, re.M | re.S):
+        yield m.group(1), [p for p in m.group(2).split(",") if p.strip()], m.group(5).count("\n")
+    for m in re.finditer(r'^( *)(?:pub )?(?:extern "C" )?fn (\w+)(?:<[^>]*>)?\(([^)]*)\)(?: ->[^\n{]*)? \{\n(.*?)^\1\}', text, re.M | re.S):
+        yield m.group(2), [p for p in m.group(3).split(",") if p.strip()], m.group(4).count("\n")
+
+
+def main():
+    over = []
+    for part, most in LINE.items():
+        for path in sorted(glob.glob(f"crates/*/{part}/**/*.*", recursive=True)):
+            if not path.endswith((".rt", ".antt")):
+                continue
+            text = open(path, encoding="utf-8").read()
+            lines = text.split("\n")
+            over += [f"{path}:{i}: {len(line)} characters, {most} at most" for i, line in enumerate(lines, 1) if len(line) > most]
+            if part == "proofs" and len(lines) - 1 > FILE:
+                over.append(f"{path}: {len(lines) - 1} lines, {FILE} at most")
+            for name, parameters, body in functions(text) if part == "src" else []:
+                if body > BODY and name not in LONG_BODY:
+                    over.append(f"{path}: {name} has {body} lines, {BODY} at most")
+                if len(parameters) > PARAMETERS and name not in MANY:
+                    over.append(f"{path}: {name} has {len(parameters)} parameters, {PARAMETERS} at most")
+    for line in over:
+        print("house: " + line)
+    sys.exit(1 if over else 0)
+
+
+main()
