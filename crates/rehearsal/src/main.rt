@@ -1,14 +1,36 @@
 // Runs the cases of 01 that are not starred (C13, C14, C15), and orders that repeat an argument, nested; prints the three numbers of each.
 ghost use Prim.Native.Nat.{_≤_};
 ghost use lib.ListN.{length};
+use libc::STDOUT_FILENO;
+use system::Answer;
+
+// A text and the line's end, on standard output.
+fn print_line(bytes: &[u8]) {
+    io::write_all(STDOUT_FILENO, bytes);
+    io::write_all(STDOUT_FILENO, b"\n");
+}
+
+// The heading of the answers.
+fn print_heading() {
+    let mut text = [0u8; 19];
+    let n = printing::put_heading(&mut text, 0);
+    io::write_all(STDOUT_FILENO, &text[0..n]);
+}
+
+// The three numbers of an answer, on a line.
+fn print_numbers(a: Answer) {
+    let mut text = [0u8; 43];
+    let n = printing::put_numbers(&mut text, 0, a);
+    io::write_all(STDOUT_FILENO, &text[0..n]);
+}
 
 // Expands a cue over a book, in buffers of its own.
 fn rehearse(label: &[u8], book: &[u16], cue: &[u16], limit: u32) {
     let mut out = [0u16; 4096];
     let mut work = [0u16; 8192];
     let a = evaluation::expand(book, cue, limit, &mut out, &mut work);
-    printing::line(label);
-    printing::numbers(a);
+    print_line(label);
+    print_numbers(a);
 }
 
 // Expands a cue over 01's book B with the order of `then` that is given by its words: how many entries, and the entries.
@@ -135,7 +157,7 @@ fn comb() {
 }
 
 fn main() {
-    printing::heading();
+    print_heading();
     endless_chase();
     many_heads();
     doubling();
