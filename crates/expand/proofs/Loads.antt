@@ -1,16 +1,14 @@
 -- The words of a file's bytes, two by two, in the terms of the loop that loads them.
-use Prim.Native.Nat.{ℕ, zero, suc, _+_, _*_, _/_, _≤_, _<_}
+use Prim.Native.Nat.{ℕ, zero, suc, _+_, _-_, _*_, _/_, _≤_, _<_}
 use native.Mathlib.Omega.{arith}
 use native.Mathlib.Numerals.{add-one}
 use mathlib.Core.Path.{_≡_, refl, sym, ap, _∙_}
 use mathlib.Core.List.{List, [], _∷_}
-use lib.ListN.{length, getD, take, set}
-use lib.Seq.{take-all, take-suc, length-take-le}
+use lib.ListN.{length, getD, take, drop, set}
+use lib.Seq.{take-all, take-at, take-suc, length-take-le, length-sets, sets-eq}
 use Rattle.buffers.specs.Words.{over}
 use Rattle.buffers.proofs.Over.{over-snoc}
-use Rattle.expand.specs.declared.File.{File}
-use Rattle.expand.specs.declared.File.the-variants.{Bytes}
-use Rattle.expand.specs.Files.{Held, wordOf, wordsOf}
+use Rattle.expand.specs.Words.{wordOf, wordsOf}
 
 pub words-length : (bs : List ℕ) → length (wordsOf bs) ≡ length bs / 2
 unfolding wordsOf
@@ -39,6 +37,19 @@ module _ (ws bs w : List ℕ) (i : ℕ) (now : w ≡ over ws 0 (take i (wordsOf 
   pub load-end : length bs / 2 ≤ i → w ≡ over ws 0 (wordsOf bs)
   load-end h = now ∙ ap (over ws 0) (take-all i (wordsOf bs) (let z = words-length bs in omega arith))
 
--- a file that was taken
-pub held-bytes : (f : File) (n size : ℕ) → f ≡ Bytes n → Held f size → n < size
-held-bytes f n size e h = rw e at h
+-- what a load leaves: bs are the file's bytes, n the answer, and w the words of the slice
+pub record Loaded (bs : List ℕ) (n : ℕ) (w : List ℕ) : Type 0 where
+  pub count : n ≡ length bs / 2
+  pub fits : n ≤ length w
+  pub words : take (n - 0) w ≡ wordsOf bs
+
+pub loaded : (bs ws w : List ℕ) (n : ℕ) → length bs ≤ 2 * length ws → n ≡ length (wordsOf bs) → w ≡ over ws 0 (wordsOf bs) → Loaded bs n w
+loaded bs ws w n h e f =
+    let l = words-length bs in
+    let k : length w ≡ length ws = ap length f ∙ length-sets ws 0 (wordsOf bs) in
+    let z : n - 0 ≡ length (wordsOf bs) = omega arith in
+    record {
+      count = omega arith;
+      fits = omega arith;
+      words = rw (z, f, sets-eq (wordsOf bs) ws 0 (omega arith)) (take-at (wordsOf bs) (drop (0 + length (wordsOf bs)) ws) (length (wordsOf bs)) refl);
+    }

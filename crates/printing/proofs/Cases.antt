@@ -9,5 +9,5 @@ pub text-cases :
     × (heading ≡ ascii "number place steps" ++ (10 ∷ []))
     × (numbersLine (record { number = 0; place = 3; steps = 1 }) ≡ ascii "0 3 1\n")
     × (wordLines (1 ∷ 0 ∷ 32769 ∷ []) ≡ ascii "1\n0\n32769\n")
-unfolding decimal decimalIn numbersLine wordLines
+unfolding decimal decimalIn heading numbersLine wordLines
 text-cases = (refl, refl, refl, refl, refl, refl, refl)

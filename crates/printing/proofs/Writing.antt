@@ -9,7 +9,7 @@ use lib.Seq.{length-sets, length-take-le, take-all, take-suc}
 use Rattle.buffers.specs.Words.{over}
 use Rattle.buffers.proofs.Over.{over-append, over-snoc}
 use Rattle.system.specs.declared.Answer.{Answer}
-use Rattle.printing.specs.Text.{decimal, line, numbersLine, wordLines, Written}
+use Rattle.printing.specs.Text.{decimal, line, heading, numbersLine, wordLines, Written}
 use Rattle.printing.proofs.Decimals.{decimal-length}
 
 module _ {t t₁ : List ℕ} {at m : ℕ} {xs : List ℕ} (a : Written t at xs m t₁) where
@@ -49,6 +49,10 @@ written-room a h = let e = a .ends in let l = written-length a in omega arith
 -- a number and a byte behind it: no more bytes than its digits and one
 pub number-end : {t t₁ : List ℕ} {at p k : ℕ} (n b : ℕ) → Written t at (decimal n ++ (b ∷ [])) p t₁ → length (decimal n) ≤ k → p ≤ at + k + 1
 number-end n b a h = let e = a .ends in let l = length-append (decimal n) (b ∷ []) in omega arith
+
+pub heading-length : length heading ≡ 19
+unfolding heading
+heading-length = refl
 
 -- the three numbers of an answer, one after the other
 pub written-numbers : {t t₁ t₂ t₃ : List ℕ} {at p q r : ℕ} (a : Answer)

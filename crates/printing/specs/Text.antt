@@ -31,7 +31,7 @@ abbrev pub line : List ℕ → List ℕ
 line bytes = bytes ++ (10 ∷ [])
 
 -- the heading of an answer
-abbrev pub heading : List ℕ
+unfoldable pub heading : List ℕ
 heading = line (ascii "number place steps")
 
 -- the three numbers of an answer, on a line

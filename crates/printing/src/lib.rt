@@ -60,7 +60,7 @@ fn put_number(text: &mut [u8], at: usize, n: u64, mark: u8) -> usize
 // The three numbers of an answer on a line: no more than 10, 20 and 10 digits.
 pub fn put_numbers(text: &mut [u8], at: usize, a: Answer) -> usize
     requires { ⌜ at + 43 ≤ length (now text) ⌝ }
-    ensures { λ r. ⌜ Written (now (text .entry)) at (numbersLine a) r (now (text .exit)) ⌝ }
+    ensures { λ r. ⌜ Written (now (text .entry)) at (numbersLine a) r (now (text .exit)) × (r ≤ at + 43) ⌝ }
 {
     let place = put_number(text, at, a.number as u64, b' ');
     let steps = put_number(text, place, a.place as u64, b' ');

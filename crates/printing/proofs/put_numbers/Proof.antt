@@ -60,7 +60,11 @@ returns c =
     let z = c .before .before in
     let y = z .before .before .before .before .before in
     let x = y .before .before .before .before in
-    written-numbers (x .before .before .before .before .args .a) (x .put-number .ensures) (y .put-number2 .ensures) (z .put-number3 .ensures)
+    let a = x .before .before .before .before .args .a in
+    let k = number-end (a .number) 32 (x .put-number .ensures) (ten (x .before)) in
+    let l = number-end (a .place) 32 (y .put-number2 .ensures) (twenty (x .before)) in
+    let m = number-end (a .steps) 10 (z .put-number3 .ensures) (ten-steps (x .before)) in
+    (written-numbers a (x .put-number .ensures) (y .put-number2 .ensures) (z .put-number3 .ensures), omega arith)
 
 pub put-numbers-spec : {M : Type 1} → statement M
 put-numbers-spec =

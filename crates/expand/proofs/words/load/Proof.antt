@@ -1,13 +1,13 @@
 -- `load` meets its contract.
 use Rattle.expand.proofs.Loads.{words-length, load-turn, load-end}
-use Rattle.expand.specs.Files.{wordsOf}
+use Rattle.expand.specs.Words.{wordsOf}
 use Rattle.buffers.specs.Words.{over}
 use lib.ListN.{length, take, length-set}
 use mathlib.Core.Path.{_≡_, sym}
 use Prim.Native.Nat.{_≤_, _-_}
 use borrow.Author.Needs.{needs}
-use Rattle.expand.proofs.load.Statement.{statement}
-use Rattle.expand.proofs.load.Tie as tie
+use Rattle.expand.proofs.words.load.Statement.{statement}
+use Rattle.expand.proofs.words.load.Tie as tie
 
 abbrev Inv-loop : tie.InvT-loop
 Inv-loop bytes words₀ n i₀ words i = (words ≡ over words₀ 0 (take i (wordsOf bytes))) × (length words ≡ length words₀) × (i ≤ n)
@@ -46,15 +46,20 @@ loop-less : tie.Need-loop-less Inv-loop μ-loop
 loop-less c = search needs
 
 loop-again : tie.Need-loop-again Inv-loop μ-loop
-loop-again c = let a = c .before .before .before .before .before .before .before .args in
+loop-again c =
+    let a = c .before .before .before .before .before .before .before .args in
     let l = c .before .before .before .before .loop in
-    (load-turn (a .words .now) (a .bytes .now) (l .words) (l .i) (l .inv .0) (c .word .result) (c .word .ensures) (c .before .before .before .loop-test .taken), rw (length-set (l .words) (l .i) (c .word .result)) (l .inv .1), search needs)
+    let t = c .before .before .before .loop-test .taken in
+    (load-turn (a .words .now) (a .bytes .now) (l .words) (l .i) (l .inv .0) (c .word .result) (c .word .ensures) t,
+    rw (length-set (l .words) (l .i) (c .word .result)) (l .inv .1),
+    search needs)
 
 same-length : tie.Need-same-length Inv-loop μ-loop
 same-length c = search needs
 
 returns : tie.Need-returns Inv-loop μ-loop
-returns c = let a = c .before .before .before .before .args in
+returns c =
+    let a = c .before .before .before .before .args in
     let l = c .before .loop in
     (sym (words-length (a .bytes .now)), load-end (a .words .now) (a .bytes .now) (l .words) (l .i) (l .inv .0) (c .loop-test .left))
 

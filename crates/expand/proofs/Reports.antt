@@ -1,0 +1,147 @@
+-- Laws of what the program prints, in the terms of the code that checks the files and puts the text.
+use Prim.Native.Nat.{ℕ, zero, suc, _+_, _-_, _%_, _≤_, _<_}
+use native.Mathlib.Omega.{arith}
+use native.Mathlib.Decide.{decLt, ℕ-discrete}
+use mathlib.Core.Path.{_≡_, refl, sym, ap, _∙_}
+use mathlib.Core.Bool.{Bool, true, false}
+use mathlib.Core.List.{List, [], _∷_, _++_, append-nil}
+use lib.ListN.{length, take, drop, getD}
+use borrow.Author.Tests.{lt-ltb, le-ltb, eq-eqb, ne-eqb}
+use Rattle.buffers.specs.Words.{zeros}
+use Rattle.system.specs.declared.Answer.{Answer}
+use Rattle.evaluation.specs.Expansion.{expansion, result}
+use Rattle.printing.specs.Text.{ascii, line, heading, numbersLine, wordLines, Written}
+use Rattle.printing.proofs.Writing.{written-then}
+use Rattle.expand.specs.Words.{wordsOf}
+use Rattle.expand.specs.Report.{fileOf, bookBytes, cueBytes, Checked, stops, holds, check, refusal, onZero, answerText, textOf, report, textBytes, inRoom}
+
+-- ---- the checks of a file
+
+module _ (most : ℕ) (bs : List ℕ) where
+  pub check-missing : (there : Bool) → there ≡ false → check most (fileOf there bs) ≡ stops (ascii "missing")
+  unfolding check
+  check-missing there e = rw e
+
+  module _ (there : Bool) (e : there ≡ true) where
+    pub check-long : most < length bs → check most (fileOf there bs) ≡ stops (ascii "long")
+    unfolding check
+    check-long h = rw (e, lt-ltb most (length bs) h)
+
+    pub check-odd : length bs ≤ most → (length bs % 2 ≡ 0 → ⊥) → check most (fileOf there bs) ≡ stops (ascii "odd")
+    unfolding check
+    check-odd h n = rw (e, le-ltb most (length bs) h, ne-eqb (length bs % 2) 0 n)
+
+    pub check-holds : length bs ≤ most → length bs % 2 ≡ 0 → check most (fileOf there bs) ≡ holds (wordsOf bs)
+    unfolding check
+    check-holds h n = rw (e, le-ltb most (length bs) h, eq-eqb (length bs % 2) 0 n)
+
+-- a file that is taken: t was the text before its checks, and t₁ after them
+pub record Taken (most : ℕ) (there : Bool) (bs t t₁ : List ℕ) : Type 0 where
+  pub small : length bs ≤ most
+  pub held : check most (fileOf there bs) ≡ holds (wordsOf bs)
+  pub same : t₁ ≡ t
+
+-- nothing was printed of it
+pub taken : (most : ℕ) (there : Bool) (bs : List ℕ) {t t₁ : List ℕ} {r : ℕ} → Written t 0 (refusal (check most (fileOf there bs))) r t₁ → r ≡ 0 →
+    Taken most there bs t t₁
+taken most false bs w z = absurd (let e = (rw (check-missing most bs false refl) at w) .ends in omega arith)
+taken most true bs {t} {t₁} w z =
+    elim (decLt most (length bs)) [
+      | yes h ↦ absurd (let e = (rw (check-long most bs true refl h) at w) .ends in omega arith)
+      | no h ↦ elim (ℕ-discrete (length bs % 2) 0) [
+        | yes n ↦
+            let s : length bs ≤ most = omega arith in
+            let e = check-holds most bs true refl s n in
+            record { small = s; held = e; same = (rw e at w) .becomes }
+        | no n ↦ absurd (let e = (rw (check-odd most bs true refl (omega arith) n) at w) .ends in omega arith)
+      ]
+    ]
+
+-- ---- both files
+
+module _ {t t′ : List ℕ} {r : ℕ} where
+  pub stops-first : (x y : Checked) → Written t 0 (refusal x) r t′ → (r ≡ 0 → ⊥) → Written t 0 (textOf x y) r t′
+  unfolding textOf
+  stops-first (stops why) y w h = w
+  stops-first (holds ws) y w h = absurd (h (w .ends))
+
+  pub stops-second : (ws : List ℕ) (y : Checked) → Written t 0 (refusal y) r t′ → (r ≡ 0 → ⊥) → Written t 0 (textOf (holds ws) y) r t′
+  unfolding textOf
+  stops-second ws (stops why) w h = w
+  stops-second ws (holds vs) w h = absurd (h (w .ends))
+
+-- the cue file has no word
+pub no-words : (bs : List ℕ) → length bs < 2 → wordsOf bs ≡ []
+unfolding wordsOf
+no-words [] h = refl
+no-words (l ∷ []) h = refl
+no-words (l ∷ k ∷ bs) h = absurd (omega arith)
+
+pub text-short : (ws : List ℕ) → textOf (holds ws) (holds []) ≡ line (ascii "short")
+unfolding textOf
+text-short ws = refl
+
+-- it has one
+pub text-words : (ws ts : List ℕ) → 0 < length ts →
+    textOf (holds ws) (holds ts) ≡ answerText (expansion ws (drop 1 ts) (getD ts 0 0) (zeros 4096) (zeros 8192))
+unfolding textOf
+text-words ws [] h = absurd (omega arith)
+text-words ws (x ∷ ts) h = refl
+
+-- a slice without the room for every text
+pub room-none : (room : ℕ) (text : List ℕ) → room < textBytes → inRoom room text ≡ []
+room-none room text h = rw (lt-ltb room textBytes h)
+
+-- one with it, by the place at which the program stops
+module _ (bt : Bool) (book : List ℕ) (ct : Bool) (cue t : List ℕ) (room : textBytes ≤ length t) where
+  abbrev Prints : ℕ → List ℕ → Type 0
+  Prints r t′ = Written t 0 (inRoom (length t) (report (fileOf bt book) (fileOf ct cue))) r t′
+
+  pub by-book : {r : ℕ} {t′ : List ℕ} → Written t 0 (refusal (check bookBytes (fileOf bt book))) r t′ → (r ≡ 0 → ⊥) → Prints r t′
+  by-book w h = rw (le-ltb (length t) textBytes room) (stops-first (check bookBytes (fileOf bt book)) (check cueBytes (fileOf ct cue)) w h)
+
+  module _ {t₁ : List ℕ} (b : Taken bookBytes bt book t t₁) where
+    pub by-cue : {r : ℕ} {t′ : List ℕ} → Written t₁ 0 (refusal (check cueBytes (fileOf ct cue))) r t′ → (r ≡ 0 → ⊥) → Prints r t′
+    by-cue w h =
+        rw (le-ltb (length t) textBytes room, b .held)
+        (stops-second (wordsOf book) (check cueBytes (fileOf ct cue)) (rw (b .same) at w) h)
+
+    module _ {t₂ : List ℕ} (c : Taken cueBytes ct cue t₁ t₂) {r : ℕ} {t′ : List ℕ} where
+      pub by-answer : Written t₂ 0 (textOf (holds (wordsOf book)) (holds (wordsOf cue))) r t′ → Prints r t′
+      by-answer w = rw (le-ltb (length t) textBytes room, b .held, c .held) (rw (c .same, b .same) at w)
+
+      pub by-short : length cue < 2 → Written t₂ 0 (line (ascii "short")) r t′ → Prints r t′
+      by-short h w = by-answer (rw (no-words cue h, text-short (wordsOf book)) w)
+
+-- ---- an answer
+
+on-zero : (n : ℕ) (text : List ℕ) → n ≡ 0 → onZero n text ≡ text
+unfolding onZero
+on-zero n text e = rw e
+
+on-other : (n : ℕ) (text : List ℕ) → (n ≡ 0 → ⊥) → onZero n text ≡ []
+unfolding onZero
+on-other zero text h = absurd (h refl)
+on-other (suc n) text h = refl
+
+module _ {t t₁ t₂ : List ℕ} {p q : ℕ} (a : Answer) (out : List ℕ) (h : Written t 0 heading p t₁) (n : Written t₁ p (numbersLine a) q t₂) where
+  pub answer-refused : (a .number ≡ 0 → ⊥) → Written t 0 (answerText (result a out [])) q t₂
+  unfolding answerText
+  answer-refused z = rw (on-other (a .number) (wordLines (take (a .place) out)) z, append-nil) (written-then h n)
+
+  pub answer-words : {t₃ : List ℕ} {r : ℕ} → a .number ≡ 0 → Written t₂ q (wordLines (take (a .place - 0) out)) r t₃ →
+      Written t 0 (answerText (result a out [])) r t₃
+  unfolding answerText
+  answer-words z w =
+      let e : a .place - 0 ≡ a .place = omega arith in
+      rw (on-zero (a .number) (wordLines (take (a .place) out)) z) (written-then (written-then h n) (rw e at w))
+
+-- the work buffer is not printed
+work-apart : (a : Answer) (out work : List ℕ) → answerText (result a out []) ≡ answerText (result a out work)
+unfolding answerText
+work-apart a out work = refl
+
+-- the words of a cue file: the allowance, and the cue
+pub expanded : (book cue out work term : List ℕ) (limit : ℕ) (a : Answer) (out′ work′ : List ℕ) → term ≡ drop 1 cue → limit ≡ getD cue 0 0 →
+    result a out′ work′ ≡ expansion book term limit out work → answerText (result a out′ []) ≡ answerText (expansion book (drop 1 cue) (getD cue 0 0) out work)
+expanded book cue out work term limit a out′ work′ e f g = work-apart a out′ work′ ∙ rw (← e, ← f) (ap answerText g)

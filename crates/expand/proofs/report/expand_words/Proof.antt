@@ -1,0 +1,74 @@
+-- `expand_words` meets its contract.
+use Prim.Native.Nat.{_-_}
+use native.Mathlib.Omega.{arith}
+use lib.ListN.{length, drop, length-drop}
+use lib.Seq.{take-all}
+use borrow.Author.Needs.{needs}
+use Rattle.evaluation.proofs.Demand3.{handed-fits}
+use Rattle.expand.proofs.Reports.{expanded}
+use Rattle.expand.proofs.report.expand_words.Statement.{statement}
+use Rattle.expand.proofs.report.expand_words.Tie as tie
+
+shared-slice-read-wide : tie.Need-shared-slice-read-wide
+shared-slice-read-wide c = search needs
+
+wide-requires : tie.Need-wide-requires
+wide-requires c κs = search needs
+
+sub-expand : tie.Need-sub-expand
+sub-expand c = search needs
+
+part-expand-start : tie.Need-part-expand-start
+part-expand-start c = search needs
+
+part-expand-end : tie.Need-part-expand-end
+part-expand-end c = search needs
+
+expand-requires : tie.Need-expand-requires
+expand-requires c κs = search needs
+
+put-answer-requires : tie.Need-put-answer-requires
+put-answer-requires c κs =
+    let e = c .before .before .before .before .before .before in
+    let w = e .before .before .before .before in
+    let s = w .before .before .before .before .before .before .before in
+    let a = s .args in
+    let x = e .expand in
+    (handed-fits (a .book .now) _ (w .wide .result) (a .out .now) (a .work .now) _ (x .ensures), rw (x .kept .1 .1 .1 .0) (s .pre .1), s .pre .2)
+
+same-length : tie.Need-same-length
+same-length c = search needs
+
+same-length-2 : tie.Need-same-length-2
+same-length-2 c = search needs
+
+same-length-3 : tie.Need-same-length-3
+same-length-3 c = search needs
+
+returns : tie.Need-returns
+returns c =
+    let e = c .before .before .before .before .before .before .before .before .before in
+    let w = e .before .before .before .before in
+    let s = w .before .before .before .before .before .before .before in
+    let a = s .args in
+    let x = e .expand in
+    let p = c .before .before .put-answer in
+    rw (expanded (a .book .now) (a .cue .now) (a .out .now) (a .work .now) _ (w .wide .result) (x .result) (x .last .1 .1 .1 .0) (x .last .1 .1 .1 .1 .0)
+    (take-all (length (a .cue .now) - 1) (drop 1 (a .cue .now)) (rw (length-drop 1 (a .cue .now)) (omega arith))) (w .wide .ensures) (x .ensures))
+    at (p .ensures)
+
+pub expand-words-spec : {M : Type 1} → statement M
+expand-words-spec =
+    tie.close
+    (tie.spec
+    shared-slice-read-wide
+    wide-requires
+    sub-expand
+    part-expand-start
+    part-expand-end
+    expand-requires
+    put-answer-requires
+    same-length
+    same-length-2
+    same-length-3
+    returns)

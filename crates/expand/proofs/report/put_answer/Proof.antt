@@ -1,0 +1,77 @@
+-- `put_answer` meets its contract.
+use Prim.Native.Nat.{_-_}
+use native.Mathlib.Omega.{arith}
+use lib.ListN.{length-take}
+use borrow.Author.Needs.{needs}
+use Rattle.printing.proofs.Writing.{written-length, heading-length}
+use Rattle.expand.proofs.Reports.{answer-refused, answer-words}
+use Rattle.expand.proofs.report.put_answer.Statement.{statement}
+use Rattle.expand.proofs.report.put_answer.Tie as tie
+
+put-heading-requires : tie.Need-put-heading-requires
+put-heading-requires c κs = search needs
+
+put-numbers-requires : tie.Need-put-numbers-requires
+put-numbers-requires c κs =
+    let h = c .before .before .before .put-heading .ensures in
+    let l = written-length h in
+    let n = heading-length in
+    omega (arith, h .ends, c .before .before .before .before .before .before .before .pre .2)
+
+same-length : tie.Need-same-length
+same-length c = search needs
+
+returns : tie.Need-returns
+returns c =
+    let n = c .before .before .before .before in
+    let h = n .before .before .before .before in
+    let a = h .before .before .before .before .args in
+    answer-refused (a .a) (a .out .now) (h .put-heading .ensures) (n .put-numbers .ensures .0) (c .if1 .taken)
+
+sub-put-words : tie.Need-sub-put-words
+sub-put-words c = search needs
+
+part-put-words-start : tie.Need-part-put-words-start
+part-put-words-start c = search needs
+
+part-put-words-end : tie.Need-part-put-words-end
+part-put-words-end c =
+    let s = c .before .before .before .before .before .before .before .before .before .before .before .before .before in
+    s .pre .0 (c .before .if1 .left)
+
+put-words-requires : tie.Need-put-words-requires
+put-words-requires c κs =
+    let n = c .before .before .before .before .before .before in
+    let h = n .before .before .before .before in
+    let s = h .before .before .before .before in
+    let k = written-length (h .put-heading .ensures) in
+    let l = written-length (n .put-numbers .ensures .0) in
+    let m = heading-length in
+    let t = length-take (s .args .a .place - 0) (s .args .out .now) in
+    omega (arith, h .put-heading .ensures .ends, n .put-numbers .ensures .1, s .pre .1, s .pre .2)
+
+same-length-2 : tie.Need-same-length-2
+same-length-2 c = search needs
+
+returns-2 : tie.Need-returns-2
+returns-2 c =
+    let e = c .before .before .before .before .before in
+    let n = e .before .before .before .before in
+    let h = n .before .before .before .before in
+    let a = h .before .before .before .before .args in
+    answer-words (a .a) (a .out .now) (h .put-heading .ensures) (n .put-numbers .ensures .0) (e .if1 .left) (c .before .before .put-words .ensures)
+
+pub put-answer-spec : {M : Type 1} → statement M
+put-answer-spec =
+    tie.close
+    (tie.spec
+    put-heading-requires
+    put-numbers-requires
+    same-length
+    returns
+    sub-put-words
+    part-put-words-start
+    part-put-words-end
+    put-words-requires
+    same-length-2
+    returns-2)

@@ -1,0 +1,76 @@
+-- `refuse` meets its contract.
+use native.Mathlib.Omega.{arith}
+use borrow.Author.Needs.{needs}
+use borrow.Author.Tests.{not-true, not-false}
+use Rattle.printing.proofs.Writing.{written-nothing}
+use Rattle.expand.proofs.Reports.{check-missing, check-long, check-odd, check-holds}
+use Rattle.expand.proofs.report.refuse.Statement.{statement}
+use Rattle.expand.proofs.report.refuse.Tie as tie
+
+slice-aggregate-put-line : tie.Need-slice-aggregate-put-line
+slice-aggregate-put-line c = search needs
+
+put-line-requires : tie.Need-put-line-requires
+put-line-requires c κs = search needs
+
+same-length : tie.Need-same-length
+same-length c = search needs
+
+returns : tie.Need-returns
+returns c =
+    let f = c .before .before .before .before .before in
+    let a = f .before .before .before .args in
+    rw (check-missing (a .most) (a .bytes .now) (a .there) (not-true (a .there) (f .if1 .taken))) (c .before .before .put-line .ensures)
+
+slice-aggregate-put-line-2 : tie.Need-slice-aggregate-put-line-2
+slice-aggregate-put-line-2 c = search needs
+
+put-line-requires-2 : tie.Need-put-line-requires-2
+put-line-requires-2 c κs = search needs
+
+same-length-2 : tie.Need-same-length-2
+same-length-2 c = search needs
+
+returns-2 : tie.Need-returns-2
+returns-2 c =
+    let f = c .before .before .before .before .before in
+    let a = f .before .before .before .before .args in
+    rw (check-long (a .most) (a .bytes .now) (a .there) (not-false (a .there) (f .before .if1 .left)) (f .if2 .taken)) (c .before .before .put-line2 .ensures)
+
+slice-aggregate-put-line-3 : tie.Need-slice-aggregate-put-line-3
+slice-aggregate-put-line-3 c = search needs
+
+put-line-requires-3 : tie.Need-put-line-requires-3
+put-line-requires-3 c κs = search needs
+
+same-length-3 : tie.Need-same-length-3
+same-length-3 c = search needs
+
+returns-3 : tie.Need-returns-3
+returns-3 c =
+    let f = c .before .before .before .before .before in
+    let a = f .before .before .before .before .before .args in
+    rw (check-odd (a .most) (a .bytes .now) (a .there) (not-false (a .there) (f .before .before .if1 .left)) (f .before .if2 .left) (f .if3 .taken)) (c .before .before .put-line3 .ensures)
+
+returns-4 : tie.Need-returns-4
+returns-4 c =
+    let a = c .before .before .before .before .before .args in
+    rw (check-holds (a .most) (a .bytes .now) (a .there) (not-false (a .there) (c .before .before .if1 .left)) (c .before .if2 .left) (c .if3 .left)) (written-nothing (a .text .now) 0 (omega arith))
+
+pub refuse-spec : {M : Type 1} → statement M
+refuse-spec =
+    tie.close
+    (tie.spec
+    slice-aggregate-put-line
+    put-line-requires
+    same-length
+    returns
+    slice-aggregate-put-line-2
+    put-line-requires-2
+    same-length-2
+    returns-2
+    slice-aggregate-put-line-3
+    put-line-requires-3
+    same-length-3
+    returns-3
+    returns-4)

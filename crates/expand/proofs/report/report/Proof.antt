@@ -1,0 +1,115 @@
+-- `report` meets its contract.
+use native.Mathlib.Omega.{arith}
+use lib.ListN.{length}
+use borrow.Author.Needs.{needs}
+use Rattle.printing.proofs.Writing.{written-nothing}
+use Rattle.expand.specs.Report.{bookBytes, cueBytes}
+use Rattle.expand.proofs.Reports.{Taken, taken, room-none, by-book, by-cue, by-short, by-answer}
+use Rattle.expand.proofs.report.report.Statement.{statement}
+use Rattle.expand.proofs.report.report.Tie as tie
+
+-- the book is taken, and then the cue file
+book : (c : tie.Else2) →
+    let a = c .before .before .before .before .before .before .before .before .before .args in
+    Taken bookBytes (a .book-there) (a .book .now) (a .text .now) (c .before .before .before .refuse .last .1 .1 .1 .0)
+book c =
+    let a = c .before .before .before .before .before .before .before .before .before .args in
+    taken bookBytes (a .book-there) (a .book .now) (c .before .before .before .refuse .ensures) (c .if2 .left)
+
+cue : (c : tie.Else3) →
+    let b = c .before .before .before .before .before in
+    let a = b .before .before .before .before .before .before .before .before .before .args in
+    Taken cueBytes (a .cue-there) (a .cue .now) (b .before .before .before .refuse .last .1 .1 .1 .0) (c .before .before .before .refuse2 .last .1 .1 .1 .0)
+cue c =
+    let b = c .before .before .before .before .before in
+    let a = b .before .before .before .before .before .before .before .before .before .args in
+    taken cueBytes (a .cue-there) (a .cue .now) (c .before .before .before .refuse2 .ensures) (c .if3 .left)
+
+returns : tie.Need-returns
+returns c =
+    let a = c .before .before .before .before .args in
+    rw (room-none (length (a .text .now)) _ (c .if1 .taken)) (written-nothing (a .text .now) 0 (omega arith))
+
+refuse-requires : tie.Need-refuse-requires
+refuse-requires c κs = search needs
+
+same-length : tie.Need-same-length
+same-length c = search needs
+
+returns-2 : tie.Need-returns-2
+returns-2 c =
+    let r = c .before .before .before in
+    let e = r .before .before in
+    let a = e .before .before .before .before .args in
+    by-book (a .book-there) (a .book .now) (a .cue-there) (a .cue .now) (a .text .now) (e .if1 .left) (r .refuse .ensures) (c .if2 .taken)
+
+refuse-requires-2 : tie.Need-refuse-requires-2
+refuse-requires-2 c κs = search needs
+
+same-length-2 : tie.Need-same-length-2
+same-length-2 c = search needs
+
+returns-3 : tie.Need-returns-3
+returns-3 c =
+    let b = c .before .before .before .before .before in
+    let e = b .before .before .before .before .before in
+    let a = e .before .before .before .before .args in
+    by-cue (a .book-there) (a .book .now) (a .cue-there) (a .cue .now) (a .text .now) (e .if1 .left) (book b)
+    (c .before .before .before .refuse2 .ensures) (c .if3 .taken)
+
+slice-aggregate-put-line : tie.Need-slice-aggregate-put-line
+slice-aggregate-put-line c = search needs
+
+put-line-requires : tie.Need-put-line-requires
+put-line-requires c κs = search needs
+
+same-length-3 : tie.Need-same-length-3
+same-length-3 c = search needs
+
+returns-4 : tie.Need-returns-4
+returns-4 c =
+    let f = c .before .before .before .before .before in
+    let d = f .before in
+    let b = d .before .before .before .before .before in
+    let e = b .before .before .before .before .before in
+    let a = e .before .before .before .before .args in
+    by-short (a .book-there) (a .book .now) (a .cue-there) (a .cue .now) (a .text .now) (e .if1 .left) (book b) (cue d)
+    (f .if4 .taken) (c .before .before .put-line .ensures)
+
+expand-files-requires : tie.Need-expand-files-requires
+expand-files-requires c κs =
+    let d = c .before .before in
+    let b = d .before .before .before .before .before in
+    let e = b .before .before .before .before .before in
+    (book b .small, c .before .if4 .left, cue d .small, rw (cue d .same, book b .same) (e .if1 .left))
+
+same-length-4 : tie.Need-same-length-4
+same-length-4 c = search needs
+
+returns-5 : tie.Need-returns-5
+returns-5 c =
+    let d = c .before .before .before .before .before in
+    let b = d .before .before .before .before .before in
+    let e = b .before .before .before .before .before in
+    let a = e .before .before .before .before .args in
+    by-answer (a .book-there) (a .book .now) (a .cue-there) (a .cue .now) (a .text .now) (e .if1 .left) (book b) (cue d)
+    (c .before .before .expand-files .ensures)
+
+pub report-spec : {M : Type 1} → statement M
+report-spec =
+    tie.close
+    (tie.spec
+    returns
+    refuse-requires
+    same-length
+    returns-2
+    refuse-requires-2
+    same-length-2
+    returns-3
+    slice-aggregate-put-line
+    put-line-requires
+    same-length-3
+    returns-4
+    expand-files-requires
+    same-length-4
+    returns-5)
