@@ -5,8 +5,8 @@ use mathlib.Core.List.{List, [], _∷_, _++_, append-assoc}
 use Prim.Native.Nat.{ℕ, zero, suc, _+_, _-_, _≤_, _<_}
 use native.Mathlib.Omega.{arith}
 use native.Mathlib.Nat.{sub-zero}
-use lib.ListN.{length, take, drop, set, replicate, length-append, length-set, length-replicate, drop-of-length-le, replicate-append-replicate}
-use lib.Seq.{set-at, set-append-left, set-split, append-snoc, take-at, length-take-le, drop-nil}
+use lib.ListN.{length, take, drop, set, replicate, length-append, length-replicate, replicate-append-replicate}
+use lib.Seq.{set-at, append-snoc, take-at, drop-nil}
 use Rattle.buffers.specs.Words.{zeros, pad}
 
 -- ---- zeros
@@ -63,18 +63,3 @@ pad-zero n xs h = pad-snoc n xs 0 h ∙ sym (pad-here n xs h)
 -- one word more
 pub pad-push : (n : ℕ) (xs : List ℕ) (k v : ℕ) → length xs ≡ k → k < n → set (pad n xs) k v ≡ pad n (xs ++ (v ∷ []))
 pad-push n xs k v e h = rw (pad-here n xs (omega arith), pad-snoc n xs v (omega arith)) (set-at xs 0 (zeros (n - length xs - 1)) v k e)
-
--- a store in the words, and at the last of them
-pub pad-set : (n : ℕ) (xs : List ℕ) (i v : ℕ) → i < length xs → set (pad n xs) i v ≡ pad n (set xs i v)
-unfolding pad
-pad-set n xs i v h = rw length-set (set-append-left xs (zeros (n - length xs)) i v h)
-
-pub pad-top : (n : ℕ) (xs : List ℕ) (k v : ℕ) → length xs ≡ k → 0 < k → set (pad n xs) (k - 1) v ≡ pad n (take (k - 1) xs ++ (v ∷ []))
-pad-top n xs k v e h =
-    let d : length xs ≤ suc (k - 1) = omega arith in
-    pad-set n xs (k - 1) v (omega arith) ∙ ap (pad n) (set-split xs (k - 1) v (omega arith) ∙ rw (drop-of-length-le xs d))
-
-pub pad-pop : (n : ℕ) (xs : List ℕ) (k : ℕ) → length xs ≡ k → 0 < k → k ≤ n → set (pad n xs) (k - 1) 0 ≡ pad n (take (k - 1) xs)
-pad-pop n xs k e h l =
-    let f : length (take (k - 1) xs) ≡ k - 1 = length-take-le (k - 1) xs (omega arith) in
-    pad-top n xs k 0 e h ∙ pad-zero n (take (k - 1) xs) (omega arith)

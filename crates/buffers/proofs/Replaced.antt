@@ -1,4 +1,5 @@
--- What `replace` leaves: the tail moved, the new words written before it, and zeros after it where it is shorter. Assumes nothing.
+-- A stretch of words replaced within a list: the tail is moved, the new words are written before it, and zeros after it where they are fewer.
+-- Assumes nothing.
 use mathlib.Core.Path.{_≡_, sym, ap, _∙_}
 use mathlib.Core.List.{List, _++_, append-assoc}
 use Prim.Native.Nat.{ℕ, _+_, _-_, _≤_, _<_}
@@ -17,47 +18,45 @@ zeros-on ws len n h z =
     ap (λ (k : ℕ). drop k ws) e ∙ sym (drop-drop (n - len) len ws) ∙ rw (z, drop-zeros, f)
 
 module _ (ws src : List ℕ) (len a m : ℕ) (in-live : a + m ≤ len) (in-ws : len ≤ length ws) (room : len - m + length src ≤ length ws) where
-  tail : List ℕ
+  abbrev tail : List ℕ
   tail = part (a + m) (len - (a + m)) ws
 
   tail-is : tail ≡ drop (a + m) (take len ws)
-  unfolding tail
   tail-is =
       let e : a + m + (len - (a + m)) ≡ len = omega arith in
       part-slice (a + m) (len - (a + m)) ws ∙ rw e
 
   tail-length : length tail ≡ len - (a + m)
-  unfolding tail
   tail-length = length-part (a + m) (len - (a + m)) ws (omega arith)
 
   -- the two writes are one
   joined : over (over ws (a + length src) tail) a src ≡ over ws a (src ++ tail)
   joined = over-comm ws a src (a + length src) tail (omega arith) ∙ sym (over-append ws a src tail)
 
-  new : List ℕ
+  abbrev new : List ℕ
   new = splice (take len ws) a m src
 
   new-is : new ≡ take a ws ++ (src ++ tail)
-  unfolding new
   new-is = rw (take-take a len ws (omega arith), ← tail-is, append-assoc)
 
   new-length : length new ≡ len - m + length src
-  new-length = rw (new-is, length-append, length-append, length-take, tail-length) (omega arith)
+  new-length = rw (new-is, length-append, length-append, length-take a ws, tail-length) (omega arith)
 
   -- the end: the list is the new words and then zeros
   ends : (xs : List ℕ) → xs ≡ new ++ zeros (length ws - (len - m + length src)) → xs ≡ pad (length ws) new
   unfolding pad
   ends xs e = rw new-length e
 
-  longer′ : m ≤ length src → drop len ws ≡ zeros (length ws - len) → over (over ws (a + length src) tail) a src ≡ pad (length ws) new
-  longer′ h z =
+  pub longer : m ≤ length src → drop len ws ≡ zeros (length ws - len) → over (over ws (a + length src) tail) a src ≡ pad (length ws) new
+  longer h z =
       let n : length (src ++ tail) ≡ length src + (len - (a + m)) = rw (length-append, tail-length) in
       let k : a + (length src + (len - (a + m))) ≡ len - m + length src = omega arith in
       let w : over ws a (src ++ tail) ≡ take a ws ++ (src ++ tail) ++ drop (len - m + length src) ws = sets-eq (src ++ tail) ws a (omega arith) ∙ rw (n, k) in
       ends _ (joined ∙ w ∙ rw (← new-is, zeros-on ws len (len - m + length src) (omega arith) z))
 
-  shorter′ : length src < m → drop len ws ≡ zeros (length ws - len) → over (over (over ws (a + length src) tail) a src) (len - m + length src) (zeros (m - length src)) ≡ pad (length ws) new
-  shorter′ h z =
+  pub shorter : length src < m → drop len ws ≡ zeros (length ws - len) →
+      over (over (over ws (a + length src) tail) a src) (len - m + length src) (zeros (m - length src)) ≡ pad (length ws) new
+  shorter h z =
       let n : length (src ++ tail) ≡ length src + (len - (a + m)) = rw (length-append, tail-length) in
       let k : len - m + length src ≡ a + (length src + (len - (a + m))) = omega arith in
       let o : a + (length src + (len - (a + m))) ≡ a + length (src ++ tail) = rw n in
@@ -69,13 +68,3 @@ module _ (ws src : List ℕ) (len a m : ℕ) (in-live : a + m ≤ len) (in-ws : 
       ∙ sym (over-append ws a (src ++ tail) (zeros (m - length src)))
       ∙ sets-eq (src ++ tail ++ zeros (m - length src)) ws a (omega arith)
       ∙ rw (r, q, z, new-is) (simp append-assoc (ap (λ (e : List ℕ). take a ws ++ (src ++ (tail ++ e))) (zeros-append (m - length src) (length ws - len) ∙ ap zeros s))))
-
-  -- the same, written out
-  pub longer : m ≤ length src → drop len ws ≡ zeros (length ws - len) → over (over ws (a + length src) (part (a + m) (len - (a + m)) ws)) a src ≡ pad (length ws) (splice (take len ws) a m src)
-  unfolding tail new
-  longer h z = longer′ h z
-
-  pub shorter : length src < m → drop len ws ≡ zeros (length ws - len)
-      → over (over (over ws (a + length src) (part (a + m) (len - (a + m)) ws)) a src) (len - m + length src) (zeros (m - length src)) ≡ pad (length ws) (splice (take len ws) a m src)
-  unfolding tail new
-  shorter h z = shorter′ h z

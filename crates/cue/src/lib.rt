@@ -4,7 +4,7 @@ ghost use mathlib.Core.Path.{_≡_};
 ghost use Rattle.system.specs.Answers.{answerOf, shapeOf, termAnswer, signatureOf};
 ghost use Rattle.system.specs.Reader.{read};
 ghost use Rattle.system.specs.Signature.{span};
-ghost use Rattle.matching.specs.Accepted.{systemOf};
+ghost use Rattle.system.specs.Book.{systemOf};
 ghost use Rattle.matching.specs.Stretches.{matchOf};
 ghost use Rattle.matching.specs.Safety.{TestedBook};
 ghost use Rattle.evaluation.specs.Expansion.{result, expansion, secondly};

@@ -1,17 +1,17 @@
--- The transition laws of `advance`: each turn without a rewrite leads to a state from which the machine comes to the same place.
+-- The transition laws of `advance`: each transition without a rewrite leads to a state from which the machine comes to the same place.
 use Prim.Native.Nat.{ℕ, zero, suc, _-_, _≤_, _<_}
-use native.Mathlib.Nat.{le-of-suc-le-suc, not-suc-le-zero}
 use native.Mathlib.Omega.{arith}
 use mathlib.Core.Path.{_≡_, refl, sym, ap, _∙_}
 use mathlib.Core.Option.{some}
 use mathlib.Core.List.{List, [], _∷_, _++_, append-nil}
-use lib.ListN.{length, getD, drop, length-append, drop-of-length-le}
+use lib.ListN.{length, getD, drop, drop-of-length-le}
 use lib.Seq.{append-snoc}
 use Rattle.system.specs.Signature.{argument}
 use Rattle.system.specs.System.{System}
 use Rattle.matching.specs.Matching.{Redex, redex}
-use Rattle.evaluation.specs.machine.Machine.{strategyAt, down, position, lower, Next, finished, deep, ready, around, scan, enter, advance}
-use Rattle.evaluation.proofs.Laws.{next-entry, entry-at, lower-sub}
+use Rattle.evaluation.specs.machine.Machine.{strategyAt, down, position, Next, finished, deep, ready, around, scan, enter, advance}
+use Rattle.evaluation.proofs.Laws.{next-entry, entry-at}
+use Rattle.evaluation.proofs.Levels.{onto, outward, given-below}
 use Rattle.evaluation.proofs.Iterate.{scan-fire}
 use Rattle.evaluation.proofs.Passing.{Passes, scan-over}
 
@@ -32,10 +32,6 @@ module _ (s : System) (t : List ℕ) where
   pub advance-end : (l p : ℕ) → advance s l [] t p ≡ finished
   unfolding advance
   advance-end l p = refl
-
-  advance-deep : (c : ℕ) (cs : List ℕ) (p : ℕ) → advance s zero (c ∷ cs) t p ≡ deep
-  unfolding advance
-  advance-deep c cs p = refl
 
   advance-start : (l p : ℕ) → advance s l (0 ∷ []) t p ≡ enter s l t p
   unfolding advance enter
@@ -64,31 +60,24 @@ module _ (s : System) (t : List ℕ) where
       top-fire : (x : Redex) → drop c (strategyAt s t p) ≡ 0 ∷ es → redex s (drop p t) ≡ some x → advance s (suc l) (c ∷ []) t p ≡ ready [] (suc c) x
       top-fire x q f = advance-top l c p ∙ ap (λ e. rest l e c p) q ∙ scan-fire s (enter s l t) t es c p x f
 
-  -- a change at the innermost level, below the levels cs
-  under : (cs : List ℕ) (l p : ℕ) (xs ys : List ℕ) → advance s (lower l cs) xs t (position s t cs p) ≡ advance s (lower l cs) ys t (position s t cs p) →
-      advance s l (cs ++ xs) t p ≡ advance s l (cs ++ ys) t p
-  unfolding lower position
-  under [] l p xs ys e = e
-  under (c ∷ cs) zero p xs ys e = advance-deep c (cs ++ xs) p ∙ sym (advance-deep c (cs ++ ys) p)
-  under (c ∷ cs) (suc l) p xs ys e =
-      advance-under l c (cs ++ xs) p ∙ ap (λ n. around c n (rest l (drop c (strategyAt s t p)) c p)) (under cs l (down s t p c) xs ys e)
-      ∙ sym (advance-under l c (cs ++ ys) p)
+  -- one level more than there are
+  top-deep : (c d p : ℕ) → advance s 1 (c ∷ d ∷ []) t p ≡ deep
+  unfolding advance
+  top-deep c d p = refl
 
-  -- a rewrite there
-  under-ready : (cs : List ℕ) (l p : ℕ) (xs : List ℕ) (d : ℕ) (x : Redex) → length cs < l → advance s (lower l cs) xs t (position s t cs p) ≡ ready [] d x →
-      advance s l (cs ++ xs) t p ≡ ready cs d x
-  unfolding lower position
-  under-ready [] l p xs d x n e = e
-  under-ready (c ∷ cs) zero p xs d x n e = absurd (not-suc-le-zero n)
-  under-ready (c ∷ cs) (suc l) p xs d x n e =
-      advance-under l c (cs ++ xs) p ∙ ap (λ n. around c n (rest l (drop c (strategyAt s t p)) c p)) (under-ready cs l (down s t p c) xs d x (le-of-suc-le-suc n) e)
+  -- what the levels around an innermost one make of where it comes to
+  abbrev on : ℕ → ℕ → ℕ → Next → Next
+  on l c p n = around c n (rest l (drop c (strategyAt s t p)) c p)
 
-  -- too many levels
-  too-deep : (l : ℕ) (cs : List ℕ) (p : ℕ) → l < length cs → advance s l cs t p ≡ deep
-  too-deep l [] p h = absurd (not-suc-le-zero h)
-  too-deep zero (c ∷ cs) p h = advance-deep c cs p
-  too-deep (suc l) (c ∷ cs) p h =
-      advance-under l c cs p ∙ ap (λ n. around c n (rest l (drop c (strategyAt s t p)) c p)) (too-deep l cs (down s t p c) (le-of-suc-le-suc h))
+  outward-ready : (m : ℕ) (cs : List ℕ) (p d : ℕ) (x : Redex) → outward s t on m cs p (ready [] d x) ≡ ready cs d x
+  unfolding outward
+  outward-ready m [] p d x = refl
+  outward-ready m (c ∷ cs) p d x = ap (on (onto cs m) c p) (outward-ready m cs (down s t p c) d x)
+
+  outward-deep : (m : ℕ) (cs : List ℕ) (p : ℕ) → outward s t on m cs p deep ≡ deep
+  unfolding outward
+  outward-deep m [] p = refl
+  outward-deep m (c ∷ cs) p = ap (on (onto cs m) c p) (outward-deep m cs (down s t p c))
 
   -- the transition laws, at the level below the levels cs, where c entries are begun
   module _ (l p : ℕ) (cs : List ℕ) (c : ℕ) (room : length cs < l) where
@@ -98,33 +87,43 @@ module _ (s : System) (t : List ℕ) where
     abbrev entries : List ℕ
     entries = strategyAt s t here
 
-    lower-suc : lower l cs ≡ suc (l - suc (length cs))
-    lower-suc = let z = lower-sub l cs in omega arith
+    abbrev m : ℕ
+    m = l - suc (length cs)
+
+    inward : (xs : List ℕ) → advance s l (cs ++ xs) t p ≡ outward s t on (suc m) cs p (advance s (suc m) xs t here)
+    inward = given-below s t on (λ l cs p. advance s l cs t p) advance-under l p cs room
+
+    same : (xs ys : List ℕ) → advance s (suc m) xs t here ≡ advance s (suc m) ys t here → advance s l (cs ++ xs) t p ≡ advance s l (cs ++ ys) t p
+    same xs ys e = inward xs ∙ ap (outward s t on (suc m) cs p) e ∙ sym (inward ys)
 
     -- a level that is finished
     pub advance-pop : length entries ≤ c → advance s l (cs ++ c ∷ []) t p ≡ advance s l cs t p
-    advance-pop h = under cs l p (c ∷ []) [] (rw lower-suc (top-pop (l - suc (length cs)) c here h ∙ sym (advance-end _ here)))
-        ∙ ap (λ z. advance s l z t p) (append-nil cs)
+    advance-pop h = same (c ∷ []) [] (top-pop m c here h ∙ sym (advance-end (suc m) here)) ∙ ap (λ z. advance s l z t p) (append-nil cs)
 
     module _ (more : c < length entries) where
+      abbrev es : List ℕ
+      es = drop (suc c) entries
+
       -- an entry that leads to no rewrite
       pub advance-pass : Passes s t (l - suc (length cs)) here (getD entries c 0) → advance s l (cs ++ c ∷ []) t p ≡ advance s l (cs ++ suc c ∷ []) t p
-      advance-pass f =
-          under cs l p (c ∷ []) (suc c ∷ []) (rw lower-suc (top-pass (l - suc (length cs)) c here (drop (suc c) entries) (getD entries c 0) (entry-at entries c (getD entries c 0) more refl) f))
+      advance-pass f = same (c ∷ []) (suc c ∷ []) (top-pass m c here es (getD entries c 0) (entry-at entries c (getD entries c 0) more refl) f)
 
       -- an entry 0 where a rule matches
       pub advance-fire : (x : Redex) → getD entries c 0 ≡ 0 → redex s (drop here t) ≡ some x → advance s l (cs ++ c ∷ []) t p ≡ ready cs (suc c) x
       advance-fire x e f =
-          under-ready cs l p (c ∷ []) (suc c) x room (rw lower-suc (top-fire (l - suc (length cs)) c here (drop (suc c) entries) x (entry-at entries c 0 more e) f))
+          inward (c ∷ []) ∙ ap (outward s t on (suc m) cs p) (top-fire m c here es x (entry-at entries c 0 more e) f) ∙ outward-ready (suc m) cs p (suc c) x
 
       module _ (i : ℕ) (e : getD entries c 0 ≡ suc i) where
-        opening : advance s l (cs ++ c ∷ []) t p ≡ advance s l (cs ++ suc c ∷ 0 ∷ []) t p
-        opening = under cs l p (c ∷ []) (suc c ∷ 0 ∷ []) (rw lower-suc (top-open (l - suc (length cs)) c here (drop (suc c) entries) i (entry-at entries c (suc i) more e)))
+        opening : advance s (suc m) (c ∷ []) t here ≡ advance s (suc m) (suc c ∷ 0 ∷ []) t here
+        opening = top-open m c here es i (entry-at entries c (suc i) more e)
 
         -- an entry that opens an argument
         pub advance-open : advance s l (cs ++ c ∷ []) t p ≡ advance s l (cs ++ suc c ∷ [] ++ 0 ∷ []) t p
-        advance-open = opening ∙ ap (λ z. advance s l z t p) (sym (append-snoc cs (suc c) (0 ∷ [])))
+        advance-open = same (c ∷ []) (suc c ∷ 0 ∷ []) opening ∙ ap (λ z. advance s l z t p) (sym (append-snoc cs (suc c) (0 ∷ [])))
 
         -- an argument that would be opened too deep
         pub advance-too-deep : suc (length cs) ≡ l → advance s l (cs ++ c ∷ []) t p ≡ deep
-        advance-too-deep h = opening ∙ too-deep l (cs ++ suc c ∷ 0 ∷ []) p (rw (length-append cs (suc c ∷ 0 ∷ [])) (omega arith))
+        advance-too-deep h =
+            let none : m ≡ 0 = omega arith in
+            let top : advance s (suc m) (suc c ∷ 0 ∷ []) t here ≡ deep = rw none (top-deep (suc c) 0 here) in
+            inward (c ∷ []) ∙ ap (outward s t on (suc m) cs p) (opening ∙ top) ∙ outward-deep (suc m) cs p

@@ -8,7 +8,8 @@ use lib.ListN.{getD, drop}
 use Rattle.system.specs.Signature.{argument}
 use Rattle.system.specs.System.{System, strategy}
 use Rattle.matching.specs.Matching.{Redex, redex}
-use Rattle.evaluation.specs.Evaluation.{Run, Outcome, settled, stopped, after, follow, atRoot, evaluate, spent, nested}
+use Rattle.evaluation.specs.Evaluation.{Run, Outcome, settled, stopped, after, follow, atRoot, evaluate}
+use Rattle.system.specs.Numbers.{spent, nested}
 use Rattle.evaluation.proofs.Walks.{never, after-settled, rewrite-settled, rewrite-same, follow-end, follow-pass, follow-fire, follow-open}
 
 module _ (s : System) (limit : ℕ) where

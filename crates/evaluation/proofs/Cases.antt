@@ -6,7 +6,7 @@ use Rattle.system.specs.System.{strategy, instance}
 use Rattle.system.specs.Reader.{read, readSystem, readRules, readEnd, readRule, readSide, readWords, readStrategy, number, word, learn, sideFault, variableFault, outside, each, times}
 use Rattle.system.specs.TermCheck.{termFault}
 use Rattle.system.specs.Answers.{termAnswer}
-use Rattle.matching.specs.Accepted.{systemOf}
+use Rattle.system.specs.Book.{systemOf}
 use Rattle.matching.specs.Safety.{passes, every, closes, idles, idleTest, isVariable, constructs}
 use Rattle.matching.specs.Cases.{failing, testing, strategyCases}
 use Rattle.matching.specs.Matching.{bind, firstMatch, redex}

@@ -5,18 +5,18 @@ use mathlib.Core.Path.{_≡_, refl, sym, ap, subst}
 use mathlib.Core.Option.{Option, none, some}
 use mathlib.Core.List.{List}
 use Rattle.system.specs.declared.Answer.{Answer}
-use Rattle.system.specs.Fault.{Fault, missing, range, entry, unknown, unbalanced, variableHead, unbound, trailing, numberOf}
+use Rattle.system.specs.Numbers.{Fault, missing, range, entry, unknown, unbalanced, variableHead, unbound, trailing, faultNumber}
 use Rattle.system.specs.System.{System}
 use Rattle.system.specs.Reader.{Parsed, ok, fault, read}
 use Rattle.system.specs.TermCheck.{termFault}
 use Rattle.system.specs.Answers.{answerOf, wholeAnswer, termAnswer}
-use Rattle.matching.specs.Accepted.{systemOf}
+use Rattle.system.specs.Book.{systemOf}
 use Rattle.evaluation.specs.Evaluation.{Outcome, settled, stopped, evaluation}
 use Rattle.evaluation.specs.Expansion.{ended, expansion}
 use Rattle.evaluation.specs.Demand1.{Refused, untouched, cleared}
 use Rattle.evaluation.proofs.Expanding.{Course, narrow, wrong, runs, course}
 
-fault-table : (f : Fault) → (1 ≤ numberOf f) × (numberOf f ≤ 8)
+fault-table : (f : Fault) → (1 ≤ faultNumber f) × (faultNumber f ≤ 8)
 fault-table missing = (omega arith, omega arith)
 fault-table range = (omega arith, omega arith)
 fault-table entry = (omega arith, omega arith)

@@ -11,9 +11,10 @@ use Rattle.system.specs.Terms.{Whole}
 use Rattle.system.specs.Reader.{ok, read}
 use Rattle.system.specs.Answers.{termAnswer}
 use Rattle.system.proofs.TermChecks.{whole-fault}
-use Rattle.matching.specs.Accepted.{systemOf}
+use Rattle.system.specs.Book.{systemOf}
 use Rattle.matching.specs.Safety.{Safe, Tested, passed, failed, TestedBook}
-use Rattle.evaluation.specs.Evaluation.{Run, Outcome, settled, stopped, evaluation, Limit, spent, overlong, nested, limitNumber}
+use Rattle.evaluation.specs.Evaluation.{Run, Outcome, settled, stopped, evaluation}
+use Rattle.system.specs.Numbers.{Limit, spent, overlong, nested, limitNumber}
 use Rattle.evaluation.specs.Outcomes.{Done}
 use Rattle.evaluation.specs.Expansion.{Expansion, result, ended, expansion, handedBack, secondly}
 use Rattle.evaluation.specs.Demand3.{IsDone, IsHandedBack, Rests, Found, IsFound, RestsAgain}

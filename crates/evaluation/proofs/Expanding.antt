@@ -17,10 +17,11 @@ use Rattle.system.specs.Answers.{shapeOf, termAnswer}
 use Rattle.system.proofs.Accepts.{read-sound}
 use Rattle.system.proofs.Answering.{checked}
 use Rattle.system.proofs.TermChecks.{fault-whole}
-use Rattle.matching.specs.Accepted.{systemOf, Accepted}
+use Rattle.system.specs.Book.{systemOf}
+use Rattle.system.specs.layout.Accepted.{Accepted}
 use Rattle.evaluation.specs.declared.run.Ended.{Ended}
 use Rattle.evaluation.specs.Evaluation.{Run, Outcome, settled, stopped, evaluation}
-use Rattle.evaluation.specs.machine.Ended.{Ends}
+use Rattle.evaluation.specs.run.Ended.{Ends}
 use Rattle.evaluation.specs.Expansion.{result, ended, expansion}
 use Rattle.evaluation.proofs.Done.{theorem-done, steps-last}
 

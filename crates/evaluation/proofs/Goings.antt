@@ -1,4 +1,4 @@
--- The machine's states: which positions are open, and how each turn leads from one state to the next.
+-- The machine's states: which positions are open, and how each transition leads from one state to the next.
 use Prim.Native.Nat.{ℕ, suc, _≤_, _<_}
 use native.Mathlib.Omega.{arith}
 use mathlib.Core.Path.{_≡_, refl, sym, ap, _∙_, subst}
@@ -12,7 +12,7 @@ use Rattle.matching.specs.Matching.{Redex, redex}
 use Rattle.evaluation.specs.Rewriting.{Active, root, below}
 use Rattle.evaluation.specs.machine.Machine.{strategyAt, down, position, Opened, base, level}
 use Rattle.evaluation.specs.machine.Area.{Going}
-use Rattle.system.proofs.Forests.{stands-getD}
+use Rattle.system.proofs.Members.{stands-getD}
 use Rattle.system.proofs.Places.{patch, at-replace}
 use Rattle.matching.proofs.Firsts.{redex-at, fired}
 use Rattle.evaluation.proofs.Actives.{At, active-whole}

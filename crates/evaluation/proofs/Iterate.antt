@@ -1,20 +1,21 @@
--- An evaluation is advancing to the next rewrite and rewriting, in turn.
-use Prim.Native.Nat.{ℕ, zero, suc, _+_, _≤_, _<_}
+-- Where the machine comes to tells what is left to do: the induction on which its theorem (MachineTheorem.antt) rests.
+use Prim.Native.Nat.{ℕ, zero, suc, _+_, _<_}
 use native.Mathlib.Omega.{arith}
 use native.Mathlib.Decide.{decLt}
 use mathlib.Core.Path.{_≡_, refl, sym, ap, _∙_, subst}
 use mathlib.Core.Option.{Option, none, some}
 use mathlib.Core.List.{List, [], _∷_, _++_}
 use lib.ListN.{length, drop, drop-of-length-le}
-use Rattle.system.specs.Signature.{argument, replace}
+use Rattle.system.specs.Signature.{argument}
 use Rattle.system.specs.System.{System}
 use Rattle.system.specs.Terms.{WellFormed}
 use Rattle.matching.specs.Matching.{Redex, redex}
-use Rattle.evaluation.specs.Evaluation.{Run, settled, stopped, after, rewrite, evaluation, nested}
+use Rattle.evaluation.specs.Evaluation.{Run, settled, stopped, after, rewrite, evaluation}
+use Rattle.system.specs.Numbers.{nested}
 use Rattle.evaluation.specs.machine.Machine.{strategyAt, down, position, resume, Next, finished, deep, ready, around, scan, enter, advance}
 use Rattle.matching.proofs.Firsts.{redex-empty}
-use Rattle.evaluation.proofs.Walks.{rewrite-same, follow-end}
-use Rattle.evaluation.proofs.Laws.{next-entry, position-le, rest, resume-top, resume-under, resume-end, resume-deep, resume-evaluation, top-pass, top-open, top-fire, level-rewrite}
+use Rattle.evaluation.proofs.Walks.{follow-end}
+use Rattle.evaluation.proofs.Laws.{next-entry, position-le, rest, resume-top, resume-under, resume-end, resume-deep, top-pass, top-open, top-fire, level-rewrite}
 
 module _ (s : System) where
   -- a rule that matches somewhere matches within the term

@@ -1,19 +1,19 @@
 -- The transition laws of the machine: each keeps `resume` the same.
 use Prim.Native.Nat.{ℕ, zero, suc, _-_, _≤_, _<_}
-use native.Mathlib.Nat.{le-of-suc-le-suc, not-suc-le-zero}
 use native.Mathlib.Omega.{arith}
 use mathlib.Core.Path.{_≡_, refl, sym, ap, _∙_}
 use mathlib.Core.Option.{none, some}
-use mathlib.Core.List.{List, [], _∷_, _++_, append-nil}
-use lib.ListN.{length, getD, drop, drop-of-length-le}
+use mathlib.Core.List.{List, [], _∷_, _++_}
+use lib.ListN.{length, getD, drop}
 use lib.Seq.{drop-cons}
 use Rattle.system.specs.Signature.{argument, replace}
 use Rattle.system.specs.System.{System, strategy}
 use Rattle.matching.specs.Matching.{Redex, redex}
-use Rattle.evaluation.specs.Evaluation.{Run, Outcome, settled, stopped, after, rewrite, follow, evaluate, evaluation, nested}
-use Rattle.evaluation.specs.machine.Machine.{others, last, strategyAt, down, position, lower, resume}
+use Rattle.evaluation.specs.Evaluation.{Run, Outcome, settled, stopped, after, rewrite, follow, evaluate, evaluation}
+use Rattle.system.specs.Numbers.{nested}
+use Rattle.evaluation.specs.machine.Machine.{others, last, strategyAt, down, position, resume}
 use Rattle.system.proofs.Places.{replace-word, replace-argument}
-use Rattle.evaluation.proofs.Walks.{rewrite-same, after-rewrite, follow-end, follow-pass, follow-fire, follow-open}
+use Rattle.evaluation.proofs.Walks.{rewrite-same, after-rewrite, follow-pass, follow-fire, follow-open}
 use Rattle.evaluation.proofs.Again.{evaluate-again}
 
 -- the next entry, where c are begun
@@ -26,12 +26,6 @@ next-entry (x ∷ es) (suc c) e es′ q = next-entry es c e es′ q
 -- the same, by the entry's index
 pub entry-at : (es : List ℕ) (c e : ℕ) → c < length es → getD es c 0 ≡ e → drop c es ≡ e ∷ drop (suc c) es
 entry-at es c e h q = drop-cons es c 0 h ∙ ap (λ z. z ∷ drop (suc c) es) q
-
-pub lower-sub : (l : ℕ) (cs : List ℕ) → lower l cs ≡ l - length cs
-unfolding lower
-lower-sub l [] = omega arith
-lower-sub zero (c ∷ cs) = omega arith
-lower-sub (suc l) (c ∷ cs) = let z = lower-sub l cs in omega arith
 
 module _ (s : System) where
   pub down-lt : (t : List ℕ) (p c : ℕ) → p < down s t p c

@@ -8,26 +8,21 @@ pub mod Found
 pub mod Again
 pub mod Laws
 pub mod Iterate
-pub mod Repeats
+pub mod MachineTheorem
 pub mod Passing
 pub mod Goings
-pub mod Turns
+pub mod Levels
+pub mod Measure
 pub mod Advances
 -- The machine in an area of words: what the code's loops cite
-pub mod Strategies
-pub mod Marking
 pub mod Areas
-pub mod TurnSteps
-pub mod AdvanceSteps
--- A rewrite in an area of words
-pub mod Stretching
-pub mod Written
-pub mod Replacing
-pub mod Rewrites
--- A run, and the evaluator
-pub mod Starts
-pub mod Cleared
-pub mod Runs
+pub mod Bounds
+pub mod Transitions
+pub mod Performing
+pub mod Trying
+pub mod Advancing
+pub mod Arriving
+-- The evaluator (a rewrite and a run in an area of words: reducts.antt and run.antt)
 pub mod Expanding
 -- Demand 3 of the evaluator's answers, and the starred cases
 pub mod Demand1

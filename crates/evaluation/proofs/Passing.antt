@@ -1,4 +1,4 @@
--- Entries that lead to no rewrite. In a run of turns the term stays as it is, so an entry that led to none leads to none when it comes
+-- Entries that lead to no rewrite. In a run of transitions the term stays as it is, so an entry that led to none leads to none when it comes
 -- again; the machine passes over it.
 use Prim.Native.Nat.{ℕ, zero, suc, _-_, _≤_, _<_}
 use native.Mathlib.Omega.{arith}
@@ -16,10 +16,11 @@ use Rattle.system.specs.System.{System}
 use Rattle.system.specs.Terms.{Stands, first, later}
 use Rattle.matching.specs.Matching.{redex}
 use Rattle.evaluation.specs.machine.Machine.{strategyAt, down, position, Opened, level, finished, around, scan, enter}
-use Rattle.evaluation.specs.machine.Turn.{between, among, sinceAt}
+use Rattle.system.specs.layout.Entries.{between, among}
+use Rattle.evaluation.specs.machine.Transition.{sinceAt}
 use Rattle.evaluation.proofs.Laws.{position-snoc}
 use Rattle.evaluation.proofs.Iterate.{scan-pass}
-use Rattle.evaluation.proofs.Repeats.{among-stands, between-none, between-more, between-all}
+use Rattle.system.proofs.layout.entries.Repeats.{among-stands, between-none, between-more, between-all}
 
 module _ (s : System) (t : List ℕ) where
   -- at p, with l levels left below
@@ -48,7 +49,7 @@ module _ (s : System) (t : List ℕ) where
   abbrev pub Known : List ℕ → ℕ → ℕ → Type 0
   Known outer f c = AllPass (63 - length outer) (position s t outer 0) (between (strategyAt s t (position s t outer 0)) f c)
 
-  -- what is known in a run of turns: of each level from `floor` on, that those of its entries that were ended in this run of turns pass
+  -- what is known in a run of transitions: of each level from `floor` on, that those of its entries that were ended in this run of transitions pass
   pub record Passed (outer : List ℕ) (c floor since : ℕ) : Type 0 where
     pub floored : floor ≤ length outer
     pub around : (k : ℕ) → floor ≤ k → k < length outer → Known (take k outer) (sinceAt floor since k) (getD outer k 0 - 1)
@@ -108,7 +109,7 @@ module _ (s : System) (t : List ℕ) where
   opened-last [] c (level {p} {c = b} {i} h e o) = (b, i, refl, h, e)
   opened-last (d ∷ cs) c (level h e o) = opened-last cs c o
 
-  -- a level is left that was opened in this run of turns: the entry that opened it passes
+  -- a level is left that was opened in this run of transitions: the entry that opened it passes
   module _ (ds : List ℕ) (d c floor since : ℕ) (v : Passed (ds ++ d ∷ []) c floor since) (o : Opened s t 0 (ds ++ d ∷ [])) where
     depth : length (ds ++ d ∷ []) ≡ suc (length ds)
     depth = let z = length-append ds (d ∷ []) in omega arith

@@ -13,7 +13,8 @@ use Rattle.system.specs.Signature.{Signature, Symbol, arity, argument}
 use Rattle.system.specs.System.{System, strategy, head}
 use Rattle.system.specs.Terms.{Whole, Stands, first, later, WellFormed}
 use Rattle.matching.specs.Matching.{redex}
-use Rattle.evaluation.specs.Evaluation.{Run, Outcome, settled, stopped, after, follow, atRoot, evaluate, spent}
+use Rattle.evaluation.specs.Evaluation.{Run, Outcome, settled, stopped, after, follow, atRoot, evaluate}
+use Rattle.system.specs.Numbers.{spent}
 use Rattle.system.proofs.Forests.{focus-here, Node, node-whole, as-node}
 use Rattle.system.proofs.Places.{at-word, at-argument}
 use Rattle.matching.proofs.Firsts.{redex-at}

@@ -11,7 +11,8 @@ use Rattle.system.specs.Signature.{Signature, Symbol, arity, argument, replace}
 use Rattle.system.specs.System.{System, strategy, head}
 use Rattle.system.specs.Terms.{Whole, Stands, first, later, WellFormed}
 use Rattle.matching.specs.Matching.{Redex, redex}
-use Rattle.evaluation.specs.Evaluation.{Run, Outcome, settled, stopped, after, rewrite, follow, atRoot, evaluate, Limit, spent, overlong, nested}
+use Rattle.evaluation.specs.Evaluation.{Run, Outcome, settled, stopped, after, rewrite, follow, atRoot, evaluate}
+use Rattle.system.specs.Numbers.{Limit, spent, overlong, nested}
 use Rattle.system.proofs.Forests.{Node, node-whole, node-set, as-node, focus, focus-here}
 use Rattle.system.proofs.Places.{at-word, at-argument, at-replace}
 use Rattle.matching.proofs.Firsts.{redex-at, fired}

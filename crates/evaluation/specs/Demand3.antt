@@ -5,11 +5,11 @@ use mathlib.Core.List.{List}
 use lib.ListN.{length}
 use Rattle.system.specs.declared.Answer.{Answer}
 use Rattle.system.specs.Answers.{termAnswer}
-use Rattle.matching.specs.Accepted.{systemOf}
+use Rattle.system.specs.Book.{systemOf}
 use Rattle.evaluation.specs.Evaluation.{Run, settled, evaluation}
 use Rattle.evaluation.specs.Outcomes.{Done, Stable}
 use Rattle.evaluation.specs.Expansion.{Expansion, expansion, handedBack}
-use Rattle.evaluation.specs.Limits.{areaWords, termWords}
+use Rattle.system.specs.Limits.{areaWords, termWords}
 
 -- "a cue is handed back if the expander answers 0": then that many words are there, and they are done
 abbrev pub IsDone : List ℕ → List ℕ → ℕ → Expansion → Type 0

@@ -5,30 +5,16 @@ use mathlib.Core.Bool.{true, false}
 use mathlib.Core.Option.{none, some}
 use lib.ListN.{length, getD, drop}
 use lib.Dec.{leb, ltb}
+pub use Rattle.system.specs.Numbers.{Limit, spent, overlong, nested, limitNumber}
 use Rattle.system.specs.Signature.{argument, replace}
 use Rattle.system.specs.System.{System, strategy}
 use Rattle.matching.specs.Matching.{Redex, redex}
-use Rattle.evaluation.specs.Limits.{levels, termWords}
+use Rattle.system.specs.Limits.{levels, termWords}
 
 -- the whole term as it stands, and the steps taken so far
 pub record Run : Type 0 where
   pub term : List ℕ
   pub steps : ℕ
-
--- the limits that stop an evaluation
-pub data Limit : Type 0 where
-  -- "one more step would pass the allowance" (the step limit)
-  spent : Limit
-  -- "the step would leave the whole cue above 4,096 words"
-  overlong : Limit
-  -- "an argument would be opened from level 64"
-  nested : Limit
-
--- their numbers in 01's table
-abbrev pub limitNumber : Limit → ℕ
-limitNumber spent = 11
-limitNumber overlong = 12
-limitNumber nested = 13
 
 -- how an evaluation ends: settled, or stopped by a limit, with "the steps completed"
 pub data Outcome : Type 0 where

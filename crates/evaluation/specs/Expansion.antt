@@ -6,10 +6,11 @@ use lib.ListN.{length, take}
 use lib.Dec.{leb}
 use Rattle.buffers.specs.Words.{over, zeros}
 use Rattle.system.specs.declared.Answer.{Answer}
+use Rattle.system.specs.Numbers.{taken, cramped, numberOf, limitNumber}
 use Rattle.system.specs.Answers.{termAnswer}
-use Rattle.matching.specs.Accepted.{systemOf}
-use Rattle.evaluation.specs.Evaluation.{Outcome, settled, stopped, limitNumber, evaluation}
-use Rattle.evaluation.specs.Limits.{areaWords, termWords}
+use Rattle.system.specs.Book.{systemOf}
+use Rattle.evaluation.specs.Evaluation.{Outcome, settled, stopped, evaluation}
+use Rattle.system.specs.Limits.{areaWords, termWords}
 
 -- the three numbers, the answer buffer and the work buffer
 pub record Expansion : Type 0 where
@@ -25,14 +26,14 @@ result r out work = record { numbers = r; answer = out; work = work }
 -- "On 11 to 13 and on 0 the first 8,192 words of the expander's work buffer are zero and the rest unchanged"
 abbrev pub ended : List ℕ → List ℕ → Outcome → Expansion
 ended out work (settled r) =
-    result (record { number = 0; place = length (r .term); steps = r .steps }) (over out 0 (r .term)) (over work 0 (zeros areaWords))
+    result (record { number = numberOf taken; place = length (r .term); steps = r .steps }) (over out 0 (r .term)) (over work 0 (zeros areaWords))
 ended out work (stopped n k) = result (record { number = limitNumber n; place = 0; steps = k }) out (over work 0 (zeros areaWords))
 
 -- "The expander checks 10, then the book, then the cue"; "every other number touches no buffer"
 unfoldable pub expansion : List ℕ → List ℕ → ℕ → List ℕ → List ℕ → Expansion
 expansion book term limit out work =
     elim (leb termWords (length out) && leb areaWords (length work)) [
-      | false ↦ result (record { number = 10; place = 0; steps = 0 }) out work
+      | false ↦ result (record { number = numberOf cramped; place = 0; steps = 0 }) out work
       | true ↦ elim (termAnswer book term .number) [
         | zero ↦ ended out work (evaluation (systemOf book) limit term)
         | suc _ ↦ result (termAnswer book term) out work

@@ -8,7 +8,7 @@ use Rattle.system.specs.Terms.{Whole}
 use Rattle.matching.specs.Matching.{Matches}
 use Rattle.evaluation.specs.Evaluation.{settled, evaluation}
 use Rattle.evaluation.specs.Rewriting.{Active, Steps}
-use Rattle.evaluation.specs.Limits.{termWords}
+use Rattle.system.specs.Limits.{termWords}
 
 -- "Done", whether or not the system is safe. "The reported number is the steps of the expander's answer. That the list of steps leads
 -- from the cue handed in to the cue handed back is one claim about the whole list": n steps lead from t₀ to t, which is whole; with none

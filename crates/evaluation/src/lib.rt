@@ -6,17 +6,14 @@ ghost use Rattle.buffers.specs.Words.{over, zeros, pad};
 ghost use Rattle.evaluation.specs.Expansion.{result, expansion};
 
 pub mod demands;
-mod entries;
-mod index;
-mod limits;
 mod machine;
 mod reducts;
 mod run;
 
-use crate::limits::AREA_WORDS;
-use crate::limits::TERM_WORDS;
 use crate::run::Ended;
 use system::Answer;
+use system::limits::AREA_WORDS;
+use system::limits::TERM_WORDS;
 
 // Expands a term (01: a cue) over a book, with at most `limit` steps (01: the allowance).
 //

@@ -1,21 +1,28 @@
 // The machine in an area of lent words: from a state to just before its next rewrite, without recursion.
 ghost use mathlib.Core.Path.{_≡_};
-ghost use mathlib.Core.List.{[], _∷_, _++_};
-ghost use Rattle.matching.specs.Accepted.{systemOf, Accepted};
-ghost use Rattle.evaluation.specs.machine.Machine.{advance};
-ghost use Rattle.evaluation.specs.machine.Area.{Holds, termIn, outerIn, countIn};
-ghost use Rattle.evaluation.specs.machine.Turn.{turn, Taken, sinceAt};
-ghost use Rattle.evaluation.specs.machine.Arrival.{Arrived};
-ghost use Rattle.evaluation.specs.machine.Marks.{Marked};
-use crate::entries::Entry;
-use crate::entries::entry_of;
-use crate::limits::TERM_WORDS;
+ghost use Rattle.system.specs.Book.{systemOf};
+ghost use Rattle.system.specs.layout.Accepted.{Accepted};
+ghost use Rattle.evaluation.specs.declared.machine.Stop.the-variants.{Ready};
+ghost use Rattle.evaluation.specs.machine.Area.{Holds};
+ghost use Rattle.evaluation.specs.machine.Transition.{sinceAt, Performed};
+ghost use Rattle.evaluation.specs.machine.Arrival.{Advances};
+ghost use Rattle.system.specs.layout.Index.{Marked};
+use system::layout::entries::Entry;
+use system::layout::entries::entry_of;
+use system::limits::TERM_WORDS;
 use matching::Found;
 use matching::Match;
+use matching::rules::Fit;
 use matching::rules::first_rule;
 use system::Shape;
 use system::words::spans;
 use system::words::wide;
+
+// The state that an area holds, but for its words: how many words the term has, and how many levels stand around the innermost one.
+pub struct State {
+    pub n: usize,
+    pub level: usize,
+}
 
 // Where the machine came to: its end, an argument that would be opened from level 64, or a rewrite.
 pub enum Stop {
@@ -33,30 +40,54 @@ pub struct Advanced {
     pub width: usize,
 }
 
-// A turn: an entry that stood before was passed over, the rules are to be tried at the innermost level, an argument was opened, a level was
-// left; or it would be too deep.
-enum Turn {
-    Passed,
-    Tried,
-    Opened,
-    Left,
+// What a transition came upon: the end of the innermost level's strategy, and the level was left; an entry that is repeated; entry 0: the
+// rules are to be tried; an argument, which was opened; or an argument that would be too deep.
+enum Event {
+    End,
+    Repeated,
+    Rules,
+    Argument,
     TooDeep,
 }
 
+// The innermost level of a state, and how many of its entries were begun before the present run of transitions.
+struct Innermost {
+    n: usize,
+    level: usize,
+    since: usize,
+}
+
+fn at_level(n: usize, level: usize, floor: usize, since: usize) -> Innermost
+    ensures { λ r. ⌜ r ≡ record { n = n; level = level; since = sinceAt floor since level } ⌝ }
+{
+    let mut before = since;
+    if floor < level {
+        before = 0;
+    }
+    Innermost {
+        n,
+        level,
+        since: before,
+    }
+}
+
 // Takes the next entry of the innermost level's strategy, and counts it as begun. Nothing is changed where it would be too deep.
-fn take_turn(
+fn take_transition(
     book: &[u16],
     shape: Shape,
     marks: &[usize],
     area: &mut [u16],
     positions: &mut [usize],
-    n: usize,
-    level: usize,
-    since: usize,
-) -> Turn
-    requires { ⌜ Accepted (now book) shape × Marked (now book) shape (now marks) × Holds (systemOf (now book)) (now area) (now positions) n level ⌝ }
-    ensures { λ r. ⌜ Taken (systemOf (now (book .entry))) (termIn (now (area .entry)) n) n (now (area .entry)) (now (positions .entry)) (turn (systemOf (now (book .entry))) (termIn (now (area .entry)) n) (outerIn (now (area .entry)) level) since (countIn (now (area .entry)) level)) r (now (area .exit)) (now (positions .exit)) ⌝ }
+    at: Innermost,
+) -> Event
+    requires { ⌜ Accepted (now book) shape × Marked (now book) shape (now marks)
+        × Holds (systemOf (now book)) (now area) (now positions) (at .n) (at .level) ⌝ }
+    ensures { λ r. ⌜ Performed (systemOf (now (book .entry))) at (now (area .entry)) (now (positions .entry)) r
+        (now (area .exit)) (now (positions .exit)) ⌝ }
 {
+    let n = at.n;
+    let level = at.level;
+    let since = at.since;
     let p = positions[level];
     let c = area[TERM_WORDS + level];
     let begun = c + 1;
@@ -64,42 +95,32 @@ fn take_turn(
     match e {
         Entry::End => {
             area[TERM_WORDS + level] = 0;
-            return Turn::Left;
+            return Event::End;
         }
         Entry::Again => {
             area[TERM_WORDS + level] = begun;
-            return Turn::Passed;
+            return Event::Repeated;
         }
         Entry::Rules => {
             area[TERM_WORDS + level] = begun;
-            return Turn::Tried;
+            return Event::Rules;
         }
         Entry::Argument(i) => {
             if 63 <= level {
-                return Turn::TooDeep;
+                return Event::TooDeep;
             }
             let a = p + 1;
             let q = a + spans(book, &area[a..n], i);
             area[TERM_WORDS + level] = begun;
             positions[level + 1] = q;
-            return Turn::Opened;
+            return Event::Argument;
         }
     }
 }
 
-// How many entries of a level were begun before the present run of turns.
-fn begun_before(floor: usize, since: usize, level: usize) -> usize
-    ensures { λ r. ⌜ r ≡ sinceAt floor since level ⌝ }
-{
-    if floor < level {
-        return 0;
-    }
-    since
-}
-
 // Goes on without rewriting: to the end, to just before the next rewrite, or to where an argument would be opened from level 64.
 //
-// The term stays as it is, so an entry that was followed once in this run of turns is passed over when it comes again: `floor` is the
+// The term stays as it is, so an entry that was followed once in this run of transitions is passed over when it is repeated: `floor` is the
 // innermost level that was open before and has not been left, and `since` how many of its entries were begun before.
 pub fn advance(
     book: &[u16],
@@ -107,21 +128,22 @@ pub fn advance(
     marks: &[usize],
     area: &mut [u16],
     positions: &mut [usize],
-    n: usize,
-    start: usize,
+    state: State,
 ) -> Advanced
-    requires { ⌜ Accepted (now book) shape × Marked (now book) shape (now marks) × Holds (systemOf (now book)) (now area) (now positions) n start ⌝ }
-    ensures { λ r. ⌜ Arrived (systemOf (now (book .entry))) (termIn (now (area .entry)) n) n (advance (systemOf (now (book .entry))) 64 (outerIn (now (area .entry)) start ++ countIn (now (area .entry)) start ∷ []) (termIn (now (area .entry)) n) 0) r (now (area .exit)) (now (positions .exit)) ⌝ }
+    requires { ⌜ Accepted (now book) shape × Marked (now book) shape (now marks)
+        × Holds (systemOf (now book)) (now area) (now positions) (state .n) (state .level) ⌝ }
+    ensures { λ r. ⌜ Advances (systemOf (now (book .entry))) state (now (area .entry)) r (now (area .exit)) (now (positions .exit)) ⌝ }
 {
-    let mut level = start;
-    let mut floor = start;
-    let mut since = wide(area[TERM_WORDS + start]);
+    let n = state.n;
+    let mut level = state.level;
+    let mut floor = level;
+    let mut since = wide(area[TERM_WORDS + level]);
     loop {
-        let before = begun_before(floor, since, level);
-        let t = take_turn(book, shape, marks, area, positions, n, level, before);
-        match t {
-            Turn::Passed => {}
-            Turn::Tried => {
+        let at = at_level(n, level, floor, since);
+        let event = take_transition(book, shape, marks, area, positions, at);
+        match event {
+            Event::Repeated => {}
+            Event::Rules => {
                 let p = positions[level];
                 let fit = first_rule(book, shape, &area[p..n]);
                 let m = fit.found;
@@ -129,19 +151,14 @@ pub fn advance(
                 match found {
                     Found::Nothing => {}
                     _ => {
-                        return Advanced {
-                            stop: Stop::Ready,
-                            level,
-                            found: m,
-                            width: fit.width,
-                        };
+                        return ready(level, fit);
                     }
                 }
             }
-            Turn::Opened => {
+            Event::Argument => {
                 level += 1;
             }
-            Turn::Left => {
+            Event::End => {
                 if level == 0 {
                     return stopped(Stop::Finished, level);
                 }
@@ -151,10 +168,23 @@ pub fn advance(
                     since = wide(area[TERM_WORDS + level]);
                 }
             }
-            Turn::TooDeep => {
+            Event::TooDeep => {
                 return stopped(Stop::Deep, level);
             }
         }
+    }
+}
+
+fn ready(level: usize, fit: Fit) -> Advanced
+    ensures { λ r. ⌜ r ≡ record { stop = Ready; level = level; found = fit .found; width = fit .width } ⌝ }
+{
+    let found = fit.found;
+    let width = fit.width;
+    Advanced {
+        stop: Stop::Ready,
+        level,
+        found,
+        width,
     }
 }
 

@@ -1,25 +1,41 @@
 // One rewrite in an area of lent words.
 ghost use mathlib.Core.Path.{_≡_};
-ghost use mathlib.Core.Option.{some};
 ghost use Prim.Native.Nat.{_+_, _-_, _≤_};
 ghost use lib.ListN.{length, drop};
 ghost use Rattle.buffers.specs.Words.{part, over, zeros};
-ghost use Rattle.system.specs.Signature.{span};
-ghost use Rattle.matching.specs.Accepted.{systemOf, Accepted};
-ghost use Rattle.matching.specs.Matching.{Redex, redex};
-ghost use Rattle.matching.specs.Stretches.{matchOf, reductLength, RightSide, Within};
-ghost use Rattle.evaluation.specs.machine.Machine.{position};
-ghost use Rattle.evaluation.specs.machine.Area.{Stored, termIn, outerIn};
-ghost use Rattle.evaluation.specs.machine.Rewritten.{Rewritten, side, filled, Behind, Room, replaced};
-use crate::limits::TERM_WORDS;
+ghost use Rattle.evaluation.specs.reducts.Reduct.{Writable, reduct};
+ghost use Rattle.evaluation.specs.reducts.Replaced.{Replaceable, Replaced};
+ghost use Rattle.evaluation.specs.reducts.Rewritten.{Reducible, Rewrites};
+use system::limits::TERM_WORDS;
+use system::limits::VARIABLE;
 use buffers::clear;
 use buffers::move_words;
 use matching::Found;
 use matching::Match;
-use matching::rules::VARIABLE;
 use matching::rules::reduct_length;
-use system::Shape;
 use system::words::wide;
+
+// The subterm of the innermost level: how many levels stand around it, its position in the term, and how many words it has.
+pub struct Subterm {
+    pub level: usize,
+    pub position: usize,
+    pub width: usize,
+}
+
+// What comes in the place of a redex: the right side of the rule that matches, as an index of the book and a number of words, and the
+// bindings of its variables, as stretches of the redex.
+struct Contraction {
+    rhs: usize,
+    size: usize,
+    starts: [usize; 16],
+    lengths: [usize; 16],
+}
+
+// What a rewrite came to: it is done, and the term has so many words now; or the term would have more than 4,096.
+pub enum Reduced {
+    Done(usize),
+    TooLong,
+}
 
 // Moves n words; where they stay where they are, nothing is done.
 fn move_tail(area: &mut [u16], from: usize, to: usize, n: usize)
@@ -41,20 +57,15 @@ fn clear_between(area: &mut [u16], a: usize, b: usize)
     }
 }
 
-// Writes the instance of a right side over the area from `at` on, each variable filled with its stretch of the words from `base` on.
-fn write_reduct(
-    book: &[u16],
-    rhs: usize,
-    size: usize,
-    starts: [usize; 16],
-    lengths: [usize; 16],
-    area: &mut [u16],
-    at: usize,
-    base: usize,
-)
-    requires { ⌜ RightSide (now book) rhs size × Within (drop base (now area)) starts lengths × (base ≤ length (now area)) × (at + reductLength lengths (side (now book) rhs size) ≤ base) ⌝ }
-    ensures { λ _. ⌜ now (area .exit) ≡ over (now (area .entry)) at (filled (drop base (now (area .entry))) starts lengths (side (now (book .entry)) rhs size)) ⌝ }
+// Writes the reduct of c over the area from `at` on, each variable filled with its stretch of the words from `base` on.
+fn write_reduct(book: &[u16], area: &mut [u16], c: Contraction, at: usize, base: usize)
+    requires { ⌜ Writable (now book) (now area) c at base ⌝ }
+    ensures { λ _. ⌜ now (area .exit) ≡ over (now (area .entry)) at (reduct (now (book .entry)) c (drop base (now (area .entry)))) ⌝ }
 {
+    let rhs = c.rhs;
+    let size = c.size;
+    let starts = c.starts;
+    let lengths = c.lengths;
     let mut to = at;
     let mut j = 0;
     while j < size {
@@ -72,59 +83,37 @@ fn write_reduct(
     }
 }
 
-// Puts the instance of a right side, of k words, in the place of the `width` words of the subterm at p.
+// Puts the reduct of c, of k words, in the place of the subterm u of a term of n words.
 //
-// While it is written the subterm's words, but for its first, stand behind the counts; then they are cleared again, and with them the
-// count of the innermost level, which so starts anew.
-fn replace_subterm(
-    book: &[u16],
-    rhs: usize,
-    size: usize,
-    starts: [usize; 16],
-    lengths: [usize; 16],
-    area: &mut [u16],
-    n: usize,
-    level: usize,
-    p: usize,
-    width: usize,
-    k: usize,
-)
-    requires { ⌜ Room (now area) n level p width k × RightSide (now book) rhs size × (k ≡ reductLength lengths (side (now book) rhs size)) ⌝ }
-    requires { ⌜ Within (part p width (now area)) starts lengths × Behind starts lengths ⌝ }
-    ensures { λ _. ⌜ now (area .exit) ≡ replaced (now (area .entry)) n level p width (filled (part p width (now (area .entry))) starts lengths (side (now (book .entry)) rhs size)) ⌝ }
+// While it is written the subterm's words, but for its first, stand behind the counts: at `level` levels around the innermost one the term
+// has at least as many words before the subterm, so there is always room. Then they are cleared again, and with them the count of the
+// innermost level, which so starts anew.
+fn replace_subterm(book: &[u16], area: &mut [u16], n: usize, u: Subterm, c: Contraction, k: usize)
+    requires { ⌜ Replaceable (now book) (now area) n u c k ⌝ }
+    ensures { λ _. ⌜ Replaced (now (book .entry)) (now (area .entry)) n u c (now (area .exit)) ⌝ }
 {
-    let base = TERM_WORDS + level;
+    let p = u.position;
+    let width = u.width;
+    let base = TERM_WORDS + u.level;
     let end = p + width;
     move_words(area, p + 1, base + 1, width - 1);
     move_tail(area, end, p + k, n - end);
-    write_reduct(book, rhs, size, starts, lengths, area, p, base);
+    write_reduct(book, area, c, p, base);
     clear_between(area, n - width + k, n);
     clear(area, base, width);
 }
 
-// Puts the reduct of the match m for the subterm at p, of `width` words, the position of the innermost level, and starts that level anew. It
-// answers how many words the term has then; 0, with the area unchanged, where they would be more than 4,096.
-//
-// While the reduct is written the subterm's words, but for its first, stand behind the counts: at `level` levels around the innermost
-// one the term has at least as many words before the subterm, so there is always room.
-pub fn rewrite(
-    book: &[u16],
-    shape: Shape,
-    area: &mut [u16],
-    n: usize,
-    level: usize,
-    p: usize,
-    m: Match,
-    width: usize,
-) -> usize
-    requires { ⌜ Accepted (now book) shape × Stored (systemOf (now book)) (now area) n level ⌝ }
-    requires { ⌜ (p ≡ position (systemOf (now book)) (termIn (now area) n) (outerIn (now area) level) 0) × (m ≡ matchOf (systemOf (now book)) (drop p (termIn (now area) n))) × (width ≡ span (systemOf (now book) .arities) (drop p (termIn (now area) n)) 1) ⌝ }
-    ensures { λ r. ⌜ ((x : Redex) → redex (systemOf (now (book .entry))) (drop p (termIn (now (area .entry)) n)) ≡ some x → Rewritten (systemOf (now (book .entry))) (now (area .entry)) n level p x r (now (area .exit))) ⌝ }
+// Puts the reduct of the match m in the place of the subterm u of a term of n words, and starts the innermost level anew. The area is
+// unchanged where the term would be too long.
+pub fn rewrite(book: &[u16], area: &mut [u16], n: usize, u: Subterm, m: Match) -> Reduced
+    requires { ⌜ Reducible (now book) (now area) n u m ⌝ }
+    ensures { λ r. ⌜ Rewrites (now (book .entry)) (now (area .entry)) n u r (now (area .exit)) ⌝ }
 {
     let found = m.found;
     match found {
+        // It never is: the caller found a rule.
         Found::Nothing => {
-            return 0;
+            return Reduced::TooLong;
         }
         Found::First {
             number: _,
@@ -134,24 +123,18 @@ pub fn rewrite(
             let starts = m.starts;
             let lengths = m.lengths;
             let k = reduct_length(book, rhs, size, lengths);
-            let after = n - width + k;
+            let after = n - u.width + k;
             if TERM_WORDS < after {
-                return 0;
+                return Reduced::TooLong;
             }
-            replace_subterm(
-                book,
+            let c = Contraction {
                 rhs,
                 size,
                 starts,
                 lengths,
-                area,
-                n,
-                level,
-                p,
-                width,
-                k,
-            );
-            return after;
+            };
+            replace_subterm(book, area, n, u, c, k);
+            return Reduced::Done(after);
         }
     }
 }

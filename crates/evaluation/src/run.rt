@@ -3,16 +3,20 @@ ghost use mathlib.Core.Path.{_≡_};
 ghost use Prim.Native.Nat.{_≤_};
 ghost use lib.ListN.{length};
 ghost use Rattle.buffers.specs.Words.{zeros, pad};
-ghost use Rattle.system.specs.Terms.{Whole};
-ghost use Rattle.matching.specs.Accepted.{systemOf, Accepted};
+ghost use Rattle.system.specs.Book.{systemOf};
 ghost use Rattle.evaluation.specs.Evaluation.{evaluation};
+ghost use Rattle.system.specs.Limits.{areaWords};
 ghost use Rattle.evaluation.specs.machine.Area.{Laid};
-ghost use Rattle.evaluation.specs.machine.Ended.{Ends};
-use crate::index::mark;
-use crate::limits::AREA_WORDS;
-use crate::limits::TERM_WORDS;
+ghost use Rattle.evaluation.specs.run.Ended.{Runnable, Ends};
+use system::layout::index::mark;
+use system::limits::AREA_WORDS;
+use system::limits::LEVELS;
+use system::limits::TERM_WORDS;
+use crate::machine::State;
 use crate::machine::Stop;
 use crate::machine::advance;
+use crate::reducts::Reduced;
+use crate::reducts::Subterm;
 use crate::reducts::rewrite;
 use system::Shape;
 
@@ -35,8 +39,8 @@ fn outcome(number: u32, size: usize, steps: u32) -> Ended
 
 // Writes a term and zeros behind it: one level is open, with no entry begun. Each word of the area is written once.
 fn start(area: &mut [u16], term: &[u16])
-    requires { ⌜ (length (now term) ≤ 8192) × (length (now area) ≡ 8192) ⌝ }
-    ensures { λ _. ⌜ now (area .exit) ≡ pad 8192 (now (term .entry)) ⌝ }
+    requires { ⌜ (length (now term) ≤ areaWords) × (length (now area) ≡ areaWords) ⌝ }
+    ensures { λ _. ⌜ now (area .exit) ≡ pad areaWords (now (term .entry)) ⌝ }
 {
     let n = term.len();
     buffers::copy_in(area, 0, term);
@@ -46,7 +50,7 @@ fn start(area: &mut [u16], term: &[u16])
 // Clears the term's words and the counts; all other words are zero already.
 fn clear_state(area: &mut [u16], n: usize, level: usize)
     requires { ⌜ Laid (now area) n level ⌝ }
-    ensures { λ _. ⌜ now (area .exit) ≡ zeros 8192 ⌝ }
+    ensures { λ _. ⌜ now (area .exit) ≡ zeros areaWords ⌝ }
 {
     buffers::clear(area, 0, n);
     buffers::clear(area, TERM_WORDS, level + 1);
@@ -54,18 +58,19 @@ fn clear_state(area: &mut [u16], n: usize, level: usize)
 
 // Evaluates a term in an area of 8,192 words.
 pub fn run(book: &[u16], shape: Shape, term: &[u16], limit: u32, area: &mut [u16]) -> Ended
-    requires { ⌜ Accepted (now book) shape × Whole (systemOf (now book) .arities) (now term) × (length (now term) ≤ 4096) × (length (now area) ≡ 8192) ⌝ }
+    requires { ⌜ Runnable (now book) shape (now term) (now area) ⌝ }
     ensures { λ r. ⌜ Ends (evaluation (systemOf (now (book .entry))) limit (now (term .entry))) r (now (area .exit)) ⌝ }
 {
     start(area, term);
     let mut marks = [0usize; 64];
     mark(book, shape, &mut marks);
-    let mut positions = [0usize; 64];
+    let mut positions = [0usize; LEVELS];
     let mut n = term.len();
     let mut level = 0;
     let mut steps: u32 = 0;
     loop {
-        let a = advance(book, shape, &marks, area, &mut positions, n, level);
+        let state = State { n, level };
+        let a = advance(book, shape, &marks, area, &mut positions, state);
         let stop = a.stop;
         match stop {
             Stop::Finished => {
@@ -82,11 +87,17 @@ pub fn run(book: &[u16], shape: Shape, term: &[u16], limit: u32, area: &mut [u16
                 }
                 level = a.level;
                 let m = a.found;
-                let k = rewrite(book, shape, area, n, level, positions[level], m, a.width);
-                if k == 0 {
+                let position = positions[level];
+                let u = Subterm {
+                    level,
+                    position,
+                    width: a.width,
+                };
+                let r = rewrite(book, area, n, u, m);
+                let Reduced::Done(k) = r else {
                     clear_state(area, n, level);
                     return outcome(12, 0, steps);
-                }
+                };
                 n = k;
                 steps += 1;
             }

@@ -5,7 +5,7 @@ use mathlib.Core.List.{List, [], _∷_, _++_}
 use lib.ListN.{length}
 use lib.Dec.{ltb, eqb}
 use Rattle.buffers.specs.Words.{zeros}
-use Rattle.evaluation.specs.Limits.{termWords, areaWords}
+use Rattle.system.specs.Limits.{termWords, areaWords}
 use Rattle.evaluation.specs.Expansion.{Expansion, expansion, handedBack}
 use Rattle.printing.specs.Text.{ascii, line, heading, numbersLine, wordLines}
 use Rattle.expand.specs.Words.{wordsOf}

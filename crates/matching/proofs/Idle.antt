@@ -7,7 +7,8 @@ use mathlib.Core.Option.{Option, none, some}
 use mathlib.Core.List.{List, [], _∷_, _++_, append-nil, flatten}
 use lib.ListN.{length, getD, set, take, drop}
 use lib.Seq.{set-getD}
-use Rattle.system.specs.Signature.{Signature, Symbol, arity, variable, argument}
+use Rattle.system.specs.Signature.{Signature, Symbol, arity, argument}
+use Rattle.system.specs.Limits.{variable}
 use Rattle.system.specs.System.{System, rule, head}
 use Rattle.system.specs.Terms.{Forest, empty, more, Word, Whole, Side, WellFormed}
 use Rattle.matching.specs.Matching.{bind, redex}

@@ -5,9 +5,6 @@ pub mod Firsts
 pub mod Words
 pub mod Stretched
 -- What the code's loops cite
-pub mod Books
-pub mod Standings
-pub mod Shapes
 pub mod MatchSteps
 pub mod Widths
 pub mod Searches

@@ -8,7 +8,8 @@ use mathlib.Core.List.{List, [], _∷_}
 use lib.ListN.{length, getD, take, drop, set, drop-of-length-le, length-drop}
 use lib.Seq.{drop-cons, drop-drop, take-all}
 use borrow.Author.Tests.{lt-ltb, le-ltb, eq-eqb, ne-eqb}
-use Rattle.system.specs.Signature.{Signature, variable, span}
+use Rattle.system.specs.Signature.{Signature, span}
+use Rattle.system.specs.Limits.{variable}
 use Rattle.system.specs.System.{Rule, noRule}
 use Rattle.matching.specs.declared.Found.the-variants.{First}
 use Rattle.matching.specs.Stretches.{Stretches, unset, takes, note, stretches, nothing, matchFrom}

@@ -10,12 +10,14 @@ use mathlib.Core.List.{List, [], _∷_, _++_, append-assoc, append-nil}
 use lib.ListN.{length, getD, take, drop, length-append}
 use lib.Seq.{drop-append-seam, take-append-seam, append-snoc, getD-at}
 use borrow.Author.Tests.{lt-ltb, le-ltb, eq-eqb, ne-eqb}
-use Rattle.system.specs.Signature.{Signature, Symbol, span, arity, variable}
+use Rattle.system.specs.Signature.{Signature, Symbol, span, arity}
+use Rattle.system.specs.Limits.{variable}
 use Rattle.system.specs.System.{Rule, instance}
 use Rattle.system.specs.Terms.{Forest, empty, more, Word, Whole, Stands, first, later, Numbered, end, name, next, Lawful}
 use Rattle.matching.specs.Matching.{Matches, bind}
 use Rattle.system.proofs.Signatures.{arity-variable, symbol-below}
 use Rattle.system.proofs.Forests.{span-forest, join, split, Split, Wholes, wholes-cons, wholes-getD, getD-any}
+use Rattle.system.proofs.Members.{numbered-below}
 use Rattle.system.proofs.Places.{at-subterm}
 
 -- one word of a side
@@ -41,17 +43,6 @@ instance-cong σ τ (w ∷ ws) h =
           let e : w ≡ variable + (w - variable) = omega arith in
           rw (instance-variable σ w (w - variable) ws e, instance-variable τ w (w - variable) ws e, ih, h w (w - variable) first e)
     ]
-
-pub numbered-le : {n m : ℕ} {ls : List ℕ} → Numbered n m ls → n ≤ m
-numbered-le end = omega arith
-numbered-le (name l nb) = numbered-le nb
-numbered-le (next e nb) = let h = numbered-le nb in omega arith
-
-pub numbered-below : {n m w : ℕ} {ls : List ℕ} → Numbered n m ls → Stands w ls → w < variable + m
-numbered-below (name l nb) first = omega arith
-numbered-below (name l nb) (later st) = numbered-below nb st
-numbered-below (next e nb) first = let h = numbered-le nb in omega arith
-numbered-below (next e nb) (later st) = numbered-below nb st
 
 abbrev pub chain : Option (List (List ℕ)) → (List (List ℕ) → Option (List (List ℕ))) → Option (List (List ℕ))
 chain none on = none

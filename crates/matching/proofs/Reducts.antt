@@ -11,7 +11,8 @@ use lib.ListN.{length, getD, take, drop, length-append, length-drop, length-take
 use lib.Seq.{drop-cons, getD-take, getD-drop, length-take-le}
 use borrow.Author.Tests.{lt-ltb, le-ltb}
 use Rattle.system.specs.declared.Shape.{Shape}
-use Rattle.system.specs.Signature.{Symbol, variable, span}
+use Rattle.system.specs.Signature.{Symbol, span}
+use Rattle.system.specs.Limits.{variable}
 use Rattle.system.specs.System.{System, rule, instance}
 use Rattle.system.specs.Terms.{Whole, Lawful}
 use Rattle.system.specs.Answers.{signatureOf}
@@ -20,14 +21,16 @@ use Rattle.system.proofs.Forests.{span-forest}
 use Rattle.matching.specs.declared.Match.{Match}
 use Rattle.matching.specs.declared.Found.{Found}
 use Rattle.matching.specs.declared.Found.the-variants.{Nothing, First}
-use Rattle.matching.specs.Accepted.{systemOf, Accepted}
+use Rattle.system.specs.Book.{systemOf}
+use Rattle.system.specs.layout.Accepted.{Accepted}
 use Rattle.matching.specs.Matching.{Matches, bind, redex}
 use Rattle.matching.specs.Stretches.{Stretches, ends, matchOf, value, stretchesOf, redexOf, reductLength, RightSide, Within}
 use Rattle.matching.proofs.Matched.{instance-nil, instance-symbol, instance-variable, instance-cong, bind-sound}
 use Rattle.matching.proofs.Firsts.{redex-first, redex-rest, Fired, fired, unfired}
 use Rattle.matching.proofs.Stretched.{Chosen, Answers, answers}
 use Rattle.matching.proofs.Widths.{ends-bound}
-use Rattle.matching.proofs.Books.{well, signature, first-rest, match-start, lawful, rule-count}
+use Rattle.system.proofs.layout.Books.{well, signature, first-rest, lawful, rule-count}
+use Rattle.matching.proofs.Searches.{match-start}
 
 -- ---- lengths
 
@@ -97,7 +100,7 @@ module _ (b : List ℕ) (sh : Shape) (acc : Accepted b sh) where
   module _ (ws : List ℕ) where
     found : Answers b ws (signatureOf b) (s .rules) 0 (matchOf s ws)
     found =
-        rw (← match-start b sh acc ws)
+        rw (← match-start acc ws)
         (answers b ws (signatureOf b) (s .rules) 0 (sh .«first_rule») (first-rest b sh acc .words) (λ j h. lawful b sh acc j (rw (rule-count b sh acc) h)))
 
     -- the search finds the first redex

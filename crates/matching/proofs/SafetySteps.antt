@@ -12,16 +12,18 @@ use lib.Seq.{drop-cons, take-suc, getD-take, getD-drop, length-take-le, take-len
 use lib.Dec.{leb, eqb}
 use borrow.Author.Tests.{eq-eqb, ne-eqb}
 use Rattle.system.specs.declared.Shape.{Shape}
-use Rattle.system.specs.Signature.{Signature, variable, argument, span}
+use Rattle.system.specs.Signature.{Signature, argument, span}
+use Rattle.system.specs.Limits.{variable}
 use Rattle.system.specs.System.{System, Rule, noRule, rule, head, strategy}
 use Rattle.system.specs.Answers.{signatureOf}
 use Rattle.system.proofs.Signatures.{symbol-lt, lt-symbol}
-use Rattle.matching.specs.declared.rules.Place.{Place}
-use Rattle.matching.specs.Accepted.{systemOf, Accepted, StrategyAt, Standing}
+use Rattle.system.specs.declared.layout.rules.Place.{Place}
+use Rattle.system.specs.Book.{systemOf}
+use Rattle.system.specs.layout.Accepted.{Accepted, StrategyAt, Standing}
 use Rattle.matching.specs.Safety.{every, isVariable, idleTest, idles, closes, constructs, passes, Tested, passed, failed}
 use Rattle.matching.proofs.MatchSteps.{tail}
-use Rattle.matching.proofs.Books.{Rest, Turn, rule-count, symbol-count, first-rest, signature}
-use Rattle.matching.proofs.Standings.{standing-strategy, standing-start, standing-next}
+use Rattle.system.proofs.layout.Books.{Rest, Turn, rule-count, symbol-count, first-rest, signature}
+use Rattle.system.proofs.layout.Standings.{standing-strategy, standing-start, standing-next}
 use Rattle.matching.proofs.SafetyTest.{passes-sound, passes-complete}
 
 -- ---- whether an argument is a variable

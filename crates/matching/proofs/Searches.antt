@@ -1,29 +1,34 @@
 -- The search for the first rule that matches: what its two loops keep, and each way out of a turn.
 use Prim.Native.Nat.{ℕ, _+_, _-_, _≤_, _<_}
 use native.Mathlib.Omega.{arith}
-use mathlib.Core.Path.{_≡_, refl, sym, _∙_}
+use mathlib.Core.Path.{_≡_, refl, sym, ap, _∙_}
 use mathlib.Core.Option.{none, some}
-use mathlib.Core.List.{List}
+use mathlib.Core.List.{List, []}
 use lib.ListN.{length, getD, take, drop, set, length-set, length-drop}
 use Rattle.system.specs.declared.Shape.{Shape}
-use Rattle.system.specs.Signature.{variable}
+use Rattle.system.specs.declared.reader.Scan.{Scan}
+use Rattle.system.specs.Limits.{variable}
 use Rattle.system.specs.System.{Rule, rule}
-use Rattle.system.specs.Answers.{signatureOf}
+use Rattle.system.specs.Reader.{read}
+use Rattle.system.specs.Answers.{signatureOf, scanOf}
 use Rattle.matching.specs.declared.Found.{Found}
 use Rattle.matching.specs.declared.Found.the-variants.{Nothing, First}
-use Rattle.matching.specs.declared.rules.Place.{Place}
-use Rattle.matching.specs.Accepted.{systemOf, Accepted}
-use Rattle.matching.specs.Stretches.{Stretches, unset, takes, note, stretches, ends, matchFrom, matchOf, Fits}
-use Rattle.matching.proofs.Books.{Rest, Here, Turn, signature, rule-count, first-rest, match-start}
-use Rattle.matching.proofs.MatchSteps.{tail, note-symbol, note-variable, words-end, words-stop, words-next, rules-end, rules-next, rules-here}
-use Rattle.matching.proofs.Widths.{ends-done, ends-next}
+use Rattle.system.specs.declared.layout.rules.Place.{Place}
+use Rattle.system.specs.Book.{systemOf}
+use Rattle.system.specs.layout.Accepted.{Accepted}
+use Rattle.matching.specs.Stretches.{Stretches, unset, takes, note, stretches, ends, nothing, matchFrom, matchOf, widthOf, fitOf}
+use Rattle.system.proofs.layout.Accepting.{scan-empty}
+use Rattle.system.proofs.layout.Books.{Rest, Here, Turn, signature, rule-count, first-index, first-rest}
+use Rattle.matching.proofs.MatchSteps.{from-nil, tail, note-symbol, note-variable, words-end, words-stop, words-next, rules-end, rules-next, rules-here}
+use Rattle.matching.proofs.Widths.{is-fit, ends-done, ends-next}
 
 -- no rule before number k matched
-pub record Searched (b : List ℕ) (sh : Shape) (ws : List ℕ) (found : Found) (starts lengths : List ℕ) (k at : ℕ) : Type 0 where
+pub record Searched (b : List ℕ) (sh : Shape) (ws : List ℕ) (found : Found) (starts lengths : List ℕ) (end k at : ℕ) : Type 0 where
   pub inside : k ≤ sh .rules
   pub none-found : found ≡ Nothing
   pub no-starts : starts ≡ unset .starts
   pub no-lengths : lengths ≡ unset .lengths
+  pub no-end : end ≡ 0
   pub rest : Rest b k at
   pub goes : matchFrom (signatureOf b) (drop k (systemOf b .rules)) k at ws ≡ matchOf (systemOf b) ws
 
@@ -37,17 +42,26 @@ pub record Walked (b ws : List ℕ) (k width j q : ℕ) (starts lengths : List �
       stretches (signatureOf b) (rule (systemOf b) k .lhs) ws 0 unset
   pub ending : ends (signatureOf b) (drop j (rule (systemOf b) k .lhs)) (drop q ws) q ≡ ends (signatureOf b) (rule (systemOf b) k .lhs) ws 0
 
-module _ {b : List ℕ} {sh : Shape} (acc : Accepted b sh) where
-  pub search-starts : (ws : List ℕ) → Searched b sh ws Nothing (unset .starts) (unset .lengths) 0 (sh .«first_rule»)
-  search-starts ws = record { inside = omega arith; none-found = refl; no-starts = refl; no-lengths = refl; rest = first-rest b sh acc; goes = match-start b sh acc ws }
+-- no rule of a refused book matches
+pub refused-nothing : (b : List ℕ) (s : Scan) → s ≡ scanOf (read b) → (s .answer .number ≡ 0 → ⊥) → (ws : List ℕ) → nothing ≡ matchOf (systemOf b) ws
+unfolding matchOf
+refused-nothing b s is bad ws = rw (scan-empty b s is bad) (sym (from-nil [] 0 _ ws))
 
-  pub search-ends : {ws : List ℕ} {found : Found} {starts lengths : List ℕ} {k at : ℕ} (end : ℕ) → Searched b sh ws found starts lengths k at → sh .rules ≤ k →
-      Fits (systemOf b) ws (record { found = record { found = found; starts = starts; lengths = lengths }; width = end })
-  search-ends {ws} {k} {at} end so h = record {
-    match = rw (so .none-found, so .no-starts, so .no-lengths)
-        (sym (rules-end (signatureOf b) (systemOf b .rules) k at ws (omega (arith, rule-count b sh acc))) ∙ so .goes);
-    width = λ n rhs size e. absurd (let z : _≡_ {A = ℕ} 0 1 = cc (so .none-found) in omega arith);
-  }
+module _ {b : List ℕ} {sh : Shape} (acc : Accepted b sh) where
+  -- the search starts at the first rule
+  pub match-start : (ws : List ℕ) → matchFrom (signatureOf b) (drop 0 (systemOf b .rules)) 0 (sh .«first_rule») ws ≡ matchOf (systemOf b) ws
+  unfolding matchOf
+  match-start ws = rw (first-index b sh acc, ← signature b sh acc)
+
+  pub search-starts : (ws : List ℕ) → Searched b sh ws Nothing (unset .starts) (unset .lengths) 0 0 (sh .«first_rule»)
+  search-starts ws = record { inside = omega arith; none-found = refl; no-starts = refl; no-lengths = refl; no-end = refl; rest = first-rest b sh acc; goes = match-start ws }
+
+  pub search-ends : {ws : List ℕ} {found : Found} {starts lengths : List ℕ} {end k at : ℕ} → Searched b sh ws found starts lengths end k at → sh .rules ≤ k →
+      record { found = record { found = found; starts = starts; lengths = lengths }; width = end } ≡ fitOf (systemOf b) ws
+  search-ends {ws} {k} {at} so h = is-fit (systemOf b) ws _ _
+      (rw (so .none-found, so .no-starts, so .no-lengths)
+      (sym (rules-end (signatureOf b) (systemOf b .rules) k at ws (omega (arith, rule-count b sh acc))) ∙ so .goes))
+      (so .no-end ∙ ap (widthOf (systemOf b) ws) (sym (so .none-found)))
 
 module _ {b : List ℕ} {sh : Shape} {k at : ℕ} {p : Place} (t : Turn b sh k at p) where
   abbrev h : Here b k at p
@@ -60,20 +74,21 @@ module _ {b : List ℕ} {sh : Shape} {k at : ℕ} {p : Place} (t : Turn b sh k a
   unfolding unset
   walk-starts ws = record { inside = omega arith; within = omega arith; size-starts = refl; size-lengths = refl; goes = refl; ending = refl }
 
-  module _ {ws : List ℕ} {found : Found} {starts lengths : List ℕ} (so : Searched b sh ws found starts lengths k at) where
+  module _ {ws : List ℕ} {found : Found} {starts lengths : List ℕ} {end : ℕ} (so : Searched b sh ws found starts lengths end k at) where
     -- the rule was given up
-    given-up : stretches (signatureOf b) (r .lhs) ws 0 unset ≡ none → Searched b sh ws found starts lengths (k + 1) (p .next)
+    given-up : stretches (signatureOf b) (r .lhs) ws 0 unset ≡ none → Searched b sh ws found starts lengths end (k + 1) (p .next)
     given-up e = record {
       inside = (let l = t .inside in omega arith);
       none-found = so .none-found;
       no-starts = so .no-starts;
       no-lengths = so .no-lengths;
+      no-end = so .no-end;
       rest = h .rest;
       goes = sym (rules-next (signatureOf b) (systemOf b .rules) k at ws (t .more) e (p .next) (h .next)) ∙ so .goes;
     }
 
     -- at its first word
-    pub root-differs : {n : ℕ} → n ≡ takes (signatureOf b) (getD b (p .lhs) 0) ws → n ≡ 0 → Searched b sh ws found starts lengths (k + 1) (p .next)
+    pub root-differs : {n : ℕ} → n ≡ takes (signatureOf b) (getD b (p .lhs) 0) ws → n ≡ 0 → Searched b sh ws found starts lengths end (k + 1) (p .next)
     root-differs {n} e z =
         given-up (words-stop (signatureOf b) (r .lhs) ws 0 0 unset (let w = h .some in omega (arith, h .width)) (getD b (p .lhs) 0) (h .head) n e z)
 
@@ -82,19 +97,17 @@ module _ {b : List ℕ} {sh : Shape} {k at : ℕ} {p : Place} (t : Turn b sh k a
       x = record { starts = s; lengths = l }
 
       -- all words of the left side are matched
-      pub matches-here : p .width ≤ j → Fits (systemOf b) ws (record { found = record { found = First k (p .rhs) (p .size); starts = s; lengths = l }; width = q })
-      matches-here e = record {
-        match = rw (h .right, h .size)
-            (sym (rules-here (signatureOf b) (systemOf b .rules) k at ws (t .more) x
-            (sym (wo .goes) ∙ words-end (signatureOf b) (r .lhs) ws j q x (omega (arith, h .width)))) ∙ so .goes);
-        width = λ n rhs size f.
-            let same : k ≡ n = cc in
-            rw (← same, signature b sh (t .accepted)) (sym (ends-done (signatureOf b) (r .lhs) ws j q (omega (arith, h .width))) ∙ wo .ending);
-      }
+      pub matches-here : p .width ≤ j →
+          record { found = record { found = First k (p .rhs) (p .size); starts = s; lengths = l }; width = q } ≡ fitOf (systemOf b) ws
+      matches-here e = is-fit (systemOf b) ws _ _
+          (rw (h .right, h .size)
+          (sym (rules-here (signatureOf b) (systemOf b .rules) k at ws (t .more) x
+          (sym (wo .goes) ∙ words-end (signatureOf b) (r .lhs) ws j q x (omega (arith, h .width)))) ∙ so .goes))
+          (rw (signature b sh (t .accepted)) (sym (ends-done (signatureOf b) (r .lhs) ws j q (omega (arith, h .width))) ∙ wo .ending))
 
       -- an unequal word
       pub word-differs : j < p .width → {n : ℕ} → n ≡ takes (signatureOf b) (getD b (p .lhs + j) 0) (take (length ws - q) (drop q ws)) → n ≡ 0 →
-          Searched b sh ws found starts lengths (k + 1) (p .next)
+          Searched b sh ws found starts lengths end (k + 1) (p .next)
       word-differs here {n} taken z =
           given-up (sym (wo .goes) ∙ words-stop (signatureOf b) (r .lhs) ws j q x (omega (arith, h .width))
           (getD b (p .lhs + j) 0) (h .word j here) n (rw (tail ws q) at taken) z)

@@ -7,11 +7,13 @@ use lib.ListN.{length}
 use Rattle.system.specs.declared.Answer.{Answer}
 use Rattle.system.specs.Signature.{Symbol}
 use Rattle.system.specs.System.{System}
+use Rattle.system.specs.declared.reader.Scan.{Scan}
 use Rattle.system.specs.Reader.{Parsed, ok, fault, read}
+use Rattle.system.specs.Answers.{scanOf}
 use Rattle.system.proofs.Located.{fault-not-zero}
-use Rattle.matching.specs.Accepted.{systemFrom, systemOf}
+use Rattle.system.specs.Book.{systemFrom, systemOf}
 use Rattle.matching.specs.Safety.{Passes, Safe, Tested, passed, failed, TestedBook}
-use Rattle.matching.proofs.Shapes.{reads-system}
+use Rattle.system.proofs.layout.Accepting.{reads-system, scan-accepted}
 
 -- an accepted book whose system is safe
 pub record SafeBook (b : List ℕ) : Type 0 where
@@ -31,6 +33,22 @@ module _ (s : System) where
   pub tested-fails : {r : Answer} → Tested s r → (r .number ≡ 0 → ⊥) → Symbol (s .arities) (r .place) × (Passes s (r .place) → ⊥)
   tested-fails (passed h) e = absurd (e refl)
   tested-fails (failed f k h) e = (k, h)
+
+-- ---- of a book that was scanned
+
+module _ (b : List ℕ) (s : Scan) (is : s ≡ scanOf (read b)) where
+  -- "A book that the reader refuses gets the reader's answer"
+  pub test-refused : (s .answer .number ≡ 0 → ⊥) → TestedBook (read b) (s .answer)
+  test-refused bad = go (read b) is
+    where
+      go : (o : Parsed System) → s ≡ scanOf o → TestedBook o (s .answer)
+      go (ok x i) e = absurd (bad (ap (λ y. y .answer .number) e))
+      go (fault f i) e = ap (λ y. y .answer) e
+
+  pub test-accepted : s .answer .number ≡ 0 → (r : Answer) → Tested (systemOf b) r → TestedBook (read b) r
+  test-accepted good r t = rw (scan-accepted b s is good .accepted) t
+
+-- ---- what the answer tells
 
 module _ (b : List ℕ) (r : Answer) (t : TestedBook (read b) r) where
   -- 0: the book is accepted and safe

@@ -1,4 +1,4 @@
--- Where a left side ends: one word of it, in the terms of the search's loop; and that a left side that matches ends where the subterm does.
+-- The match with its width, which is where a left side ends: one word of it, in the terms of the search's loop; and that a left side that matches ends where the subterm does.
 use Prim.Native.Nat.{ℕ, _+_, _≤_, _<_}
 use native.Mathlib.Omega.{arith}
 use native.Mathlib.Numerals.{add-one}
@@ -9,14 +9,35 @@ use mathlib.Core.Option.{some}
 use mathlib.Core.List.{List, [], _∷_, _++_, append-assoc}
 use lib.ListN.{length, getD, drop, drop-of-length-le, length-append}
 use lib.Seq.{drop-cons, drop-drop, drop-append-seam}
-use Rattle.system.specs.Signature.{Signature, Symbol, arity, variable}
+use Rattle.system.specs.Signature.{Signature, Symbol, arity}
+use Rattle.system.specs.Limits.{variable}
+use Rattle.system.specs.System.{System, rule}
 use Rattle.system.specs.Terms.{Forest, empty, more, Word, Whole}
 use Rattle.system.proofs.Signatures.{arity-variable, symbol-below}
 use Rattle.system.proofs.Forests.{span-forest, split, Split}
 use Rattle.matching.specs.Matching.{bind}
-use Rattle.matching.specs.Stretches.{takes, ends}
+use Rattle.matching.specs.declared.Match.{Match}
+use Rattle.matching.specs.declared.Found.the-variants.{First}
+use Rattle.matching.specs.Stretches.{takes, ends, matchOf, widthOf, fitOf}
 use Rattle.matching.proofs.Matched.{bind-symbol, bind-differ, bind-variable}
 use Rattle.matching.proofs.MatchSteps.{takes-variable, takes-same}
+
+-- ---- the match and its width
+
+module _ (s : System) (ws : List ℕ) where
+  pub fit-match : fitOf s ws .found ≡ matchOf s ws
+  unfolding fitOf
+  fit-match = refl
+
+  pub fit-width : (k rhs size : ℕ) → matchOf s ws .found ≡ First k rhs size → fitOf s ws .width ≡ ends (s .arities) (rule s k .lhs) ws 0
+  unfolding fitOf
+  fit-width k rhs size e = ap (widthOf s ws) e
+
+  pub is-fit : (m : Match) (n : ℕ) → m ≡ matchOf s ws → n ≡ widthOf s ws (m .found) → record { found = m; width = n } ≡ fitOf s ws
+  unfolding fitOf
+  is-fit m n e q = λ i. record { found = e i; width = (q ∙ ap (λ y. widthOf s ws (y .found)) e) i }
+
+-- ---- where a left side ends
 
 module _ (g : Signature) where
   ends-nil : (ws : List ℕ) (q : ℕ) → ends g [] ws q ≡ q

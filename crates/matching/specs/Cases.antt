@@ -3,9 +3,10 @@ use Prim.Native.Nat.{ℕ, zero, suc}
 use mathlib.Core.Bool.{cond}
 use mathlib.Core.List.{List, [], _∷_, _++_}
 use lib.ListN.{length}
+use Rattle.system.specs.Numbers.{taken, unsettled, numberOf}
 use Rattle.system.specs.System.{System}
 use Rattle.system.specs.Cases.{Case, bookB, earlyB}
-use Rattle.matching.specs.Accepted.{systemOf}
+use Rattle.system.specs.Book.{systemOf}
 use Rattle.matching.specs.Safety.{passes}
 
 -- which of the first n symbols fail
@@ -17,8 +18,8 @@ failing s (suc n) = failing s n ++ cond (passes s n) [] (n ∷ [])
 unfoldable pub testing : List ℕ → List ℕ
 testing book =
     elim (failing (systemOf book) (length (systemOf book .arities))) [
-      | [] ↦ 0 ∷ 0 ∷ 0 ∷ []
-      | f ∷ fs ↦ 14 ∷ f ∷ 0 ∷ fs
+      | [] ↦ numberOf taken ∷ 0 ∷ 0 ∷ []
+      | f ∷ fs ↦ numberOf unsettled ∷ f ∷ 0 ∷ fs
     ]
 
 -- "Head's order 0 1: order test 14 at 2": 2 is the only symbol that fails, so that no other place may be told. Book B itself passes

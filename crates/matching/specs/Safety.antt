@@ -7,7 +7,9 @@ use mathlib.Core.Bool.{Bool, true, false, not, _&&_, _||_}
 use lib.ListN.{length, getD}
 use lib.Dec.{leb, eqb}
 use Rattle.system.specs.declared.Answer.{Answer}
-use Rattle.system.specs.Signature.{Signature, Symbol, variable, argument}
+use Rattle.system.specs.Numbers.{taken, unsettled, numberOf}
+use Rattle.system.specs.Signature.{Signature, Symbol, argument}
+use Rattle.system.specs.Limits.{variable}
 use Rattle.system.specs.System.{System, Rule, strategy, rule, head}
 use Rattle.system.specs.Terms.{Stands}
 use Rattle.system.specs.Reader.{Parsed, ok, fault}
@@ -80,8 +82,8 @@ passes s f = constructs s f || closes (idleTest s f) (strategy s f)
 
 -- "All pass: 0. Otherwise 14, the place being a name that fails." Which of the symbols that fail is free.
 pub data Tested (s : System) : Answer → Type 0 where
-  passed : Safe s → Tested s (record { number = 0; place = 0; steps = 0 })
-  failed : (f : ℕ) → Symbol (s .arities) f → (Passes s f → ⊥) → Tested s (record { number = 14; place = f; steps = 0 })
+  passed : Safe s → Tested s (record { number = numberOf taken; place = 0; steps = 0 })
+  failed : (f : ℕ) → Symbol (s .arities) f → (Passes s f → ⊥) → Tested s (record { number = numberOf unsettled; place = f; steps = 0 })
 
 -- "A book that the reader refuses gets the reader's answer."
 abbrev pub TestedBook : Parsed System → Answer → Type 0

@@ -6,11 +6,13 @@ use mathlib.Core.Bool.{cond}
 use mathlib.Core.Option.{Option, none, some}
 use lib.ListN.{length, getD, take, drop, set, replicate}
 use lib.Dec.{ltb, eqb}
-use Rattle.system.specs.Signature.{Signature, variable, variables, span}
+use Rattle.system.specs.Limits.{sideWords, variable, variables}
+use Rattle.system.specs.Signature.{Signature, span}
 use Rattle.system.specs.System.{System, Rule, rule, instance}
 use Rattle.system.specs.Format.{encodeStrategies}
 use Rattle.matching.specs.declared.Match.{Match}
 use Rattle.matching.specs.declared.rules.Fit.{Fit}
+use Rattle.matching.specs.declared.Found.{Found}
 use Rattle.matching.specs.declared.Found.the-variants.{Nothing, First}
 use Rattle.matching.specs.Matching.{Redex}
 
@@ -66,10 +68,14 @@ matchFrom g (r ∷ rs) k at ws =
 unfoldable pub matchOf : System → List ℕ → Match
 matchOf s ws = matchFrom (s .arities) (s .rules) 0 (length (s .arities) + 3 + length (encodeStrategies (s .strategies))) ws
 
--- the same, and how many words the left side of the rule that was found takes
-pub record Fits (s : System) (ws : List ℕ) (r : Fit) : Type 0 where
-  pub match : r .found ≡ matchOf s ws
-  pub width : (k rhs size : ℕ) → r .found .found ≡ First k rhs size → r .width ≡ ends (s .arities) (rule s k .lhs) ws 0
+-- where the left side of the rule that was found ends among the words ws; 0 where none matches
+abbrev pub widthOf : System → List ℕ → Found → ℕ
+widthOf s ws Nothing = 0
+widthOf s ws (First k rhs size) = ends (s .arities) (rule s k .lhs) ws 0
+
+-- the match, and how many words the left side takes: what the layers above are handed
+unfoldable pub fitOf : System → List ℕ → Fit
+fitOf s ws = record { found = matchOf s ws; width = widthOf s ws (matchOf s ws .found) }
 
 -- ---- the reduct
 
@@ -97,7 +103,7 @@ reductLength lengths (w ∷ ws) = cond (ltb w variable) 1 (getD lengths (w - var
 pub record RightSide (book : List ℕ) (rhs size : ℕ) : Type 0 where
   pub fits : rhs + size ≤ length book
   pub some : 1 ≤ size
-  pub small : size ≤ 64
+  pub small : size ≤ sideWords
   pub known : (j : ℕ) → j < size → getD book (rhs + j) 0 < variable + variables
 
 -- the stretches lie in ws

@@ -3,13 +3,16 @@
 // layers above, over a book that is known to be accepted.
 ghost use mathlib.Core.Path.{_≡_};
 ghost use Rattle.system.specs.Reader.{read};
-ghost use Rattle.matching.specs.Accepted.{systemOf};
+ghost use Rattle.system.specs.Book.{systemOf};
 ghost use Rattle.matching.specs.Stretches.{matchOf};
 ghost use Rattle.matching.specs.Safety.{TestedBook};
 use system::Answer;
+use system::limits::VARIABLES;
+use system::numbers::TAKEN;
+use system::reader::scan_book;
 
 pub mod rules;
-mod safety;
+pub mod safety;
 
 // The first rule that matches: its number, the index in the book of the first word of its right side, and how many words that has.
 pub enum Found {
@@ -24,23 +27,23 @@ pub enum Found {
 // What was found, and for each variable where its stretch of the subterm starts and how many words it has; 0 and 0 of the others.
 pub struct Match {
     pub found: Found,
-    pub starts: [usize; 16],
-    pub lengths: [usize; 16],
+    pub starts: [usize; VARIABLES],
+    pub lengths: [usize; VARIABLES],
 }
 
 // The first rule of the book that matches the subterm at the front of ws; nothing in a book that the reader refuses.
 pub fn first_match(book: &[u16], ws: &[u16]) -> Match
     ensures { λ r. ⌜ r ≡ matchOf (systemOf (now (book .entry))) (now (ws .entry)) ⌝ }
 {
-    let shape = system::shape_of(book);
-    if shape.symbols == 0 {
+    let s = scan_book(book);
+    if s.answer.number != TAKEN {
         return Match {
             found: Found::Nothing,
-            starts: [0; 16],
-            lengths: [0; 16],
+            starts: [0; VARIABLES],
+            lengths: [0; VARIABLES],
         };
     }
-    let fit = rules::first_rule(book, shape, ws);
+    let fit = rules::first_rule(book, s.shape, ws);
     fit.found
 }
 
@@ -49,9 +52,6 @@ pub fn first_match(book: &[u16], ws: &[u16]) -> Match
 pub fn test_strategies(book: &[u16]) -> Answer
     ensures { λ r. ⌜ TestedBook (read (now (book .entry))) r ⌝ }
 {
-    let shape = system::shape_of(book);
-    if shape.symbols == 0 {
-        return system::read(book);
-    }
-    safety::tested(book, shape)
+    let s = scan_book(book);
+    safety::test(book, s)
 }

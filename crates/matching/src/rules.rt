@@ -3,50 +3,22 @@ ghost use mathlib.Core.Path.{_≡_};
 ghost use Prim.Native.Nat.{ℕ, _+_, _≤_};
 ghost use lib.ListN.{length, getD, take, drop};
 ghost use Rattle.system.specs.Answers.{signatureOf};
-ghost use Rattle.matching.specs.Accepted.{systemOf, Accepted};
-ghost use Rattle.matching.specs.Rules.{placeOf, after};
-ghost use Rattle.matching.specs.Stretches.{takes, Fits, RightSide, reductLength};
+ghost use Rattle.system.specs.Book.{systemOf};
+ghost use Rattle.system.specs.layout.Accepted.{Accepted};
+ghost use Rattle.matching.specs.Stretches.{takes, fitOf, RightSide, reductLength};
 use crate::Found;
 use crate::Match;
 use system::Shape;
+use system::layout::rules::rule_at;
+use system::limits::VARIABLE;
+use system::limits::VARIABLES;
 use system::words::span;
 use system::words::wide;
-
-// Where the variables start among the words of a side.
-pub const VARIABLE: usize = 32768;
-
-// A rule in the book: the index of the first word of each side, how many words each side has, and the index after the rule.
-pub struct Place {
-    pub lhs: usize,
-    pub width: usize,
-    pub rhs: usize,
-    pub size: usize,
-    pub next: usize,
-}
 
 // What was found, and how many words the left side that matched took: all those of the subterm.
 pub struct Fit {
     pub found: Match,
     pub width: usize,
-}
-
-// The rule whose first length stands at `at`.
-pub fn rule_at(book: &[u16], at: usize) -> Place
-    requires { ⌜ after (now book) at ≤ length (now book) ⌝ }
-    ensures { λ r. ⌜ r ≡ placeOf (now (book .entry)) at ⌝ }
-{
-    let lhs = at + 1;
-    let width = wide(book[at]);
-    let second = lhs + width;
-    let size = wide(book[second]);
-    let rhs = second + 1;
-    Place {
-        lhs: lhs,
-        width: width,
-        rhs: rhs,
-        size: size,
-        next: rhs + size,
-    }
 }
 
 // How many words at the front of ws a word of a left side takes; 0 where the words are unequal.
@@ -69,11 +41,11 @@ fn takes(book: &[u16], l: u16, ws: &[u16]) -> usize
 // symbol: they are given up before the stretches are cleared.
 pub fn first_rule(book: &[u16], shape: Shape, ws: &[u16]) -> Fit
     requires { ⌜ Accepted (now book) shape ⌝ }
-    ensures { λ r. ⌜ Fits (systemOf (now (book .entry))) (now (ws .entry)) r ⌝ }
+    ensures { λ r. ⌜ r ≡ fitOf (systemOf (now (book .entry))) (now (ws .entry)) ⌝ }
 {
     let mut found = Found::Nothing;
-    let mut starts = [0usize; 16];
-    let mut lengths = [0usize; 16];
+    let mut starts = [0usize; VARIABLES];
+    let mut lengths = [0usize; VARIABLES];
     let mut end = 0;
     let mut k = 0;
     let mut at = shape.first_rule;
@@ -87,8 +59,8 @@ pub fn first_rule(book: &[u16], shape: Shape, ws: &[u16]) -> Fit
         if takes(book, book[lhs], ws) == 0 {
             continue 'rules;
         }
-        let mut s = [0usize; 16];
-        let mut l = [0usize; 16];
+        let mut s = [0usize; VARIABLES];
+        let mut l = [0usize; VARIABLES];
         let mut j = 0;
         let mut q = 0;
         'words: while j < width {
@@ -126,7 +98,7 @@ pub fn first_rule(book: &[u16], shape: Shape, ws: &[u16]) -> Fit
 }
 
 // How many words the reduct has: the right side's, with the variables' terms of these lengths in their places.
-pub fn reduct_length(book: &[u16], rhs: usize, size: usize, lengths: [usize; 16]) -> usize
+pub fn reduct_length(book: &[u16], rhs: usize, size: usize, lengths: [usize; VARIABLES]) -> usize
     requires { ⌜ RightSide (now book) rhs size × ((v : ℕ) → getD lengths v 0 ≤ 65535) ⌝ }
     ensures { λ r. ⌜ r ≡ reductLength lengths (take size (drop rhs (now (book .entry)))) ⌝ }
 {

@@ -1,14 +1,19 @@
 // The strategy test, symbol by symbol, over an accepted book whose shape is known.
 ghost use mathlib.Core.Path.{_≡_};
 ghost use mathlib.Core.Bool.{not};
-ghost use Rattle.system.specs.Answers.{signatureOf};
+ghost use Rattle.system.specs.Reader.{read};
+ghost use Rattle.system.specs.Answers.{signatureOf, scanOf};
 ghost use Rattle.system.specs.System.{strategy};
-ghost use Rattle.matching.specs.Accepted.{systemOf, Accepted, StrategyAt};
-ghost use Rattle.matching.specs.Safety.{isVariable, idleTest, closes, constructs, passes, Tested};
-use crate::rules::VARIABLE;
-use crate::rules::rule_at;
+ghost use Rattle.system.specs.Book.{systemOf};
+ghost use Rattle.system.specs.layout.Accepted.{Accepted, StrategyAt};
+ghost use Rattle.matching.specs.Safety.{isVariable, idleTest, closes, constructs, passes, Tested, TestedBook};
 use system::Answer;
 use system::Shape;
+use system::layout::rules::rule_at;
+use system::limits::VARIABLE;
+use system::numbers::TAKEN;
+use system::numbers::UNSETTLED;
+use system::reader::Scan;
 use system::words::spans;
 use system::words::wide;
 
@@ -98,7 +103,7 @@ fn passes(book: &[u16], shape: Shape, f: usize, at: usize) -> bool
 }
 
 // 0 0 0 where every symbol passes, else 14 and a symbol that fails.
-pub fn tested(book: &[u16], shape: Shape) -> Answer
+fn tested(book: &[u16], shape: Shape) -> Answer
     requires { ⌜ Accepted (now book) shape ⌝ }
     ensures { λ r. ⌜ Tested (systemOf (now (book .entry))) r ⌝ }
 {
@@ -107,7 +112,7 @@ pub fn tested(book: &[u16], shape: Shape) -> Answer
     while f < shape.symbols {
         if !passes(book, shape, f, at) {
             return Answer {
-                number: 14,
+                number: UNSETTLED,
                 place: f,
                 steps: 0,
             };
@@ -116,8 +121,20 @@ pub fn tested(book: &[u16], shape: Shape) -> Answer
         f += 1;
     }
     Answer {
-        number: 0,
+        number: TAKEN,
         place: 0,
         steps: 0,
     }
+}
+
+// The strategy test of a book that was scanned.
+pub fn test(book: &[u16], scan: Scan) -> Answer
+    requires { ⌜ scan ≡ scanOf (read (now book)) ⌝ }
+    ensures { λ r. ⌜ TestedBook (read (now (book .entry))) r ⌝ }
+{
+    let a = scan.answer;
+    if a.number != TAKEN {
+        return a;
+    }
+    tested(book, scan.shape)
 }

@@ -12,17 +12,20 @@ use lib.ListN.{length, getD, drop-of-length-le, List·getD-eq-default}
 use lib.Seq.{drop-length}
 use lib.Dec.{ltb}
 use borrow.Author.Tests.{le-ltb, ltb-false}
-use Rattle.system.specs.Signature.{Signature, arity, variable}
+use Rattle.system.specs.Signature.{Signature, arity}
+use Rattle.system.specs.Limits.{variable}
 use Rattle.system.specs.System.{System, Rule, noRule, strategy}
 use Rattle.system.specs.Terms.{Forest, more, Stands, Lawful, WellFormed}
 use Rattle.system.specs.Format.{encodeList, encodeStrategies, encodeRules, encode}
 use Rattle.system.specs.declared.reader.Hand.{Hand}
 use Rattle.system.specs.declared.reader.Hand.the-variants.{Left, Right}
-use Rattle.system.specs.Fault.{range, entry}
-use Rattle.system.specs.Reader.{ok, times, each, number, Reading, readWords, readStrategy, readSide, readRule, readRules, readEnd, readSystem, read}
+use Rattle.system.specs.Numbers.{range, entry}
+use Rattle.system.specs.Answers.{answerOf}
+use Rattle.system.specs.Reader.{Parsed, ok, fault, times, each, number, Reading, readWords, readStrategy, readSide, readRule, readRules, readEnd, readSystem, read}
 use Rattle.system.proofs.Signatures.{arity-getD, arity-none}
-use Rattle.system.proofs.Forests.{stands-getD, stands-index}
+use Rattle.system.proofs.Members.{stands-getD, stands-index}
 use Rattle.system.proofs.Parses.{ok-value, ok-place, not-fault, after-ok, Between, between-join, between-split, between-ok, Reads, reads-iff, one, Every, Pairwise, reads-number, reads-numbers, reads-times, reads-each, reads-counted}
+use Rattle.system.proofs.Sections.{number-positive}
 use Rattle.system.proofs.Sides.{Taken, reads-words, taken-forest, taken-numbered, taken-few, taken-headed, taken-known, left-taken, right-taken}
 
 -- ---- strategies
@@ -270,6 +273,14 @@ read-sound ws e =
 -- THE READER: it accepts the encodings of well-formed systems and nothing else
 pub accepts : (ws : List ℕ) (s : System) → (read ws ≡ ok s (length ws)) ↔ (WellFormed s × (ws ≡ encode s))
 accepts ws s = (λ e. let h = read-sound ws e in (h .0, h .1), λ h. rw (h .1) (read-complete s (h .0)))
+
+-- the same of the answer: it is 0 for the encodings of well-formed systems and for nothing else
+pub accepts-answer : (ws : List ℕ) → (answerOf (read ws) .number ≡ 0) ↔ ((s : System) × WellFormed s × (ws ≡ encode s))
+accepts-answer ws = (go (read ws) refl, λ h. rw (h .2, read-complete (h .0) (h .1)))
+  where
+    go : (o : Parsed System) → read ws ≡ o → answerOf o .number ≡ 0 → (s : System) × WellFormed s × (ws ≡ encode s)
+    go (ok s i) q e = let h = read-sound ws q in (s, h .0, h .1)
+    go (fault f i) q e = absurd (let p = number-positive f in omega arith)
 
 -- so no two well-formed systems have the same encoding
 pub encode-injective : (s t : System) → WellFormed s → WellFormed t → encode s ≡ encode t → s ≡ t

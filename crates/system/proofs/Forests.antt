@@ -153,13 +153,3 @@ focus-here a b w us i h = rw (set-getD us i []) at (focus a b w us i (getD us i 
 pub drop-past : (a : List ℕ) (w : ℕ) (b : List ℕ) → drop (suc (length a)) (a ++ w ∷ b) ≡ b
 drop-past [] w b = refl
 drop-past (x ∷ a) w b = drop-past a w b
-
--- standing in a list, by index
-pub stands-getD : (es : List ℕ) (c : ℕ) → c < length es → Stands (getD es c 0) es
-stands-getD [] c h = absurd (not-suc-le-zero h)
-stands-getD (e ∷ es) zero h = first
-stands-getD (e ∷ es) (suc c) h = later (stands-getD es c (le-of-suc-le-suc h))
-
-pub stands-index : (P : ℕ → Type 0) (es : List ℕ) → ((j : ℕ) → j < length es → P (getD es j 0)) → (e : ℕ) → Stands e es → P e
-stands-index P (e ∷ es) h d first = h 0 (omega arith)
-stands-index P (e ∷ es) h d (later st) = stands-index P es (λ j l. h (suc j) (omega arith)) d st

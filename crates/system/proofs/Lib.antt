@@ -1,5 +1,6 @@
 -- Terms: forests, positions, spans, the check of a term
 pub mod Signatures
+pub mod Members
 pub mod Forests
 pub mod Places
 pub mod Spans

@@ -9,7 +9,7 @@ use lib.Seq.{take-append-seam, drop-cons}
 use Rattle.system.specs.Signature.{Signature}
 use Rattle.system.specs.System.{System, Rule, noRule}
 use Rattle.system.specs.Format.{encodeList, encodeStrategies, encodeRules, encode}
-use Rattle.system.specs.Fault.{Fault, range, numberOf}
+use Rattle.system.specs.Numbers.{Fault, range, faultNumber}
 use Rattle.system.specs.Reader.{ok, times, each, number, readStrategy, read}
 use Rattle.system.specs.Answers.{signatureOf}
 use Rattle.system.proofs.Parses.{drop-head, drop-front, reads-numbers}
@@ -17,7 +17,7 @@ use Rattle.system.proofs.Accepts.{reads-strategies, read-sound}
 use Rattle.system.proofs.Sections.{number-positive}
 
 -- number 0 is no fault's
-pub fault-not-zero : (f : Fault) → numberOf f ≡ 0 → ⊥
+pub fault-not-zero : (f : Fault) → faultNumber f ≡ 0 → ⊥
 fault-not-zero f e = let p = number-positive f in omega arith
 
 -- ---- the signature

@@ -6,7 +6,7 @@ use native.Mathlib.Numerals.{add-one}
 use mathlib.Core.Path.{_≡_, refl, sym, ap, _∙_}
 use mathlib.Core.List.{List}
 use lib.ListN.{length, getD}
-use Rattle.system.specs.Fault.{Fault}
+use Rattle.system.specs.Numbers.{Fault}
 use Rattle.system.specs.Reader.{ok, number, times}
 use Rattle.system.specs.Answers.{sectionOf, Inside}
 use Rattle.system.proofs.Parses.{number-missing, number-below, number-above, number-here}

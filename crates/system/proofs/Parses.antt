@@ -12,7 +12,7 @@ use lib.ListN.{length, getD, drop, length-append, drop-of-length-le}
 use lib.Seq.{drop-cons, drop-drop, drop-append-seam}
 use lib.Dec.{ltb, leb}
 use borrow.Author.Tests.{lt-ltb, le-ltb, ltb-true, le-leb, lt-leb, leb-true}
-use Rattle.system.specs.Fault.{Fault, missing}
+use Rattle.system.specs.Numbers.{Fault, missing}
 use Rattle.system.specs.Reader.{Parsed, ok, fault, Parser, _>>=_, after, times, each, outside, word, number}
 
 -- ---- going on after a parser

@@ -8,9 +8,9 @@ use Rattle.system.specs.declared.reader.Section.{Section}
 use Rattle.system.specs.Signature.{Signature}
 use Rattle.system.specs.System.{System}
 use Rattle.system.specs.Format.{encodeStrategies}
-use Rattle.system.specs.Fault.{Fault, range}
+use Rattle.system.specs.Numbers.{Fault, range}
 use Rattle.system.specs.Reader.{Parsed, ok, after, times, each, number, readStrategy, readRules, readSystem, read}
-use Rattle.system.specs.Answers.{signatureOf, sectionOf, scanOf, Inside}
+use Rattle.system.specs.Answers.{signatureOf, sectionOf, sectionsOf, Inside}
 use Rattle.system.proofs.Parses.{ok-after, fault-after}
 use Rattle.system.proofs.Sections.{success, refused}
 use Rattle.system.proofs.NumberSteps.{number-refused}
@@ -35,13 +35,13 @@ module _ (ws : List ℕ) where
   -- ---- a section that is refused
 
   pub scan-refused : {A : Type 0} (o : Parsed A) (on : A → ℕ → Parsed System) → read ws ≡ after o on → (t : Section) → t ≡ sectionOf o → (t .number ≡ 0 → ⊥) →
-      scanOf (read ws) ≡ record { number = t .number; place = t .place; rules = 0 }
+      sectionsOf (read ws) ≡ record { number = t .number; place = t .place; rules = 0 }
   scan-refused o on e t is bad =
       let v = refused o t is bad in
-      ap scanOf (e ∙ fault-after (v .equal) on) ∙ (λ j. record { number = v .number j; place = t .place; rules = 0 })
+      ap sectionsOf (e ∙ fault-after (v .equal) on) ∙ (λ j. record { number = v .number j; place = t .place; rules = 0 })
 
   pub number-bad : (f : Fault) (low high i : ℕ) (on : ℕ → ℕ → Parsed System) → read ws ≡ after (number ws f low high i) on → (r : ℕ) → r ≡ sectionOf (number ws f low high i) .number →
-      (r ≡ 0 → ⊥) → scanOf (read ws) ≡ record { number = r; place = i; rules = 0 }
+      (r ≡ 0 → ⊥) → sectionsOf (read ws) ≡ record { number = r; place = i; rules = 0 }
   number-bad f low high i on e r is bad =
       scan-refused (number ws f low high i) on e (record { number = r; place = i }) (sym (number-refused ws f low high i r is bad)) bad
 
@@ -90,10 +90,10 @@ module _ (ws : List ℕ) where
         record { strategies = x .value; rest = e ∙ ok-after (x .equal) (afterStrategies (signatureOf ws)); place = strategies-end ws (signatureOf ws) (n + 2) (x .equal) .0 }
 
     pub scan-whole : AfterArities n → (o : Section) → AfterStrategies n o → (t : Section) → t ≡ sectionOf (readRules ws (signatureOf ws) (o .place)) → t .number ≡ 0 →
-        scanOf (read ws) ≡ record { number = 0; place = t .place; rules = o .place }
+        sectionsOf (read ws) ≡ record { number = 0; place = t .place; rules = o .place }
     scan-whole h o s t it whole =
         let x = success (readRules ws (signatureOf ws) (o .place)) t it whole in
         let l = h .1 in
         let q = s .place in
         let e : length (signatureOf ws) + 2 + length (encodeStrategies (s .strategies)) ≡ o .place = omega arith in
-        ap scanOf (s .rest ∙ ok-after (x .equal) _) ∙ (λ j. record { number = 0; place = t .place; rules = e j })
+        ap sectionsOf (s .rest ∙ ok-after (x .equal) _) ∙ (λ j. record { number = 0; place = t .place; rules = e j })

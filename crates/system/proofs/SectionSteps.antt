@@ -12,7 +12,7 @@ use Rattle.system.specs.declared.reader.Section.{Section}
 use Rattle.system.specs.declared.reader.Side.{Side}
 use Rattle.system.specs.Signature.{Signature}
 use Rattle.system.specs.System.{Rule}
-use Rattle.system.specs.Fault.{Fault, range, entry}
+use Rattle.system.specs.Numbers.{Fault, range, entry}
 use Rattle.system.specs.Reader.{Parsed, ok, fault, after, Reading, times, number, readStrategy, readWords, readSide, readRule, readRules, readEnd}
 use Rattle.system.specs.Answers.{sectionOf, sideOf, Inside}
 use Rattle.system.proofs.Parses.{ok-after, fault-after}

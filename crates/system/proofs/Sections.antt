@@ -7,13 +7,13 @@ use mathlib.Core.List.{List, _∷_}
 use lib.ListN.{length, getD, drop, drop-of-length-le}
 use lib.Seq.{drop-cons}
 use Rattle.system.specs.declared.reader.Section.{Section}
-use Rattle.system.specs.Fault.{Fault, missing, range, entry, unknown, unbalanced, variableHead, unbound, trailing, numberOf}
+use Rattle.system.specs.Numbers.{Fault, missing, range, entry, unknown, unbalanced, variableHead, unbound, trailing, faultNumber}
 use Rattle.system.specs.Reader.{Parsed, ok, fault, Parser, after, times, each}
 use Rattle.system.specs.Answers.{sectionOf}
 use Rattle.system.proofs.Parses.{fault-after, none-times, times-step, times-fault, none-each, each-step, each-fault}
 
 -- no fault has number 0
-pub number-positive : (f : Fault) → 0 < numberOf f
+pub number-positive : (f : Fault) → 0 < faultNumber f
 number-positive missing = omega arith
 number-positive range = omega arith
 number-positive entry = omega arith
@@ -31,7 +31,7 @@ pub record Success {A : Type 0} (o : Parsed A) (t : Section) : Type 0 where
 pub record Refused {A : Type 0} (o : Parsed A) (t : Section) : Type 0 where
   pub what : Fault
   pub equal : o ≡ fault what (t .place)
-  pub number : numberOf what ≡ t .number
+  pub number : faultNumber what ≡ t .number
 
 pub success : {A : Type 0} (o : Parsed A) (t : Section) → t ≡ sectionOf o → t .number ≡ 0 → Success o t
 success (ok a i) t is e = record { value = a; equal = ap (λ s. ok a (s .place)) (sym is) }
@@ -42,7 +42,7 @@ refused (ok a i) t is bad = absurd (bad (ap (λ s. s .number) is))
 refused (fault f i) t is bad = record { what = f; equal = ap (λ s. fault f (s .place)) (sym is); number = ap (λ s. s .number) (sym is) }
 
 -- the section of that fault
-told : {A : Type 0} {o : Parsed A} {t : Section} (v : Refused o t) → record { number = numberOf (v .what); place = t .place } ≡ t
+told : {A : Type 0} {o : Parsed A} {t : Section} (v : Refused o t) → record { number = faultNumber (v .what); place = t .place } ≡ t
 told {t} v = λ j. record { number = v .number j; place = t .place }
 
 -- a part that is refused refuses what it is a part of

@@ -11,7 +11,7 @@ use lib.Dec.{eqb}
 use borrow.Author.Tests.{ne-eqb}
 use Rattle.system.specs.declared.reader.Hand.{Hand}
 use Rattle.system.specs.Signature.{Signature, arity}
-use Rattle.system.specs.Fault.{Fault}
+use Rattle.system.specs.Numbers.{Fault}
 use Rattle.system.specs.Reader.{Parsed, ok, fault, after, Reading, sideFault, learn, readWords}
 use Rattle.system.specs.Answers.{sideOf, numberOr0}
 use Rattle.system.proofs.Parses.{word-here, word-missing, word-refused}

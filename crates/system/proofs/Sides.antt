@@ -7,12 +7,14 @@ use mathlib.Core.Bool.{Bool, true, false}
 use mathlib.Core.Option.{none}
 use mathlib.Core.List.{List, [], _∷_}
 use lib.ListN.{length, getD}
-use Rattle.system.specs.Signature.{Signature, Symbol, arity, variable, variables}
+use Rattle.system.specs.Signature.{Signature, Symbol, arity}
+use Rattle.system.specs.Limits.{variable, variables}
 use Rattle.system.specs.Terms.{Forest, empty, more, Word, Stands, first, later, Numbered, end, name, next}
 use Rattle.system.specs.declared.reader.Hand.{Hand}
 use Rattle.system.specs.declared.reader.Hand.the-variants.{Left, Right}
 use Rattle.system.specs.Reader.{ok, sideFault, learn, Reading, readWords, word}
 use Rattle.system.proofs.Signatures.{symbol-below}
+use Rattle.system.proofs.Members.{numbered-le}
 use Rattle.system.proofs.SideWords.{Variable, side-symbol, variable-passes, passes-due, passes-word, left-variable, variable-left, right-variable, variable-right, learn-symbol, learn-variable, learn-right}
 use Rattle.system.proofs.Parses.{ok-value, ok-place, not-fault, after-ok, Between, between-none, between-end, between-join, between-split, between-ok, Reads, one, reads-word}
 
@@ -42,11 +44,6 @@ pub taken-cons : (g : Signature) (h : Hand) (start : Bool) (due : ℕ) {known kn
 taken-cons g h start due {known} {known′} {last} {w} {ws} c e t =
     let d : suc due - 1 + arity g w ≡ due + arity g w = omega arith in
     takes {last = last} {ws = ws} c (rw (d, e) t)
-
-pub numbered-le : {n m : ℕ} {ws : List ℕ} → Numbered n m ws → n ≤ m
-numbered-le end = omega arith
-numbered-le (name l h) = numbered-le h
-numbered-le (next e h) = let q = numbered-le h in omega arith
 
 module _ (g : Signature) (below : length g ≤ variable) where
   -- the left side: its variables are numbered from 0, and it starts with a symbol

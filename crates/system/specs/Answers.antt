@@ -11,11 +11,12 @@ use Rattle.system.specs.declared.Answer.{Answer}
 use Rattle.system.specs.declared.Shape.{Shape}
 use Rattle.system.specs.declared.reader.Section.{Section}
 use Rattle.system.specs.declared.reader.Side.{Side}
+use Rattle.system.specs.declared.reader.Sections.{Sections}
 use Rattle.system.specs.declared.reader.Scan.{Scan}
 use Rattle.system.specs.Signature.{Signature, arity, argument, subterm}
 use Rattle.system.specs.System.{System, head}
 use Rattle.system.specs.Format.{encodeStrategies}
-use Rattle.system.specs.Fault.{Fault, numberOf}
+use Rattle.system.specs.Numbers.{Fault, taken, broken, numberOf, faultNumber}
 use Rattle.system.specs.Reader.{Parsed, ok, fault, Reading, read}
 use Rattle.system.specs.TermCheck.{termFault}
 
@@ -23,8 +24,8 @@ use Rattle.system.specs.TermCheck.{termFault}
 
 -- "For 1 to 8 the place is the index of the word being read"; "On 0 the reader's place is the book's length", the index reached
 abbrev pub answerOf : Parsed System → Answer
-answerOf (ok s i) = record { number = 0; place = i; steps = 0 }
-answerOf (fault f i) = record { number = numberOf f; place = i; steps = 0 }
+answerOf (ok s i) = record { number = numberOf taken; place = i; steps = 0 }
+answerOf (fault f i) = record { number = faultNumber f; place = i; steps = 0 }
 
 -- how many symbols and rules an accepted book has, and at which index its first strategy and its first rule start
 abbrev pub shapeOf : Parsed System → Shape
@@ -43,8 +44,8 @@ signatureOf ws = take (getD ws 0 0) (drop 1 ws)
 -- ---- a section of a book: number 0 and the index after it, or the first fault
 
 abbrev pub sectionOf : {A : Type 0} → Parsed A → Section
-sectionOf (ok a i) = record { number = 0; place = i }
-sectionOf (fault f i) = record { number = numberOf f; place = i }
+sectionOf (ok a i) = record { number = numberOf taken; place = i }
+sectionOf (fault f i) = record { number = faultNumber f; place = i }
 
 -- a word stands at i, and lies between two numbers
 pub record Inside (ws : List ℕ) (i low high : ℕ) : Type 0 where
@@ -53,27 +54,27 @@ pub record Inside (ws : List ℕ) (i low high : ℕ) : Type 0 where
   pub below : getD ws i 0 ≤ high
 
 abbrev pub sideOf : Parsed Reading → Side
-sideOf (ok r i) = record { number = 0; place = i; known = r .known }
-sideOf (fault f i) = record { number = numberOf f; place = i; known = 0 }
+sideOf (ok r i) = record { number = numberOf taken; place = i; known = r .known }
+sideOf (fault f i) = record { number = faultNumber f; place = i; known = 0 }
 
 -- the whole book, with the index of the count of its rules
+abbrev pub sectionsOf : Parsed System → Sections
+sectionsOf (ok s i) = record { number = numberOf taken; place = i; rules = length (s .arities) + 2 + length (encodeStrategies (s .strategies)) }
+sectionsOf (fault f i) = record { number = faultNumber f; place = i; rules = 0 }
+
+-- the book read once: the reader's answer and the shape
 abbrev pub scanOf : Parsed System → Scan
-scanOf (ok s i) = record { number = 0; place = i; rules = length (s .arities) + 2 + length (encodeStrategies (s .strategies)) }
-scanOf (fault f i) = record { number = numberOf f; place = i; rules = 0 }
+scanOf o = record { answer = answerOf o; shape = shapeOf o }
 
 abbrev pub numberOr0 : Option Fault → ℕ
 numberOr0 none = 0
-numberOr0 (some f) = numberOf f
+numberOr0 (some f) = faultNumber f
 
 -- ---- checking a term: 9 and the place, or 0 and the term's length
 
-abbrev pub brokenAt : List ℕ → Option ℕ → Section
-brokenAt t none = record { number = 0; place = length t }
-brokenAt t (some i) = record { number = 9; place = i }
-
 abbrev pub wholeAnswer : List ℕ → Option ℕ → Answer
-wholeAnswer t none = record { number = 0; place = length t; steps = 0 }
-wholeAnswer t (some i) = record { number = 9; place = i; steps = 0 }
+wholeAnswer t none = record { number = numberOf taken; place = length t; steps = 0 }
+wholeAnswer t (some i) = record { number = numberOf broken; place = i; steps = 0 }
 
 -- the book first
 unfoldable pub termAnswer : List ℕ → List ℕ → Answer

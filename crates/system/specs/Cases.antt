@@ -8,7 +8,7 @@ use Rattle.system.specs.Reader.{read}
 use Rattle.system.specs.Answers.{answerOf, termAnswer}
 
 -- a case by its number in 01: what the definitions give and what 01 says, each the answer's three numbers (number, place, steps)
--- and, where words are handed back, those words after them
+-- and, where words are handed back, those words after them. The number in 01 is for the reader only: nothing compares it
 pub record Case : Type 0 where
   pub label : ℕ
   pub got : List ℕ

@@ -6,11 +6,12 @@ use mathlib.Core.Option.{Option, none, some}
 use mathlib.Core.List.{List, [], _∷_}
 use lib.ListN.{length, getD}
 use lib.Dec.{ltb, leb, eqb}
-use Rattle.system.specs.Signature.{Signature, isSymbol, arity, variable, variables}
+use Rattle.system.specs.Limits.{maxSymbols, maxArity, maxEntries, maxRules, sideWords, variable, variables}
+use Rattle.system.specs.Signature.{Signature, isSymbol, arity}
 use Rattle.system.specs.System.{System, Rule}
 use Rattle.system.specs.declared.reader.Hand.{Hand}
 use Rattle.system.specs.declared.reader.Hand.the-variants.{Left, Right}
-use Rattle.system.specs.Fault.{Fault, missing, range, entry, unknown, unbalanced, variableHead, unbound, trailing}
+use Rattle.system.specs.Numbers.{Fault, missing, range, entry, unknown, unbalanced, variableHead, unbound, trailing}
 
 pub data Parsed (A : Type 0) : Type 0 where
   ok : A → ℕ → Parsed A
@@ -93,7 +94,7 @@ module _ (ws : List ℕ) where
   -- a length 0 to 16 and that many entries, each 0 up to the arity
   unfoldable pub readStrategy : ℕ → Parser (List ℕ)
   readStrategy a = do
-    n ← number range 0 16
+    n ← number range 0 maxEntries
     times n (number entry 0 a)
 
   -- n words more of a side, where `due` subterms are still to come and `known` variables are known
@@ -108,7 +109,7 @@ module _ (ws : List ℕ) where
   -- a length 1 to 64 and that many words, which are one term
   unfoldable pub readSide : Signature → Hand → ℕ → Parser Reading
   readSide g h known = do
-    n ← number range 1 64
+    n ← number range 1 sideWords
     readWords g h true n 1 known
 
   unfoldable pub readRule : Signature → Parser Rule
@@ -124,15 +125,15 @@ module _ (ws : List ℕ) where
   -- a count 0 to 128, that many rules, and nothing after them
   unfoldable pub readRules : Signature → Parser (List Rule)
   readRules g = do
-    n ← number range 0 128
+    n ← number range 0 maxRules
     rules ← times n (readRule g)
     _ ← readEnd
     pure rules
 
   unfoldable pub readSystem : Parser System
   readSystem = do
-    n ← number range 1 256
-    arities ← times n (number range 0 8)
+    n ← number range 1 maxSymbols
+    arities ← times n (number range 0 maxArity)
     _ ← number range n n
     strategies ← each readStrategy arities
     rules ← readRules arities

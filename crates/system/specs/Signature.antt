@@ -6,17 +6,11 @@ use mathlib.Core.Bool.{Bool, true}
 use mathlib.Core.List.{List, [], _∷_, _++_}
 use lib.ListN.{length, getD, take, drop}
 use lib.Dec.{ltb}
+pub use Rattle.system.specs.Limits.{variable, variables}
 
 -- the arity (01: argument count) of each symbol (01: name)
 abbrev pub Signature : Type 0
 Signature = List ℕ
-
--- "32768 + k, with k from 0 to 15, is placeholder k": where the variables (01: placeholders) start, and how many there are
-abbrev pub variable : ℕ
-variable = 32768
-
-abbrev pub variables : ℕ
-variables = 16
 
 -- "A word below S is a name"
 unfoldable pub isSymbol : Signature → ℕ → Bool

@@ -4,7 +4,8 @@ use mathlib.Core.List.{List, [], _∷_, _++_}
 use mathlib.Core.Bool.{cond}
 use lib.ListN.{getD}
 use lib.Dec.{ltb}
-use Rattle.system.specs.Signature.{Signature, variable}
+use Rattle.system.specs.Signature.{Signature}
+use Rattle.system.specs.Limits.{variable}
 
 -- a rewrite rule: its left and its right side
 pub record Rule : Type 0 where

@@ -4,6 +4,7 @@ use mathlib.Core.Option.{Option, none, some}
 use mathlib.Core.Bool.{true, false, _&&_}
 use mathlib.Core.List.{List, [], _∷_}
 use lib.Dec.{ltb}
+use Rattle.system.specs.Limits.{termWords}
 use Rattle.system.specs.Signature.{Signature, isSymbol, arity}
 
 -- with `due` subterms to come from index i on: "the index of the first cue word that can't stand there, or the cue's length if it
@@ -12,4 +13,4 @@ unfoldable pub termFault : Signature → ℕ → List ℕ → ℕ → Option ℕ
 termFault g zero [] i = none
 termFault g (suc due) [] i = some i
 termFault g zero (w ∷ ws) i = some i
-termFault g (suc due) (w ∷ ws) i = elim (ltb i 4096 && isSymbol g w) [ true ↦ termFault g (due + arity g w) ws (suc i) | false ↦ some i ]
+termFault g (suc due) (w ∷ ws) i = elim (ltb i termWords && isSymbol g w) [ true ↦ termFault g (due + arity g w) ws (suc i) | false ↦ some i ]

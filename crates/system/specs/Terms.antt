@@ -4,7 +4,8 @@ use mathlib.Core.Path.{_≡_}
 use mathlib.Core.Logic.{_⊎_}
 use mathlib.Core.List.{List, [], _∷_}
 use lib.ListN.{length, getD}
-use Rattle.system.specs.Signature.{Signature, Symbol, arity, variable, variables}
+use Rattle.system.specs.Limits.{maxSymbols, maxArity, maxEntries, maxRules, sideWords, variable, variables}
+use Rattle.system.specs.Signature.{Signature, Symbol, arity}
 use Rattle.system.specs.System.{System, Rule, rule, strategy}
 
 -- `Forest g P k ws`: the words are k whole terms, one after the other, and P holds of each word
@@ -16,7 +17,8 @@ pub data Forest (g : Signature) (P : ℕ → Type 0) : ℕ → List ℕ → Type
 abbrev pub Word : Signature → ℕ → Type 0
 Word g w = Symbol g w ⊎ (variable ≤ w)
 
--- a whole term ("written the same way, with no placeholders"); a whole side of a rule
+-- a whole term ("written the same way, with no placeholders"); a whole side of a rule. 01's "in 1 to 4,096 words" is not said here but for
+-- the 1: the upper bound is said beside it wherever a term is promised to be whole, and it is what the check of a term looks for
 abbrev pub Whole : Signature → List ℕ → Type 0
 Whole g ws = Forest g (Symbol g) 1 ws
 
@@ -43,8 +45,8 @@ pub record Lawful (g : Signature) (r : Rule) : Type 0 where
   pub headed : Symbol g (getD (r .lhs) 0 variable)
   pub left : Side g (r .lhs)
   pub right : Side g (r .rhs)
-  pub shortLeft : length (r .lhs) ≤ 64
-  pub shortRight : length (r .rhs) ≤ 64
+  pub shortLeft : length (r .lhs) ≤ sideWords
+  pub shortRight : length (r .rhs) ≤ sideWords
   pub numbered : Numbered 0 count (r .lhs)
   pub known : (w : ℕ) → Stands w (r .rhs) → w < variable + count
 
@@ -52,12 +54,12 @@ pub record Lawful (g : Signature) (r : Rule) : Type 0 where
 pub record WellFormed (s : System) : Type 0 where
   -- "a count S, 1 to 256, then S argument counts, each 0 to 8"
   pub some : 1 ≤ length (s .arities)
-  pub names : length (s .arities) ≤ 256
-  pub narrow : (f : ℕ) → arity (s .arities) f ≤ 8
+  pub names : length (s .arities) ≤ maxSymbols
+  pub narrow : (f : ℕ) → arity (s .arities) f ≤ maxArity
   -- "a count that must equal S, then for each name a length 0 to 16 and that many entries, each 0 up to the name's argument count"
   pub orders : length (s .strategies) ≡ length (s .arities)
-  pub short : (f : ℕ) → length (strategy s f) ≤ 16
+  pub short : (f : ℕ) → length (strategy s f) ≤ maxEntries
   pub entries : (f e : ℕ) → Stands e (strategy s f) → e ≤ arity (s .arities) f
   -- "a count 0 to 128"
-  pub few : length (s .rules) ≤ 128
+  pub few : length (s .rules) ≤ maxRules
   pub lawful : (k : ℕ) → k < length (s .rules) → Lawful (s .arities) (rule s k)

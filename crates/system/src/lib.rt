@@ -6,9 +6,14 @@ ghost use mathlib.Core.Path.{_≡_};
 ghost use Rattle.system.specs.Answers.{answerOf, shapeOf, termAnswer, argumentAt, startOf, partOf, LiesIn};
 ghost use Rattle.system.specs.Reader.{read};
 
-mod reader;
+pub mod layout;
+pub mod limits;
+pub mod numbers;
+pub mod reader;
 pub mod terms;
 pub mod words;
+
+use crate::numbers::TAKEN;
 
 // 01: "Each answer is three numbers: number, place, steps."
 pub struct Answer {
@@ -31,11 +36,7 @@ pub fn read(book: &[u16]) -> Answer
     ensures { λ r. ⌜ r ≡ answerOf (read (now (book .entry))) ⌝ }
 {
     let s = reader::scan_book(book);
-    Answer {
-        number: s.number,
-        place: s.place,
-        steps: 0,
-    }
+    s.answer
 }
 
 // The shape of an accepted book.
@@ -43,22 +44,7 @@ pub fn shape_of(book: &[u16]) -> Shape
     ensures { λ r. ⌜ r ≡ shapeOf (read (now (book .entry))) ⌝ }
 {
     let s = reader::scan_book(book);
-    if s.number != 0 {
-        return Shape {
-            symbols: 0,
-            strategies: 0,
-            rules: 0,
-            first_rule: 0,
-        };
-    }
-    let n = words::symbols(book);
-    let at = s.rules;
-    Shape {
-        symbols: n,
-        strategies: n + 2,
-        rules: words::wide(book[at]),
-        first_rule: at + 1,
-    }
+    s.shape
 }
 
 // Checks a term (01: a cue) against a book: the reader's answer where the book is refused, else 9 and the index of the first word
@@ -67,19 +53,7 @@ pub fn check_term(book: &[u16], term: &[u16]) -> Answer
     ensures { λ r. ⌜ r ≡ termAnswer (now (book .entry)) (now (term .entry)) ⌝ }
 {
     let s = reader::scan_book(book);
-    if s.number != 0 {
-        return Answer {
-            number: s.number,
-            place: s.place,
-            steps: 0,
-        };
-    }
-    let b = terms::first_break(book, term);
-    Answer {
-        number: b.number,
-        place: b.place,
-        steps: 0,
-    }
+    terms::check(book, s, term)
 }
 
 // Argument i (from 1) of the term's first symbol, as a part of the caller's own slice. It is empty exactly when the book or the
@@ -89,7 +63,7 @@ pub fn argument<'a>(book: &[u16], term: &'a [u16], i: usize) -> &'a [u16]
     ensures place { λ r. ⌜ LiesIn (term .entry) (startOf (argumentAt (now (book .entry)) (now (term .entry)) i)) r ⌝ }
 {
     let c = check_term(book, term);
-    if c.number != 0 {
+    if c.number != TAKEN {
         return &term[0..0];
     }
     if i == 0 {

@@ -1,51 +1,65 @@
 // Whether words are one whole term.
 ghost use mathlib.Core.Path.{_≡_};
-ghost use Rattle.system.specs.Answers.{signatureOf, brokenAt};
+ghost use Rattle.system.specs.Answers.{signatureOf, scanOf, wholeAnswer, termAnswer};
+ghost use Rattle.system.specs.Numbers.{broken, numberOf};
+ghost use Rattle.system.specs.Reader.{read};
 ghost use Rattle.system.specs.TermCheck.{termFault};
-use crate::reader::Section;
+use crate::Answer;
+use crate::limits::TERM_WORDS;
+use crate::numbers::BROKEN;
+use crate::numbers::TAKEN;
+use crate::reader::Scan;
 use crate::words::arity;
 use crate::words::is_symbol;
 
-// The most words that a term may have.
-const LIMIT: usize = 4096;
+fn broken(place: usize) -> Answer
+    ensures { λ r. ⌜ r ≡ record { number = numberOf broken; place = place; steps = 0 } ⌝ }
+{
+    Answer {
+        number: BROKEN,
+        place,
+        steps: 0,
+    }
+}
 
 // 9 and the index of the first word that can't stand there, or 0 and the length.
-pub fn first_break(book: &[u16], term: &[u16]) -> Section
-    ensures { λ r. ⌜ r ≡ brokenAt (now (term .entry)) (termFault (signatureOf (now (book .entry))) 1 (now (term .entry)) 0) ⌝ }
+pub fn first_break(book: &[u16], term: &[u16]) -> Answer
+    ensures { λ r. ⌜ r ≡ wholeAnswer (now (term .entry)) (termFault (signatureOf (now (book .entry))) 1 (now (term .entry)) 0) ⌝ }
 {
     let mut due: usize = 1;
     let mut i = 0;
     while i < term.len() {
         if due == 0 {
-            return Section {
-                number: 9,
-                place: i,
-            };
+            return broken(i);
         }
-        if LIMIT <= i {
-            return Section {
-                number: 9,
-                place: i,
-            };
+        if TERM_WORDS <= i {
+            return broken(i);
         }
         let w = term[i];
         if !is_symbol(book, w) {
-            return Section {
-                number: 9,
-                place: i,
-            };
+            return broken(i);
         }
         due = due - 1 + arity(book, w);
         i += 1;
     }
     if due != 0 {
-        return Section {
-            number: 9,
-            place: i,
-        };
+        return broken(i);
     }
-    Section {
-        number: 0,
+    Answer {
+        number: TAKEN,
         place: i,
+        steps: 0,
     }
+}
+
+// Checks a term against a book that was scanned.
+pub fn check(book: &[u16], scan: Scan, term: &[u16]) -> Answer
+    requires { ⌜ scan ≡ scanOf (read (now book)) ⌝ }
+    ensures { λ r. ⌜ r ≡ termAnswer (now (book .entry)) (now (term .entry)) ⌝ }
+{
+    let a = scan.answer;
+    if a.number != TAKEN {
+        return a;
+    }
+    first_break(book, term)
 }

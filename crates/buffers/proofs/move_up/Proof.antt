@@ -60,8 +60,9 @@ same-length c = search needs
 returns : tie.Need-returns Inv-loop μ-loop
 returns c =
     let l = c .before .loop in
+    let a = c .before .before .args in
     let e : l .i ≡ 0 = omega arith in
-    l .inv .2 ∙ rw (e, add-zero, add-zero, sub-zero)
+    l .inv .2 ∙ rw (e, add-zero (a .to), add-zero (a .from), sub-zero)
 
 pub move-up-spec : {M : Type 1} → statement M
 move-up-spec =

@@ -3,7 +3,7 @@ use Prim.Native.Nat.{_≤_}
 use Rattle.evaluation.proofs.Expanding.{Checks, checks, checks-accepted, cramped-answer, cramped-work, refuses, evaluates, size-bounded, whole-length, whole-front, same-result, finishes}
 use Rattle.evaluation.specs.Evaluation.{evaluation}
 use Rattle.evaluation.specs.Expansion.{result}
-use Rattle.matching.specs.Accepted.{systemOf}
+use Rattle.system.specs.Book.{systemOf}
 use Rattle.system.specs.Answers.{termAnswer}
 use lib.Seq.{length-take-le}
 use lib.ListN.{length}
@@ -64,7 +64,12 @@ part-run-end c = search needs
 run-requires : tie.Need-run-requires
 run-requires c κs = let a = c .before .before .before .before .before .before .before .before .before .before .before .args in
     let k = checked (c .before .before) in
-    (checks-accepted (a .book .now) (a .term .now) k (c .before .shape-of .result) (c .before .shape-of .ensures), k .whole, k .bounded, length-take-le 8192 (a .work .now) (c .before .before .before .before .before .if2 .left))
+    record {
+      accepted = checks-accepted (a .book .now) (a .term .now) k (c .before .shape-of .result) (c .before .shape-of .ensures);
+      whole = k .whole;
+      bounded = k .bounded;
+      words = length-take-le 8192 (a .work .now) (c .before .before .before .before .before .if2 .left);
+    }
 
 finish-requires : tie.Need-finish-requires
 finish-requires c κs = let a = c .before .before .before .before .before .before .before .before .before .before .before .before .before .before .before .before .args in

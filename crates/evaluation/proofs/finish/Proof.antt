@@ -1,6 +1,6 @@
 -- `finish` meets its contract.
 use Rattle.buffers.specs.Words.{over}
-use Rattle.evaluation.proofs.Cleared.{front-cleared}
+use Rattle.evaluation.proofs.run.Cleared.{front-cleared}
 use native.Mathlib.Omega.{arith}
 use lib.ListN.{take}
 use native.Mathlib.Nat.{sub-zero}

@@ -8,7 +8,7 @@ use Rattle.buffers.specs.Words.{pad}
 use Rattle.system.specs.System.{System}
 use Rattle.system.specs.Terms.{Whole}
 use Rattle.evaluation.specs.machine.Machine.{strategyAt, position, Opened}
-use Rattle.evaluation.specs.Limits.{areaWords, levels, termWords}
+use Rattle.system.specs.Limits.{areaWords, levels, termWords}
 
 unfoldable pub area : List ℕ → List ℕ → List ℕ
 area t counts = pad termWords t ++ pad termWords counts

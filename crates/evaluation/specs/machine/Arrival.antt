@@ -6,23 +6,48 @@ use mathlib.Core.List.{List, [], _∷_, _++_}
 use lib.ListN.{length, drop}
 use Rattle.system.specs.Signature.{span}
 use Rattle.system.specs.System.{System}
-use Rattle.matching.specs.Matching.{redex}
+use Rattle.matching.specs.Matching.{Redex, redex}
 use Rattle.matching.specs.Stretches.{matchOf}
+use Rattle.system.specs.Limits.{levels}
+use Rattle.evaluation.specs.declared.machine.State.{State}
 use Rattle.evaluation.specs.declared.machine.Advanced.{Advanced}
+use Rattle.evaluation.specs.declared.machine.Stop.{Stop}
 use Rattle.evaluation.specs.declared.machine.Stop.the-variants.{Finished, Deep, Ready}
-use Rattle.evaluation.specs.machine.Machine.{Next, finished, deep, ready, position}
-use Rattle.evaluation.specs.machine.Area.{area, Stored, Holds}
+use Rattle.evaluation.specs.machine.Machine.{Next, finished, deep, ready, position, advance}
+use Rattle.evaluation.specs.machine.Area.{area, termIn, outerIn, countIn, Stored, Holds}
 
--- at the end the counts are gone; where it would be too deep the area holds the state as it stands; where a rewrite is next it holds the
--- state just before it, its 0 counted as begun
-abbrev pub Arrived : System → List ℕ → ℕ → Next → Advanced → List ℕ → List ℕ → Type 0
-Arrived s t n finished r ws positions = (r .stop ≡ Finished) × (ws ≡ area t [])
-Arrived s t n deep r ws positions = (r .stop ≡ Deep) × Stored s ws n (r .level)
-Arrived s t n (ready outer c x) r ws positions =
-    (r .stop ≡ Ready) ×
-    (r .level ≡ length outer) ×
-    (r .found ≡ matchOf s (drop (position s t outer 0) t)) ×
-    (redex s (drop (position s t outer 0) t) ≡ some x) ×
-    (ws ≡ area t (outer ++ c ∷ [])) ×
-    Holds s ws positions n (r .level) ×
-    (r .width ≡ span (s .arities) (drop (position s t outer 0) t) 1)
+-- where the machine comes to from the state in an area
+abbrev pub comes : System → State → List ℕ → Next
+comes s at ws = advance s levels (outerIn ws (at .level) ++ countIn ws (at .level) ∷ []) (termIn ws (at .n)) 0
+
+-- its end: the counts are gone
+pub record FinishedAt (s : System) (at : State) (ws ws′ : List ℕ) : Type 0 where
+  pub next : comes s at ws ≡ finished
+  pub stands : ws′ ≡ area (termIn ws (at .n)) []
+
+-- an argument that would be opened too deep: the area holds the state as it stands
+pub record DeepAt (s : System) (at : State) (ws : List ℕ) (level : ℕ) (ws′ : List ℕ) : Type 0 where
+  pub next : comes s at ws ≡ deep
+  pub stored : Stored s ws′ (at .n) level
+
+-- a rewrite: the area holds the state just before it, its 0 counted as begun
+pub record ReadyAt (s : System) (at : State) (ws : List ℕ) (r : Advanced) (ws′ positions′ : List ℕ) : Type 0 where
+  pub outer : List ℕ
+  pub begun : ℕ
+  pub x : Redex
+  pub next : comes s at ws ≡ ready outer begun x
+  pub level : r .level ≡ length outer
+  pub found : r .found ≡ matchOf s (drop (position s (termIn ws (at .n)) outer 0) (termIn ws (at .n)))
+  pub matched : redex s (drop (position s (termIn ws (at .n)) outer 0) (termIn ws (at .n))) ≡ some x
+  pub width : r .width ≡ span (s .arities) (drop (position s (termIn ws (at .n)) outer 0) (termIn ws (at .n))) 1
+  pub stands : ws′ ≡ area (termIn ws (at .n)) (outer ++ begun ∷ [])
+  pub holds : Holds s ws′ positions′ (at .n) (r .level)
+
+-- which of them, by where it stopped
+abbrev pub Arrives : Stop → System → State → List ℕ → Advanced → List ℕ → List ℕ → Type 0
+Arrives Finished s at ws r ws′ positions′ = FinishedAt s at ws ws′
+Arrives Deep s at ws r ws′ positions′ = DeepAt s at ws (r .level) ws′
+Arrives Ready s at ws r ws′ positions′ = ReadyAt s at ws r ws′ positions′
+
+abbrev pub Advances : System → State → List ℕ → Advanced → List ℕ → List ℕ → Type 0
+Advances s at ws r ws′ positions′ = Arrives (r .stop) s at ws r ws′ positions′

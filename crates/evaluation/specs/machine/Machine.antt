@@ -1,4 +1,4 @@
--- The evaluation as a machine that can stop between any two turns and go on. A state is a run and, for each open level, outermost first,
+-- The evaluation as a machine that can stop between any two transitions and go on. A state is a run and, for each open level, outermost first,
 -- how many entries of its strategy are begun. The level below starts at the argument that the entry last begun tells of.
 use Prim.Native.Nat.{ℕ, zero, suc, _<_}
 use mathlib.Core.Path.{_≡_}
@@ -8,7 +8,9 @@ use lib.ListN.{length, getD, drop}
 use Rattle.system.specs.Signature.{argument}
 use Rattle.system.specs.System.{System, strategy}
 use Rattle.matching.specs.Matching.{Redex, redex}
-use Rattle.evaluation.specs.Evaluation.{Run, Outcome, settled, stopped, after, rewrite, follow, evaluate, nested}
+use Rattle.evaluation.specs.Evaluation.{Run, Outcome, settled, stopped, after, rewrite, follow, evaluate}
+use Rattle.system.specs.Numbers.{spent, nested}
+use Rattle.system.specs.Limits.{levels}
 
 -- how many arguments stand before the one that an entry tells of
 abbrev pub others : ℕ → ℕ
@@ -36,13 +38,8 @@ position s t (c ∷ cs) p = position s t cs (down s t p c)
 -- the levels cs are open from p on: at each, the entry last begun is an argument
 pub data Opened (s : System) (t : List ℕ) : ℕ → List ℕ → Type 0 where
   base : {p : ℕ} → Opened s t p []
-  level : {p c i : ℕ} {cs : List ℕ} → c < length (strategyAt s t p) → getD (strategyAt s t p) c 0 ≡ suc i → Opened s t (down s t p (suc c)) cs → Opened s t p (suc c ∷ cs)
-
--- the levels that are left below the levels cs
-unfoldable pub lower : ℕ → List ℕ → ℕ
-lower l [] = l
-lower zero (c ∷ cs) = zero
-lower (suc l) (c ∷ cs) = lower l cs
+  level : {p c i : ℕ} {cs : List ℕ} → c < length (strategyAt s t p) → getD (strategyAt s t p) c 0 ≡ suc i →
+      Opened s t (down s t p (suc c)) cs → Opened s t p (suc c ∷ cs)
 
 -- what is left to do from a state: at the innermost level, then at each level around it
 unfoldable pub resume : System → ℕ → ℕ → List ℕ → ℕ → Run → Outcome
@@ -87,3 +84,13 @@ advance s zero (c ∷ cs) t p = deep
 advance s (suc l) (c ∷ cs) t p =
     let on = scan s (enter s l t) t (drop c (strategyAt s t p)) c p in
     around c (advance s l cs t (down s t p c)) on
+
+-- advance to the next rewrite and rewrite, at most so many times: the whole evaluation is this (`evaluation-iterate`)
+unfoldable pub iterate : System → ℕ → ℕ → List ℕ → Run → Outcome
+iterate s limit zero cs r = stopped spent (r .steps)
+iterate s limit (suc k) cs r =
+    elim (advance s levels cs (r .term) 0) [
+      | finished ↦ settled r
+      | deep ↦ stopped nested (r .steps)
+      | ready outer c x ↦ rewrite s limit (position s (r .term) outer 0) r x (λ r′. iterate s limit k (outer ++ 0 ∷ []) r′)
+    ]

@@ -1,22 +1,25 @@
 -- `first_match` meets its contract.
+use mathlib.Core.Path.{ap, _∙_}
+use Rattle.system.proofs.layout.Accepting.{scan-accepted}
 use Rattle.matching.specs.Stretches.{unset}
-use Rattle.matching.proofs.Shapes.{shape-accepted, refused-nothing}
+use Rattle.matching.proofs.Searches.{refused-nothing}
+use Rattle.matching.proofs.Widths.{fit-match}
 use borrow.Author.Needs.{needs}
 use Rattle.matching.proofs.first_match.Statement.{statement}
 use Rattle.matching.proofs.first_match.Tie as tie
 
-shape-of-requires : tie.Need-shape-of-requires
-shape-of-requires c κs = search needs
+scan-book-requires : tie.Need-scan-book-requires
+scan-book-requires c κs = search needs
 
 returns : tie.Need-returns
 unfolding unset
-returns c = let a = c .before .before .before .before .before .args in let x = c .before .before .shape-of in refused-nothing (a .book .now) (x .result) (x .ensures) (c .if1 .taken) (a .ws .now)
+returns c = let x = c .before .before .scan-book in refused-nothing _ (x .result) (x .ensures) (c .if1 .taken) _
 
 first-rule-requires : tie.Need-first-rule-requires
-first-rule-requires c κs = let a = c .before .before .before .before .before .args in let x = c .before .before .shape-of in shape-accepted (a .book .now) (x .result) (x .ensures) (c .if1 .left)
+first-rule-requires c κs = let x = c .before .before .scan-book in scan-accepted _ (x .result) (x .ensures) (c .if1 .left)
 
 returns-2 : tie.Need-returns-2
-returns-2 c = c .before .first-rule .ensures .match
+returns-2 c = ap (λ y. y .found) (c .before .first-rule .ensures) ∙ fit-match _ _
 
 pub first-match-spec : {M : Type 1} → statement M
-first-match-spec = tie.close (tie.spec shape-of-requires returns first-rule-requires returns-2)
+first-match-spec = tie.close (tie.spec scan-book-requires returns first-rule-requires returns-2)

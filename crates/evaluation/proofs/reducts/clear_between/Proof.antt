@@ -1,5 +1,5 @@
 -- `reducts::clear_between` meets its contract.
-use Rattle.evaluation.proofs.Replacing.{clear-none}
+use Rattle.evaluation.proofs.reducts.Replacing.{clear-none}
 use native.Mathlib.Omega.{arith}
 use borrow.Author.Needs.{needs}
 use Rattle.evaluation.proofs.reducts.clear_between.Statement.{statement}

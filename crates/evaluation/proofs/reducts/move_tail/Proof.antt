@@ -1,5 +1,5 @@
 -- `reducts::move_tail` meets its contract.
-use Rattle.evaluation.proofs.Replacing.{move-none}
+use Rattle.evaluation.proofs.reducts.Replacing.{move-none}
 use native.Mathlib.Omega.{arith}
 use borrow.Author.Needs.{needs}
 use Rattle.evaluation.proofs.reducts.move_tail.Statement.{statement}

@@ -1,10 +1,15 @@
 -- `reducts::replace_subterm` meets its contract.
-use Rattle.evaluation.proofs.Replacing.{second-length, second-within, all-edits}
-use Rattle.evaluation.specs.machine.Rewritten.{side}
-use native.Mathlib.Omega.{arith}
 use borrow.Author.Needs.{needs}
+use Rattle.evaluation.proofs.reducts.Replacing.{second-writable, all-edits}
 use Rattle.evaluation.proofs.reducts.replace_subterm.Statement.{statement}
 use Rattle.evaluation.proofs.reducts.replace_subterm.Tie as tie
+
+-- the places of the code that are behind others: its entry, and the first of the edits
+abbrev entry : tie.After-move-words → tie.Start
+entry c = c .before .before .before .before .before
+
+abbrev first : tie.After-move-tail → tie.After-move-words
+first c = c .before .before .before .before
 
 add-base : tie.Need-add-base
 add-base c = search needs
@@ -34,14 +39,9 @@ move-tail-requires : tie.Need-move-tail-requires
 move-tail-requires c κs = search needs
 
 write-reduct-requires : tie.Need-write-reduct-requires
-write-reduct-requires c κs = let a = c .before .before .before .before .before .before .before .before .before .before .before .args in let q = c .before .before .before .before .before .before .before .before .before .before .before .pre in
-    let l = second-length (a .area .now) (a .n) (a .level) (a .p) (a .width) (a .k) (q .0 .0) (a .starts) (a .lengths) (q .1 .0) (q .1 .1) _ _ (c .before .before .before .before .before .before .before .move-words .ensures) (c .before .before .before .move-tail .ensures) in
-    let r = q .0 .0 in (
-      q .0 .1,
-      second-within (a .area .now) (a .n) (a .level) (a .p) (a .width) (a .k) (q .0 .0) (a .starts) (a .lengths) (q .1 .0) (q .1 .1) _ _ (c .before .before .before .before .before .before .before .move-words .ensures) (c .before .before .before .move-tail .ensures),
-      omega (arith, l, r .within, r .around, r .bounded),
-      omega (arith, q .0 .2, r .within, r .fits),
-    )
+write-reduct-requires c κs =
+    let t = c .before .before .before in
+    second-writable (entry (first t) .pre) _ _ (first t .move-words .ensures) (t .move-tail .ensures)
 
 sub-clear-between : tie.Need-sub-clear-between
 sub-clear-between c = search needs
@@ -59,9 +59,13 @@ same-length : tie.Need-same-length
 same-length c = search needs
 
 returns : tie.Need-returns
-returns c = let a = c .before .before .before .before .before .before .before .before .before .before .before .before .before .before .before .before .before .before .before .before .before .before .args in let q = c .before .before .before .before .before .before .before .before .before .before .before .before .before .before .before .before .before .before .before .before .before .before .pre in
-    all-edits (a .area .now) (a .n) (a .level) (a .p) (a .width) (a .k) (q .0 .0) (a .starts) (a .lengths) (q .1 .0) (q .1 .1) _ _ (c .before .before .before .before .before .before .before .before .before .before .before .before .before .before .before .before .before .before .move-words .ensures) (c .before .before .before .before .before .before .before .before .before .before .before .before .before .before .move-tail .ensures)
-    (side (a .book .now) (a .rhs) (a .size)) (q .0 .2) _ _ _ (c .before .before .before .before .before .before .before .before .before .before .write-reduct .ensures) (c .before .before .before .before .before .before .clear-between .ensures) (c .before .before .clear .ensures)
+returns c =
+    let d = c .before .before in
+    let b = d .before .before .before .before in
+    let w = b .before .before .before .before in
+    let t = w .before .before .before .before in
+    all-edits (entry (first t) .pre) _ _ (first t .move-words .ensures) (t .move-tail .ensures) _ _ _
+    (w .write-reduct .ensures) (b .clear-between .ensures) (d .clear .ensures)
 
 pub replace-subterm-spec : {M : Type 1} → statement M
 replace-subterm-spec =

@@ -3,7 +3,8 @@ use Prim.Native.Nat.{_+_}
 use mathlib.Core.Path.{ap, _∙_}
 use borrow.Author.Needs.{needs}
 use Rattle.buffers.specs.Words.{over, zeros}
-use Rattle.evaluation.proofs.Cleared.{laid-cleared}
+use Rattle.system.specs.Limits.{termWords}
+use Rattle.evaluation.proofs.run.Cleared.{laid-cleared}
 use Rattle.evaluation.proofs.run.clear_state.Statement.{statement}
 use Rattle.evaluation.proofs.run.clear_state.Tie as tie
 
@@ -21,8 +22,11 @@ same-length c = search needs
 
 returns : tie.Need-returns
 returns c =
-    let a = c .before .before .before .before .before .before .before .before .before .args in
-    c .before .before .clear2 .ensures ∙ ap (λ ws. over ws 4096 (zeros (a .level + 1))) (c .before .before .before .before .before .before .clear .ensures) ∙ laid-cleared (a .area .now) (a .n) (a .level) (c .before .before .before .before .before .before .before .before .before .pre)
+    let d = c .before .before in
+    let k = d .before .before .before .before in
+    let e = k .before .before .before in
+    let a = e .args in
+    d .clear2 .ensures ∙ ap (λ ws. over ws termWords (zeros (a .level + 1))) (k .clear .ensures) ∙ laid-cleared (a .area .now) (a .n) (a .level) (e .pre)
 
 pub clear-state-spec : {M : Type 1} → statement M
 clear-state-spec =

@@ -4,7 +4,8 @@ use borrow.Author.Needs.{needs}
 use Rattle.buffers.specs.Words.{over, zeros}
 use lib.ListN.{length}
 use Prim.Native.Nat.{_-_}
-use Rattle.evaluation.proofs.Starts.{filled-up}
+use Rattle.system.specs.Limits.{areaWords}
+use Rattle.evaluation.proofs.run.Starts.{filled-up}
 use Rattle.evaluation.proofs.run.start.Statement.{statement}
 use Rattle.evaluation.proofs.run.start.Tie as tie
 
@@ -22,8 +23,13 @@ same-length c = search needs
 
 returns : tie.Need-returns
 returns c =
-    let a = c .before .before .before .before .before .before .before .before .before .before .args in
-    c .before .before .clear .ensures ∙ ap (λ ws. over ws (length (a .term .now)) (zeros (8192 - length (a .term .now)))) (c .before .before .before .before .before .before .copy-in .ensures) ∙ filled-up (a .area .now) (a .term .now) 8192 (c .before .before .before .before .before .before .before .before .before .before .pre .1) (c .before .before .before .before .before .before .before .before .before .before .pre .0)
+    let d = c .before .before in
+    let k = d .before .before .before .before in
+    let e = k .before .before .before .before in
+    let t = e .args .term .now in
+    d .clear .ensures
+    ∙ ap (λ ws. over ws (length t) (zeros (areaWords - length t))) (k .copy-in .ensures)
+    ∙ filled-up (e .args .area .now) t areaWords (e .pre .1) (e .pre .0)
 
 pub start-spec : {M : Type 1} → statement M
 start-spec = tie.close (tie.spec copy-in-requires sub-clear clear-requires same-length returns)

@@ -1,7 +1,7 @@
 -- `rules::first_rule` meets its contract.
 use mathlib.Core.Logic.{⊎-elim}
 use Rattle.matching.proofs.Searches.{Searched, Walked, search-starts, search-ends, root-differs, walk-starts, matches-here, word-differs, symbol-matched, variable-matched}
-use Rattle.matching.proofs.Books.{Turn, room, turn-of}
+use Rattle.system.proofs.layout.Books.{Turn, room, turn-of}
 use native.Mathlib.Omega.{arith}
 use Prim.Native.Nat.{_-_}
 use Rattle.matching.specs.Stretches.{unset}
@@ -16,7 +16,7 @@ abbrev μ-words : tie.MeasureT-words
 μ-words book shape ws found starts lengths end k at this r lhs width s₀ l₀ j₀ q₀ s l j q = width - j
 
 abbrev Inv-rules : tie.InvT-rules
-Inv-rules book shape ws found₀ starts₀ lengths₀ end₀ k₀ at₀ found starts lengths end k at = Searched book shape ws found starts lengths k at
+Inv-rules book shape ws found₀ starts₀ lengths₀ end₀ k₀ at₀ found starts lengths end k at = Searched book shape ws found starts lengths end k at
 
 abbrev μ-rules : tie.MeasureT-rules
 μ-rules book shape ws found₀ starts₀ lengths₀ end₀ k₀ at₀ found starts lengths end k at = shape .rules - k
@@ -121,7 +121,7 @@ words-again c = let t = turn (c .before .before .before .before .before .before 
     (c .if4 .came)
 
 returns : tie.Need-returns Inv-words μ-words Inv-rules μ-rules
-returns c = search-ends (c .before .before .before .before .before .pre) (c .before .before .rules .end) (c .before .before .rules .inv) (c .if1 .left)
+returns c = search-ends (c .before .before .before .before .before .pre) (c .before .before .rules .inv) (c .if1 .left)
 
 returns-2 : tie.Need-returns-2 Inv-words μ-words Inv-rules μ-rules
 returns-2 c = matches-here (turn (c .before .before .before .before .before)) (c .before .before .before .before .before .before .before .before .rules .inv) (c .before .words .inv) (c .words-test .left)

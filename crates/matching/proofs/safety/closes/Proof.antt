@@ -3,7 +3,7 @@ use borrow.Author.Tests.{not-true, not-false}
 use Rattle.matching.specs.Safety.{idleTest}
 use Rattle.matching.proofs.SafetySteps.{Looked, look-starts, look-ends, look-zero, look-busy, look-idle}
 use mathlib.Core.Path.{sym, _∙_}
-use Rattle.matching.specs.Accepted.{systemOf}
+use Rattle.system.specs.Book.{systemOf}
 use borrow.Author.Needs.{needs}
 use Rattle.matching.proofs.safety.closes.Statement.{statement}
 use Rattle.matching.proofs.safety.closes.Tie as tie

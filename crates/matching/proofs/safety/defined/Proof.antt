@@ -1,11 +1,11 @@
 -- `safety::defined` meets its contract.
 use Rattle.matching.proofs.SafetySteps.{Passed, every-starts, every-ends, every-fails, every-goes, otherHead, defined-every, head-other, head-same}
-use Rattle.matching.proofs.Books.{Turn, room, turn-of}
+use Rattle.system.proofs.layout.Books.{Turn, room, turn-of}
 use mathlib.Core.Bool.{true, false}
 use mathlib.Core.Path.{sym}
 use native.Mathlib.Omega.{arith}
 use Prim.Native.Nat.{_-_}
-use Rattle.matching.specs.Accepted.{systemOf}
+use Rattle.system.specs.Book.{systemOf}
 use borrow.Author.Needs.{needs}
 use Rattle.matching.proofs.safety.defined.Statement.{statement}
 use Rattle.matching.proofs.safety.defined.Tie as tie

@@ -3,7 +3,7 @@ use Rattle.system.proofs.NumberSteps.{numbers-next, numbers-stop}
 use Rattle.system.proofs.Sections.{times-end}
 use Rattle.system.specs.Answers.{sectionOf}
 use Rattle.system.specs.Reader.{times, number}
-use Rattle.system.specs.Fault.{Fault, numberOf}
+use Rattle.system.specs.Numbers.{Fault, faultNumber}
 use lib.ListN.{length}
 use Prim.Native.Nat.{_≤_}
 use native.Mathlib.Omega.{arith}
@@ -13,7 +13,7 @@ use Rattle.system.proofs.reader.read_numbers.Statement.{statement}
 use Rattle.system.proofs.reader.read_numbers.Tie as tie
 
 abbrev Inv-loop : tie.InvT-loop
-Inv-loop book at n high otherwise i₀ left₀ i left = (i ≤ length book) × ((f : Fault) → numberOf f ≡ otherwise → sectionOf (times left (number book f 0 high) i) ≡ sectionOf (times n (number book f 0 high) at))
+Inv-loop book at n high otherwise i₀ left₀ i left = (i ≤ length book) × ((f : Fault) → faultNumber f ≡ otherwise → sectionOf (times left (number book f 0 high) i) ≡ sectionOf (times n (number book f 0 high) at))
 
 abbrev μ-loop : tie.MeasureT-loop
 μ-loop book at n high otherwise i₀ left₀ i left = left

@@ -2,7 +2,7 @@
 use Rattle.system.proofs.SectionSteps.{side-refused, side-words}
 use Rattle.system.specs.Answers.{signatureOf, sideOf, Inside}
 use Rattle.system.specs.Reader.{readWords}
-use Rattle.system.specs.Fault.{range}
+use Rattle.system.specs.Numbers.{range}
 use mathlib.Core.Bool.{true}
 use Prim.Native.Nat.{_+_}
 use native.Mathlib.Omega.{arith}

@@ -2,7 +2,7 @@
 use Rattle.system.proofs.SectionSteps.{strategy-refused, strategy-entries}
 use Rattle.system.specs.Answers.{sectionOf, Inside}
 use Rattle.system.specs.Reader.{times, number}
-use Rattle.system.specs.Fault.{range, entry}
+use Rattle.system.specs.Numbers.{range, entry}
 use Prim.Native.Nat.{_+_}
 use native.Mathlib.Omega.{arith}
 use mathlib.Core.Path.{refl, sym, ap, _∙_}

@@ -2,7 +2,7 @@
 use Rattle.system.proofs.SectionSteps.{rules-refused, rules-bad, rules-surplus, rules-end}
 use Rattle.system.specs.Answers.{signatureOf, sectionOf, Inside}
 use Rattle.system.specs.Reader.{times, readRule}
-use Rattle.system.specs.Fault.{range}
+use Rattle.system.specs.Numbers.{range}
 use Prim.Native.Nat.{_+_}
 use lib.ListN.{getD}
 use native.Mathlib.Omega.{arith}

@@ -1,6 +1,6 @@
 -- The loop keeps: the check of the words from i on, with what is due, answers as that of the whole term.
 use Rattle.system.proofs.TermSteps.{break-complete, break-long, break-unknown, break-next, break-short, break-none}
-use Rattle.system.specs.Answers.{signatureOf, brokenAt}
+use Rattle.system.specs.Answers.{signatureOf, wholeAnswer}
 use Rattle.system.specs.TermCheck.{termFault}
 use Rattle.system.specs.Signature.{arity}
 use borrow.Author.Tests.{not-true, not-false}
@@ -21,15 +21,21 @@ abbrev μ-loop : tie.MeasureT-loop
 loop-holds : tie.Need-loop-holds Inv-loop μ-loop
 loop-holds c = (omega arith, omega arith, omega arith, refl)
 
+broken-requires : tie.Need-broken-requires Inv-loop μ-loop
+broken-requires c κs = search needs
+
 returns : tie.Need-returns Inv-loop μ-loop
-returns c = let l = c .before .before .loop in
-    let a = c .before .before .before .before .before .args in
-    ap (brokenAt (a .term .now)) (sym (break-complete (signatureOf (a .book .now)) (a .term .now) (l .due) (l .i) (omega arith) (c .if1 .taken)) ∙ l .inv .3)
+returns c = let l = c .before .before .before .loop in
+    let a = c .before .before .before .before .before .before .args in
+    c .broken .ensures ∙ ap (wholeAnswer (a .term .now)) (sym (break-complete (signatureOf (a .book .now)) (a .term .now) (l .due) (l .i) (omega arith) (c .before .if1 .taken)) ∙ l .inv .3)
+
+broken-requires-2 : tie.Need-broken-requires-2 Inv-loop μ-loop
+broken-requires-2 c κs = search needs
 
 returns-2 : tie.Need-returns-2 Inv-loop μ-loop
-returns-2 c = let l = c .before .before .before .loop in
-    let a = c .before .before .before .before .before .before .args in
-    ap (brokenAt (a .term .now)) (sym (break-long (signatureOf (a .book .now)) (a .term .now) (l .due) (l .i) (omega arith) (omega arith)) ∙ l .inv .3)
+returns-2 c = let l = c .before .before .before .before .loop in
+    let a = c .before .before .before .before .before .before .before .args in
+    c .broken2 .ensures ∙ ap (wholeAnswer (a .term .now)) (sym (break-long (signatureOf (a .book .now)) (a .term .now) (l .due) (l .i) (omega arith) (omega arith)) ∙ l .inv .3)
 
 mul-w : tie.Need-mul-w Inv-loop μ-loop
 mul-w c = search needs
@@ -40,10 +46,13 @@ shared-slice-read-w c = search needs
 is-symbol-requires : tie.Need-is-symbol-requires Inv-loop μ-loop
 is-symbol-requires c κs = search needs
 
+broken-requires-3 : tie.Need-broken-requires-3 Inv-loop μ-loop
+broken-requires-3 c κs = search needs
+
 returns-3 : tie.Need-returns-3 Inv-loop μ-loop
-returns-3 c = let l = c .before .before .before .before .before .before .loop in
-    let a = c .before .before .before .before .before .before .before .before .before .args in
-    ap (brokenAt (a .term .now)) (sym (break-unknown (signatureOf (a .book .now)) (a .term .now) (l .due) (l .i) (omega arith) (sym (c .before .is-symbol .ensures) ∙ not-true _ (c .if3 .taken))) ∙ l .inv .3)
+returns-3 c = let l = c .before .before .before .before .before .before .before .loop in
+    let a = c .before .before .before .before .before .before .before .before .before .before .args in
+    c .broken3 .ensures ∙ ap (wholeAnswer (a .term .now)) (sym (break-unknown (signatureOf (a .book .now)) (a .term .now) (l .due) (l .i) (omega arith) (sym (c .before .before .is-symbol .ensures) ∙ not-true _ (c .before .if3 .taken))) ∙ l .inv .3)
 
 sub-due : tie.Need-sub-due Inv-loop μ-loop
 sub-due c = search needs
@@ -69,16 +78,19 @@ loop-again c = let l = c .before .before .before .before .before .before .before
       rw (c .arity .ensures .0) (sym (break-next (signatureOf (a .book .now)) (a .term .now) (l .due) (l .i) (omega arith) (omega arith) (omega arith) (sym (c .before .before .is-symbol .ensures) ∙ not-false _ (c .before .if3 .left))) ∙ l .inv .3),
     )
 
+broken-requires-4 : tie.Need-broken-requires-4 Inv-loop μ-loop
+broken-requires-4 c κs = search needs
+
 returns-4 : tie.Need-returns-4 Inv-loop μ-loop
-returns-4 c = let l = c .before .before .loop in
-    let a = c .before .before .before .before .before .args in
-    ap (brokenAt (a .term .now)) (sym (break-short (signatureOf (a .book .now)) (a .term .now) (l .due) (l .i) (omega arith) (omega arith)) ∙ l .inv .3)
+returns-4 c = let l = c .before .before .before .loop in
+    let a = c .before .before .before .before .before .before .args in
+    c .broken4 .ensures ∙ ap (wholeAnswer (a .term .now)) (sym (break-short (signatureOf (a .book .now)) (a .term .now) (l .due) (l .i) (omega arith) (omega arith)) ∙ l .inv .3)
 
 returns-5 : tie.Need-returns-5 Inv-loop μ-loop
 returns-5 c = let l = c .before .before .loop in
     let a = c .before .before .before .before .before .args in
     let e : l .i ≡ length (a .term .now) = omega arith in
-    rw e (ap (brokenAt (a .term .now)) (sym (break-none (signatureOf (a .book .now)) (a .term .now) (l .due) (l .i) (omega arith) (omega arith)) ∙ l .inv .3))
+    rw e (ap (wholeAnswer (a .term .now)) (sym (break-none (signatureOf (a .book .now)) (a .term .now) (l .due) (l .i) (omega arith) (omega arith)) ∙ l .inv .3))
 
 pub first-break-spec : {M : Type 1} → statement M
 first-break-spec =
@@ -87,11 +99,14 @@ first-break-spec =
     Inv-loop
     μ-loop
     loop-holds
+    broken-requires
     returns
+    broken-requires-2
     returns-2
     mul-w
     shared-slice-read-w
     is-symbol-requires
+    broken-requires-3
     returns-3
     sub-due
     arity-requires
@@ -99,5 +114,6 @@ first-break-spec =
     add-i
     loop-less
     loop-again
+    broken-requires-4
     returns-4
     returns-5)

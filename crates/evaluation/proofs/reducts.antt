@@ -1,0 +1,5 @@
+-- A rewrite in an area of words: what the proofs of `reducts` cite.
+pub mod Bindings
+pub mod Writing
+pub mod Replacing
+pub mod Rewrites

@@ -1,0 +1,5 @@
+-- A run in an area of words: what the proofs of `run` cite.
+pub mod Starts
+pub mod Cleared
+pub mod Running
+pub mod Rounds

@@ -1,0 +1,115 @@
+-- What is known of a run in an area at the head of its loop: how it starts, that a state after a rewrite keeps it, and what a stop has to clear.
+use Prim.Native.Nat.{ℕ, zero, suc, _-_, _≤_, _<_}
+use native.Mathlib.Nat.{sub-zero}
+use native.Mathlib.Omega.{arith}
+use mathlib.Core.Path.{_≡_, refl, sym, _∙_}
+use mathlib.Core.List.{List, [], _∷_, _++_}
+use lib.ListN.{length, getD, take}
+use Rattle.buffers.specs.Words.{pad}
+use Rattle.system.specs.Signature.{replace}
+use Rattle.system.specs.System.{System}
+use Rattle.system.specs.Terms.{Whole, WellFormed}
+use Rattle.system.specs.Limits.{termWords, areaWords, levels}
+use Rattle.evaluation.specs.Evaluation.{evaluation}
+use Rattle.evaluation.specs.machine.Machine.{position, Opened, base, down, iterate}
+use Rattle.evaluation.specs.machine.Area.{area, termIn, outerIn, countIn, Laid, Going, Positioned, Stored, Holds}
+use Rattle.evaluation.proofs.Laws.{position-le}
+use Rattle.evaluation.proofs.MachineTheorem.{evaluation-iterate}
+use Rattle.evaluation.proofs.Goings.{opened-replace, going-start, going-within}
+use Rattle.evaluation.proofs.Areas.{held-term, held-outer, held-count, held-length, holds, area-pushed}
+use Rattle.evaluation.proofs.run.Starts.{area-bare}
+
+-- ---- the levels around one of the open levels
+
+module _ (s : System) (t : List ℕ) where
+  opened-take : (k : ℕ) {p : ℕ} {cs : List ℕ} → Opened s t p cs → Opened s t p (take k cs)
+  opened-take zero o = base
+  opened-take (suc k) base = base
+  opened-take (suc k) (Opened.level h e o) = Opened.level h e (opened-take k o)
+
+  position-take : (k : ℕ) (cs : List ℕ) (p : ℕ) → position s t (take k cs) p ≤ position s t cs p
+  unfolding position
+  position-take zero cs p = position-le s t cs p
+  position-take (suc k) [] p = omega arith
+  position-take (suc k) (c ∷ cs) p = position-take k cs (down s t p c)
+
+-- a rewrite at the innermost level leaves the positions of the levels around it
+pub positions-kept : (s : System) (wf : WellFormed s) (t outer : List ℕ) (c : ℕ) → Going s t outer c → (u positions : List ℕ) →
+    Positioned s t outer positions → Positioned s (replace (s .arities) t (position s t outer 0) u) outer positions
+positions-kept s wf t outer c g u positions h k l =
+    h k l ∙ sym (opened-replace s t u (position s t outer 0) (opened-take s t k (g .opened)) (position-take s t k outer 0) (going-within s wf t outer c g) .1)
+
+-- ---- the head of the loop: the area holds a state, and the rounds that are left from it are the evaluation asked for
+
+pub record Running (s : System) (limit : ℕ) (t₀ ws positions : List ℕ) (n level steps : ℕ) : Type 0 where
+  pub holds : Holds s ws positions n level
+  pub afford : steps ≤ limit
+  pub same : iterate s limit (suc (limit - steps)) (outerIn ws level ++ countIn ws level ∷ []) (record { term = termIn ws n; steps = steps }) ≡ evaluation s limit t₀
+
+-- an area that was made from a state, whose term has n words, with `level` levels around the innermost one
+pub record Made (s : System) (ws positions : List ℕ) (n level : ℕ) : Type 0 where
+  pub t : List ℕ
+  pub outer : List ℕ
+  pub c : ℕ
+  pub going : Going s t outer c
+  pub words : length t ≡ n
+  pub around : length outer ≡ level
+  pub equal : ws ≡ area t (outer ++ c ∷ [])
+  pub slots : length positions ≡ levels
+  pub positioned : Positioned s t outer positions
+
+pub running-made : {s : System} {ws positions : List ℕ} {n level : ℕ} (m : Made s ws positions n level) (limit : ℕ) (t₀ : List ℕ) (steps : ℕ) → steps ≤ limit →
+    iterate s limit (suc (limit - steps)) (m .outer ++ m .c ∷ []) (record { term = m .t; steps = steps }) ≡ evaluation s limit t₀ →
+    Running s limit t₀ ws positions n level steps
+running-made {s} {ws} {positions} {n} {level} m limit t₀ steps afford same =
+    let g = m .going in
+    let b = g .bounded in
+    let room : level < levels = omega (arith, g .room, m .around) in
+    let et = held-term ws (m .t) (m .outer) (m .c) n level (m .equal) b (m .words) (m .around) room in
+    let eo = held-outer ws (m .t) (m .outer) (m .c) n level (m .equal) b (m .words) (m .around) room in
+    let ec = held-count ws (m .t) (m .outer) (m .c) n level (m .equal) b (m .words) (m .around) room in
+    record {
+      holds = holds ws (m .t) (m .outer) (m .c) n level (m .equal) b (m .words) (m .around) room s g positions (m .slots) (m .positioned);
+      afford = afford;
+      same = rw (et, eo, ec) same;
+    }
+
+-- the start
+pub running-start : (s : System) → WellFormed s → (limit : ℕ) (t₀ ws positions : List ℕ) → Whole (s .arities) t₀ → length t₀ ≤ termWords → ws ≡ pad areaWords t₀ →
+    length positions ≡ levels → getD positions 0 0 ≡ 0 → Running s limit t₀ ws positions (length t₀) 0 0
+unfolding position
+running-start s wf limit t₀ ws positions h b e slots z = running-made m limit t₀ 0 (omega arith) (rw (sub-zero limit) (sym (evaluation-iterate s limit wf t₀)))
+  where
+    first : (k : ℕ) → k ≤ 0 → getD positions k 0 ≡ position s t₀ (take k []) 0
+    first zero m = z
+    first (suc k) m = absurd (omega arith)
+
+    m : Made s ws positions (length t₀) 0
+    m = record {
+      t = t₀;
+      outer = [];
+      c = 0;
+      going = going-start s t₀ h b;
+      words = refl;
+      around = refl;
+      equal = e ∙ sym (area-bare t₀ b) ∙ area-pushed t₀ [] (omega arith);
+      slots = slots;
+      positioned = λ k m. first k m;
+    }
+
+-- ---- what a stop has to clear
+
+pub stored-length : {s : System} {ws : List ℕ} {n level : ℕ} → Stored s ws n level → length ws ≡ areaWords
+stored-length {ws} {n} {level} h =
+    let g = h .going in
+    held-length ws (termIn ws n) (outerIn ws level) (countIn ws level) n level (h .equal) (g .bounded) (h .words) (h .levels) (omega (arith, g .room, h .levels))
+
+pub stored-laid : {s : System} {ws : List ℕ} {n level : ℕ} → Stored s ws n level → Laid ws n level
+stored-laid h =
+    let g = h .going in
+    record {
+      bounded = omega (arith, h .words, g .bounded);
+      room = omega (arith, h .levels, g .room);
+      total = stored-length h;
+      equal = h .equal;
+    }

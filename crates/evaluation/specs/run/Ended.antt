@@ -1,0 +1,25 @@
+-- What a run in an area asks for, and how it ends: the outcome's numbers; on 0 the term at the area's front and zeros behind it, and where it
+-- was stopped only zeros.
+use Prim.Native.Nat.{ℕ, _≤_}
+use mathlib.Core.Path.{_≡_}
+use mathlib.Core.List.{List}
+use lib.ListN.{length}
+use Rattle.buffers.specs.Words.{zeros, pad}
+use Rattle.system.specs.declared.Shape.{Shape}
+use Rattle.system.specs.Terms.{Whole}
+use Rattle.system.specs.Book.{systemOf}
+use Rattle.system.specs.layout.Accepted.{Accepted}
+use Rattle.evaluation.specs.declared.run.Ended.{Ended}
+use Rattle.evaluation.specs.Evaluation.{Outcome, settled, stopped}
+use Rattle.system.specs.Numbers.{limitNumber}
+use Rattle.system.specs.Limits.{areaWords, termWords}
+
+pub record Runnable (book : List ℕ) (shape : Shape) (term area : List ℕ) : Type 0 where
+  pub accepted : Accepted book shape
+  pub whole : Whole (systemOf book .arities) term
+  pub bounded : length term ≤ termWords
+  pub words : length area ≡ areaWords
+
+abbrev pub Ends : Outcome → Ended → List ℕ → Type 0
+Ends (settled r) e ws = (e ≡ record { number = 0; size = length (r .term); steps = r .steps }) × (ws ≡ pad areaWords (r .term))
+Ends (stopped n k) e ws = (e ≡ record { number = limitNumber n; size = 0; steps = k }) × (ws ≡ zeros areaWords)

@@ -1,0 +1,138 @@
+-- What an accepted book and its shape tell, and one rule of it, in the terms of a loop over the rules.
+use Prim.Native.Nat.{ℕ, _+_, _-_, _≤_, _<_}
+use native.Mathlib.Omega.{arith}
+use mathlib.Core.Path.{_≡_, sym, ap, _∙_}
+use mathlib.Core.List.{List}
+use lib.ListN.{length, getD, take, drop}
+use lib.Seq.{getD-take, getD-drop}
+use Rattle.system.specs.declared.Shape.{Shape}
+use Rattle.system.specs.Limits.{variable, variables}
+use Rattle.system.specs.System.{System, rule}
+use Rattle.system.specs.Terms.{Lawful, WellFormed}
+use Rattle.system.specs.Format.{encodeStrategies, encodeRules}
+use Rattle.system.specs.Reader.{ok}
+use Rattle.system.specs.Answers.{signatureOf, shapeOf}
+use Rattle.system.proofs.Accepts.{read-sound, forest-some}
+use Rattle.system.proofs.Members.{stands-getD, numbered-below}
+use Rattle.system.proofs.Located.{Located, located, read-signature, RuleAt, rule-at}
+use Rattle.system.specs.declared.layout.rules.Place.{Place}
+use Rattle.system.specs.Book.{systemOf}
+use Rattle.system.specs.layout.Accepted.{Accepted}
+use Rattle.system.specs.layout.Rules.{after, placeOf}
+
+-- the rules from number k on stand from the index `at` on
+pub record Rest (b : List ℕ) (k at : ℕ) : Type 0 where
+  pub words : drop at b ≡ encodeRules (drop k (systemOf b .rules))
+
+-- rule number k stands at p
+pub record Here (b : List ℕ) (k at : ℕ) (p : Place) : Type 0 where
+  pub width : p .width ≡ length (rule (systemOf b) k .lhs)
+  pub size : p .size ≡ length (rule (systemOf b) k .rhs)
+  pub left : p .lhs ≡ at + 1
+  pub right : p .rhs ≡ at + 1 + length (rule (systemOf b) k .lhs) + 1
+  pub next : p .next ≡ at + 1 + length (rule (systemOf b) k .lhs) + 1 + length (rule (systemOf b) k .rhs)
+  pub fits : p .next ≤ length b
+  pub starts : p .lhs + p .width < p .rhs
+  pub ends : p .rhs + p .size ≡ p .next
+  pub some : 0 < p .width
+  -- its words
+  pub words : take (p .lhs + p .width - p .lhs) (drop (p .lhs) b) ≡ rule (systemOf b) k .lhs
+  pub word : (j : ℕ) → j < p .width → getD b (p .lhs + j) 0 ≡ getD (rule (systemOf b) k .lhs) j 0
+  pub head : getD b (p .lhs) 0 ≡ getD (rule (systemOf b) k .lhs) 0 0
+  pub low : (j : ℕ) → j < p .width → getD b (p .lhs + j) 0 < variable + variables
+  pub law : Lawful (signatureOf b) (rule (systemOf b) k)
+  -- the rules after it
+  pub rest : Rest b (k + 1) (p .next)
+
+-- a rule from its two lengths
+pub place-made : (b : List ℕ) (at width size : ℕ) → width ≡ getD b at 0 → size ≡ getD b (at + 1 + width) 0 →
+    record { lhs = at + 1; width = width; rhs = at + 1 + width + 1; size = size; next = at + 1 + width + 1 + size } ≡ placeOf b at
+unfolding placeOf
+place-made b at width size e d = rw (d, e)
+
+module _ (b : List ℕ) (sh : Shape) (acc : Accepted b sh) where
+  abbrev s : System
+  s = systemOf b
+
+  pub well : WellFormed s
+  well = read-sound b (acc .accepted) .0
+
+  pub sections : Located b s
+  sections = located b (acc .accepted)
+
+  pub signature : s .arities ≡ signatureOf b
+  signature = read-signature b (acc .accepted)
+
+  shape : sh ≡ shapeOf (ok s (length b))
+  shape = acc .shaped ∙ ap shapeOf (acc .accepted)
+
+  pub rule-count : sh .rules ≡ length (s .rules)
+  rule-count = ap (λ y. y .rules) shape
+
+  pub symbol-count : sh .symbols ≡ length (signatureOf b)
+  symbol-count = ap (λ y. y .symbols) shape ∙ ap length signature
+
+  pub first-index : sh .«first_rule» ≡ length (s .arities) + 3 + length (encodeStrategies (s .strategies))
+  first-index = ap (λ y. y .«first_rule») shape
+
+  pub first-rest : Rest b 0 (sh .«first_rule»)
+  first-rest = record { words = rw first-index (sections .rules) }
+
+  pub strategy-index : sh .strategies ≡ length (s .arities) + 2
+  strategy-index = ap (λ y. y .strategies) shape
+
+  pub lawful : (k : ℕ) → k < sh .rules → Lawful (signatureOf b) (rule s k)
+  lawful k h = rw signature at (well .lawful k (rw rule-count at h))
+
+-- ---- a turn of a loop over the rules: rule number k of an accepted book stands at p
+
+pub record Turn (b : List ℕ) (sh : Shape) (k at : ℕ) (p : Place) : Type 0 where
+  pub accepted : Accepted b sh
+  pub more : k < length (systemOf b .rules)
+  pub inside : k < sh .rules
+  pub here : Here b k at p
+
+module _ {b : List ℕ} {sh : Shape} (acc : Accepted b sh) {k at : ℕ} (more : k < sh .rules) (rest : Rest b k at) where
+  within : k < length (systemOf b .rules)
+  within = rw (rule-count b sh acc) at more
+
+  stands : RuleAt b at (rule (systemOf b) k) (drop (k + 1) (systemOf b .rules))
+  stands = rule-at b at k (systemOf b .rules) within (rest .words)
+
+  pub room : after b at ≤ length b
+  room = let w = stands in rw (w .left-length, w .right-length) (w .fits)
+
+  here : (p : Place) → p ≡ placeOf b at → Here b k at p
+  unfolding placeOf
+  here p e =
+      let w = stands in
+      let l = lawful b sh acc k more in
+      let r = rule (systemOf b) k in
+      let el : p .lhs ≡ at + 1 = ap (λ y. y .lhs) e in
+      let ew : p .width ≡ length (r .lhs) = ap (λ y. y .width) e ∙ w .left-length in
+      let er : p .rhs ≡ at + 1 + length (r .lhs) + 1 = ap (λ y. y .rhs) e ∙ rw (w .left-length) in
+      let es : p .size ≡ length (r .rhs) = ap (λ y. y .size) e ∙ rw (w .left-length) (w .right-length) in
+      let en : p .next ≡ at + 1 + length (r .lhs) + 1 + length (r .rhs) = ap (λ y. y .next) e ∙ rw (w .left-length, w .right-length) in
+      let some : 0 < p .width = (let z = forest-some (l .left) in omega arith) in
+      let word : (j : ℕ) → j < p .width → getD b (p .lhs + j) 0 ≡ getD (r .lhs) j 0 = λ j h.
+      rw el (sym (getD-drop (at + 1) b j 0) ∙ sym (getD-take (length (r .lhs)) (drop (at + 1) b) j 0 (omega arith)) ∙ ap (λ y. getD y j 0) (w .left-words)) in
+      record {
+        width = ew;
+        size = es;
+        left = el;
+        right = er;
+        next = en;
+        fits = (let f = w .fits in omega arith);
+        starts = omega arith;
+        ends = omega arith;
+        some = some;
+        words = (let z : at + 1 + length (r .lhs) - (at + 1) ≡ length (r .lhs) = omega arith in rw (el, ew, z) (w .left-words));
+        word = word;
+        head = (let z : p .lhs + 0 ≡ p .lhs = omega arith in rw z at (word 0 some));
+        low = λ j h. let n = numbered-below (l .numbered) (stands-getD (r .lhs) j (omega arith)) in omega (arith, word j h);
+        law = l;
+        rest = record { words = rw en (w .rests) };
+      }
+
+  pub turn-of : {p : Place} → p ≡ placeOf b at → Turn b sh k at p
+  turn-of {p} e = record { accepted = acc; more = within; inside = more; here = here p e }

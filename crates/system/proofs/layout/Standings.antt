@@ -1,0 +1,41 @@
+-- Where the strategies of an accepted book stand, one after the other.
+use Prim.Native.Nat.{ℕ, _+_, _≤_, _<_}
+use native.Mathlib.Omega.{arith}
+use mathlib.Core.Path.{_≡_, ap}
+use mathlib.Core.List.{List}
+use lib.ListN.{length, getD}
+use Rattle.system.specs.declared.Shape.{Shape}
+use Rattle.system.specs.System.{System, strategy}
+use Rattle.system.specs.Answers.{signatureOf}
+use Rattle.system.proofs.Located.{Listed, strategy-at}
+use Rattle.system.specs.Book.{systemOf}
+use Rattle.system.specs.layout.Accepted.{Accepted, StrategyAt, wordsFrom, Standing}
+use Rattle.system.proofs.layout.Books.{well, sections, signature, symbol-count, strategy-index}
+
+module _ (b : List ℕ) (sh : Shape) (acc : Accepted b sh) where
+  abbrev s : System
+  s = systemOf b
+
+  pub strategy-count : length (s .strategies) ≡ sh .symbols
+  strategy-count =
+      let m : length (s .arities) ≡ length (signatureOf b) = ap length (signature b sh acc) in
+      omega (arith, symbol-count b sh acc, well b sh acc .orders)
+
+  pub symbols-few : sh .symbols ≤ 256
+  symbols-few = let w = well b sh acc in let few = w .names in let same = w .orders in omega (arith, strategy-count)
+
+  listed : (k at : ℕ) → k < sh .symbols → Standing b k at → Listed b at (strategy s k) (wordsFrom s (k + 1))
+  unfolding strategy
+  listed k at more so = strategy-at b at k (s .strategies) _ (omega (arith, strategy-count)) (so .words)
+
+  -- the words there are its own
+  pub standing-strategy : (k at : ℕ) → k < sh .symbols → Standing b k at → StrategyAt b k at
+  standing-strategy k at more so =
+      let h = listed k at more so in
+      record { fits = (let z = h .fits in omega (arith, h .counted)); entries = rw (h .counted) (h .words) }
+
+  pub standing-start : Standing b 0 (sh .strategies)
+  standing-start = record { words = rw (strategy-index b sh acc) (sections b sh acc .strategies) }
+
+  pub standing-next : (k at n : ℕ) → k < sh .symbols → Standing b k at → n ≡ getD b at 0 → Standing b (k + 1) (at + 1 + n)
+  standing-next k at n more so q = let h = listed k at more so in record { words = rw (q, h .counted) (h .rests) }

@@ -1,0 +1,121 @@
+-- What an entry of a symbol's strategy asks for, in the terms of the code.
+use Prim.Native.Nat.{ℕ, zero, suc, _+_, _-_, _≤_, _<_}
+use native.Mathlib.Omega.{arith}
+use native.Mathlib.Decide.{decLt}
+use mathlib.Core.Path.{_≡_, refl, sym, ap, _∙_, subst}
+use mathlib.Core.Bool.{Bool, true, false}
+use mathlib.Core.List.{List, []}
+use lib.ListN.{length, getD, drop, length-drop, List·getD-eq-default}
+use lib.Seq.{getD-take, getD-drop, length-take-le}
+use borrow.Author.Tests.{lt-ltb, le-ltb}
+use Rattle.system.specs.declared.Shape.{Shape}
+use Rattle.system.specs.System.{strategy}
+use Rattle.system.specs.Book.{systemOf}
+use Rattle.system.specs.layout.Accepted.{Accepted, StrategyAt}
+use Rattle.system.proofs.layout.Standings.{strategy-count}
+use Rattle.system.specs.declared.layout.entries.Entry.{Entry}
+use Rattle.system.specs.declared.layout.entries.Entry.the-variants.{End, Again, Rules, Argument}
+use Rattle.system.specs.layout.Entries.{entryFrom, between, among, entryOf}
+use Rattle.system.proofs.layout.entries.Repeats.{between-take}
+
+-- ---- what an entry asks for
+
+module _ (es : List ℕ) (f c : ℕ) where
+  pub entry-past : length es ≤ c → entryOf es f c ≡ End
+  unfolding entryOf
+  entry-past h = rw (le-ltb c (length es) h, entryOf)
+
+  -- whether it stood before
+  abbrev pub stood : Bool
+  stood = among (getD es c 0) (between es f c)
+
+  module _ (h : c < length es) where
+    pub entry-again : stood ≡ true → entryOf es f c ≡ Again
+    unfolding entryOf
+    entry-again b = rw (lt-ltb c (length es) h, b, entryOf)
+
+    entry-here : stood ≡ false → entryOf es f c ≡ entryFrom (getD es c 0)
+    unfolding entryOf
+    entry-here b = rw (lt-ltb c (length es) h, b, entryOf)
+
+    pub entry-rules : stood ≡ false → getD es c 0 ≡ 0 → entryOf es f c ≡ Rules
+    entry-rules b e = entry-here b ∙ rw e
+
+    pub entry-argument : stood ≡ false → (i : ℕ) → getD es c 0 ≡ suc i → entryOf es f c ≡ Argument i
+    entry-argument b i e = entry-here b ∙ rw e
+
+  -- what it asks for, with what that tells of it
+  pub data Asks : Entry → Type 0 where
+    end : length es ≤ c → Asks End
+    again : c < length es → stood ≡ true → Asks Again
+    rules : c < length es → stood ≡ false → getD es c 0 ≡ 0 → Asks Rules
+    opens : (i : ℕ) → c < length es → stood ≡ false → getD es c 0 ≡ suc i → Asks (Argument i)
+
+  pub asks : Asks (entryOf es f c)
+  asks = elim (decLt c (length es)) [ yes h ↦ go h stood refl (getD es c 0) refl | no h ↦ subst Asks (sym (entry-past (omega arith))) (end (omega arith)) ]
+    where
+      go : c < length es → (b : Bool) → stood ≡ b → (e : ℕ) → getD es c 0 ≡ e → Asks (entryOf es f c)
+      go h true b e q = subst Asks (sym (entry-again h b)) (again h b)
+      go h false b zero q = subst Asks (sym (entry-rules h b q)) (rules h b q)
+      go h false b (suc i) q = subst Asks (sym (entry-argument h b i q)) (opens i h b q)
+
+  pub asked-end : Asks End → length es ≤ c
+  asked-end (end h) = h
+
+  pub asked-again : Asks Again → (c < length es) × (stood ≡ true)
+  asked-again (again h b) = (h, b)
+
+  pub asked-rules : Asks Rules → (c < length es) × (stood ≡ false) × (getD es c 0 ≡ 0)
+  asked-rules (rules h b q) = (h, b, q)
+
+  pub asked-argument : (i : ℕ) → Asks (Argument i) → (c < length es) × (stood ≡ false) × (getD es c 0 ≡ suc i)
+  asked-argument i (opens _ h b q) = (h, b, q)
+
+-- ---- what the entry asks for that the words of the book tell of
+
+-- what is no symbol has no strategy
+pub entry-none : (b : List ℕ) (sh : Shape) → Accepted b sh → (w n f c : ℕ) → n ≡ w → sh .symbols ≤ n → End ≡ entryOf (strategy (systemOf b) w) f c
+unfolding strategy
+entry-none b sh acc w n f c q h =
+    sym (rw (List·getD-eq-default (systemOf b .strategies) [] {n = w} (omega (arith, strategy-count b sh acc))) (entry-past [] f c (omega arith)))
+
+-- an entry of the strategy at `at`, by the words of the book
+module _ (b : List ℕ) (w k at f c n : ℕ) (is : k ≡ w) (st : StrategyAt b k at) (count : n ≡ getD b at 0) where
+  abbrev es : List ℕ
+  es = strategy (systemOf b) k
+
+  entry-count : length es ≡ n
+  entry-count =
+      ap length (sym (st .entries)) ∙ length-take-le (getD b at 0) (drop (at + 1) b) (rw (length-drop (at + 1) b) (let h = st .fits in omega arith)) ∙ sym count
+
+  same : (e : Entry) → entryOf es f c ≡ e → e ≡ entryOf (strategy (systemOf b) w) f c
+  same e q = sym q ∙ ap (λ y. entryOf (strategy (systemOf b) y) f c) is
+
+  pub entry-over : n ≤ c → End ≡ entryOf (strategy (systemOf b) w) f c
+  entry-over h = same End (entry-past es f c (omega (arith, entry-count)))
+
+  module _ (more : c < n) (r : Bool) (before : r ≡ among (getD b (at + 1 + c) 0) (between (drop (at + 1) b) f c)) where
+    entry-word : getD es c 0 ≡ getD b (at + 1 + c) 0
+    entry-word =
+        ap (λ y. getD y c 0) (sym (st .entries)) ∙ getD-take (getD b at 0) (drop (at + 1) b) c 0 (omega arith)
+        ∙ getD-drop (at + 1) b c 0
+
+    inside : c < length es
+    inside = omega (arith, entry-count)
+
+    entry-stood : stood es f c ≡ r
+    entry-stood =
+        let e : between es f c ≡ between (drop (at + 1) b) f c = ap (λ y. between y f c) (sym (st .entries)) ∙ between-take (getD b at 0) f c (drop (at + 1) b) (omega arith) in
+        (λ j. among (entry-word j) (e j)) ∙ sym before
+
+    pub entry-repeated : r ≡ true → Again ≡ entryOf (strategy (systemOf b) w) f c
+    entry-repeated q = same Again (entry-again es f c inside (entry-stood ∙ q))
+
+    module _ (new : r ≡ false) (e : ℕ) (word : e ≡ getD b (at + 1 + c) 0) where
+      pub entry-zero : e ≡ 0 → Rules ≡ entryOf (strategy (systemOf b) w) f c
+      entry-zero z = same Rules (entry-rules es f c inside (entry-stood ∙ new) (entry-word ∙ sym word ∙ z))
+
+      pub entry-more : (e ≡ 0 → ⊥) → Argument (e - 1) ≡ entryOf (strategy (systemOf b) w) f c
+      entry-more z =
+          let q : e ≡ suc (e - 1) = omega arith in
+          same (Argument (e - 1)) (entry-argument es f c inside (entry-stood ∙ new) (e - 1) (entry-word ∙ sym word ∙ q))

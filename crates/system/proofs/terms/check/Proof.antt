@@ -1,0 +1,19 @@
+-- The book decides first, then the term.
+use Rattle.system.proofs.terms.Checks.{term-refused, term-checked}
+use borrow.Author.Needs.{needs}
+use Rattle.system.proofs.terms.check.Statement.{statement}
+use Rattle.system.proofs.terms.check.Tie as tie
+
+returns : tie.Need-returns
+returns c = let s = c .before .before .before .before .before in let a = s .args in term-refused (a .book .now) (a .scan) (s .pre) (a .term .now) (c .if1 .taken)
+
+first-break-requires : tie.Need-first-break-requires
+first-break-requires c κs = search needs
+
+returns-2 : tie.Need-returns-2
+returns-2 c = let s = c .before .before .before .before .before .before in
+    let a = s .args in
+    term-checked (a .book .now) (a .scan) (s .pre) (a .term .now) (c .before .if1 .left) (c .first-break .result) (c .first-break .ensures)
+
+pub check-spec : {M : Type 1} → statement M
+check-spec = tie.close (tie.spec returns first-break-requires returns-2)

@@ -1,0 +1,40 @@
+-- The bounds that 01 sets.
+use Prim.Native.Nat.{ℕ}
+
+-- "a count S, 1 to 256, then S argument counts, each 0 to 8"
+abbrev pub maxSymbols : ℕ
+maxSymbols = 256
+
+abbrev pub maxArity : ℕ
+maxArity = 8
+
+-- "for each name a length 0 to 16"
+abbrev pub maxEntries : ℕ
+maxEntries = 16
+
+-- "a count 0 to 128"
+abbrev pub maxRules : ℕ
+maxRules = 128
+
+-- "a length 1 to 64 and its left side, then a length 1 to 64 and its right side"
+abbrev pub sideWords : ℕ
+sideWords = 64
+
+-- "32768 + k, with k from 0 to 15, is placeholder k": where the variables (01: placeholders) start, and how many there are
+abbrev pub variable : ℕ
+variable = 32768
+
+abbrev pub variables : ℕ
+variables = 16
+
+-- the most words of a term ("in 1 to 4,096 words"), and the least of an answer buffer
+abbrev pub termWords : ℕ
+termWords = 4096
+
+-- the words of a work buffer that are used: the term, and the counts behind it
+abbrev pub areaWords : ℕ
+areaWords = 8192
+
+-- the deepest level ("from level 64 this is 13")
+abbrev pub levels : ℕ
+levels = 64

@@ -1,0 +1,30 @@
+-- What the functions ask of a book and its shape, and where the strategies of an accepted book stand.
+use Prim.Native.Nat.{ℕ, _+_, _<_}
+use mathlib.Core.Path.{_≡_}
+use mathlib.Core.List.{List, _∷_, _++_}
+use lib.ListN.{length, getD, take, drop}
+use Rattle.system.specs.declared.Shape.{Shape}
+use Rattle.system.specs.System.{System, strategy}
+use Rattle.system.specs.Format.{encodeStrategies, encodeRules}
+use Rattle.system.specs.Reader.{ok, read}
+use Rattle.system.specs.Answers.{shapeOf}
+use Rattle.system.specs.Book.{systemOf}
+
+-- the book is accepted, and the shape is its own
+pub record Accepted (ws : List ℕ) (shape : Shape) : Type 0 where
+  pub accepted : read ws ≡ ok (systemOf ws) (length ws)
+  pub shaped : shape ≡ shapeOf (read ws)
+
+-- the strategy of f stands at the index `at`: its length, and its entries after it
+pub record StrategyAt (ws : List ℕ) (f at : ℕ) : Type 0 where
+  pub fits : at + getD ws at 0 < length ws
+  pub entries : take (getD ws at 0) (drop (at + 1) ws) ≡ strategy (systemOf ws) f
+
+-- the last words of a book: the strategies of symbol k and of those after it, then the rules
+abbrev pub wordsFrom : System → ℕ → List ℕ
+wordsFrom s k = encodeStrategies (drop k (s .strategies)) ++ (length (s .rules) ∷ encodeRules (s .rules))
+
+-- the strategy of symbol k stands at the index `at`, and what has to follow it does. (That its own words stand there would not do:
+-- other places in the book may hold the same words, and the next strategy would not be found from there.)
+pub record Standing (ws : List ℕ) (k at : ℕ) : Type 0 where
+  pub words : drop at ws ≡ wordsFrom (systemOf ws) k

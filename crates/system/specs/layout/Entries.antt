@@ -1,0 +1,30 @@
+-- The entries of a strategy: what each asks for.
+use Prim.Native.Nat.{ℕ, zero, suc, _-_}
+use mathlib.Core.Bool.{Bool, true, false, _||_}
+use mathlib.Core.List.{List, [], _∷_}
+use lib.ListN.{length, getD, take, drop}
+use lib.Dec.{ltb, eqb}
+use Rattle.system.specs.declared.layout.entries.Entry.{Entry}
+use Rattle.system.specs.declared.layout.entries.Entry.the-variants.{End, Again, Rules, Argument}
+
+-- what entry c of a strategy asks for: "Entry 0 means try the rules here; entry i means evaluate argument i (from 1)"
+abbrev pub entryFrom : ℕ → Entry
+entryFrom zero = Rules
+entryFrom (suc i) = Argument i
+
+-- the entries from index f up to c
+abbrev pub between : List ℕ → ℕ → ℕ → List ℕ
+between es f c = take (c - f) (drop f es)
+
+-- whether e is one of them
+unfoldable pub among : ℕ → List ℕ → Bool
+among e [] = false
+among e (d ∷ ds) = eqb e d || among e ds
+
+-- An entry that stood before, from index f on, asks for nothing again: with no step since then it would find what it found
+unfoldable pub entryOf : List ℕ → ℕ → ℕ → Entry
+entryOf es f c =
+    elim (ltb c (length es)) [
+      | false ↦ End
+      | true ↦ elim (among (getD es c 0) (between es f c)) [ true ↦ Again | false ↦ entryFrom (getD es c 0) ]
+    ]

@@ -1,0 +1,60 @@
+// The entries of the symbols' strategies.
+ghost use mathlib.Core.Path.{_≡_};
+ghost use Prim.Native.Nat.{_+_, _<_};
+ghost use lib.ListN.{length, getD, drop};
+ghost use Rattle.system.specs.System.{strategy};
+ghost use Rattle.system.specs.Book.{systemOf};
+ghost use Rattle.system.specs.layout.Accepted.{Accepted};
+ghost use Rattle.system.specs.layout.Index.{Marked};
+ghost use Rattle.system.specs.layout.Entries.{entryOf, among, between};
+use crate::Shape;
+use crate::layout::index::strategy_at;
+use crate::words::wide;
+
+// What an entry asks for: nothing (the strategy is over), nothing new (it stood before), that the rules are tried, or that the argument is
+// evaluated which has this many others before it.
+pub enum Entry {
+    End,
+    Again,
+    Rules,
+    Argument(usize),
+}
+
+// Whether entry c of the strategy at `at` is one of those from index f on that stand before it.
+fn stood_before(book: &[u16], at: usize, f: usize, c: usize) -> bool
+    requires { ⌜ at + 1 + c < length (now book) ⌝ }
+    ensures { λ r. ⌜ r ≡ among (getD (now (book .entry)) (at + 1 + c) 0) (between (drop (at + 1) (now (book .entry))) f c) ⌝ }
+{
+    let e = book[at + 1 + c];
+    let mut j = f;
+    while j < c {
+        if e == book[at + 1 + j] {
+            return true;
+        }
+        j += 1;
+    }
+    false
+}
+
+// Entry c of the strategy of w, of which f entries were begun before the present run of turns.
+pub fn entry_of(book: &[u16], shape: Shape, marks: &[usize], w: u16, f: usize, c: usize) -> Entry
+    requires { ⌜ Accepted (now book) shape × Marked (now book) shape (now marks) ⌝ }
+    ensures { λ r. ⌜ r ≡ entryOf (strategy (systemOf (now (book .entry))) w) f c ⌝ }
+{
+    let symbol = wide(w);
+    if shape.symbols <= symbol {
+        return Entry::End;
+    }
+    let at = strategy_at(book, shape, marks, symbol);
+    if wide(book[at]) <= c {
+        return Entry::End;
+    }
+    if stood_before(book, at, f, c) {
+        return Entry::Again;
+    }
+    let e = wide(book[at + 1 + c]);
+    if e == 0 {
+        return Entry::Rules;
+    }
+    Entry::Argument(e - 1)
+}

@@ -1,0 +1,45 @@
+// Where the symbols' strategies stand in a book: an index of every fourth one, made once per call.
+ghost use mathlib.Core.Path.{_≡_};
+ghost use Prim.Native.Nat.{_≤_, _<_};
+ghost use lib.ListN.{length};
+ghost use Rattle.system.specs.layout.Accepted.{Accepted, StrategyAt, Standing};
+ghost use Rattle.system.specs.layout.Index.{Marked};
+use crate::Shape;
+use crate::words::wide;
+
+// The index at which the strategy of symbol f stands in the book, found from that of the symbol `first`.
+fn walk_on(book: &[u16], shape: Shape, start: usize, first: usize, f: usize) -> usize
+    requires { ⌜ Accepted (now book) shape × Standing (now book) first start × (first ≤ f) × (f < shape .symbols) ⌝ }
+    ensures { λ r. ⌜ Standing (now (book .entry)) f r ⌝ }
+{
+    let mut at = start;
+    let mut k = first;
+    while k < f {
+        at = at + 1 + wide(book[at]);
+        k += 1;
+    }
+    at
+}
+
+// Marks the strategies of every fourth symbol.
+pub fn mark(book: &[u16], shape: Shape, marks: &mut [usize])
+    requires { ⌜ Accepted (now book) shape × (length (now marks) ≡ 64) ⌝ }
+    ensures { λ _. ⌜ Marked (now (book .entry)) shape (now (marks .exit)) ⌝ }
+{
+    marks[0] = shape.strategies;
+    let mut j = 1;
+    while 4 * j < shape.symbols {
+        marks[j] = walk_on(book, shape, marks[j - 1], 4 * (j - 1), 4 * j);
+        j += 1;
+    }
+}
+
+// The index at which the strategy of symbol f stands in the book: its length, and its entries after it. From its mark at most three
+// strategies are walked over.
+pub fn strategy_at(book: &[u16], shape: Shape, marks: &[usize], f: usize) -> usize
+    requires { ⌜ Accepted (now book) shape × Marked (now book) shape (now marks) × (f < shape .symbols) ⌝ }
+    ensures { λ r. ⌜ StrategyAt (now (book .entry)) f r ⌝ }
+{
+    let j = f / 4;
+    walk_on(book, shape, marks[j], 4 * j, f)
+}

@@ -1,0 +1,36 @@
+// "The table of numbers", as specs/Numbers.antt names them.
+
+// Accepted.
+pub const TAKEN: u32 = 0;
+
+// What is wrong with a book.
+pub const MISSING: u32 = 1;
+
+pub const RANGE: u32 = 2;
+
+pub const ENTRY: u32 = 3;
+
+pub const UNKNOWN: u32 = 4;
+
+pub const UNBALANCED: u32 = 5;
+
+pub const VARIABLE_HEAD: u32 = 6;
+
+pub const UNBOUND: u32 = 7;
+
+pub const TRAILING: u32 = 8;
+
+// What is wrong with a term, and with lent buffers.
+pub const BROKEN: u32 = 9;
+
+pub const CRAMPED: u32 = 10;
+
+// Which limit stopped an evaluation.
+pub const SPENT: u32 = 11;
+
+pub const OVERLONG: u32 = 12;
+
+pub const NESTED: u32 = 13;
+
+// The strategy test failed.
+pub const UNSETTLED: u32 = 14;
