@@ -1,6 +1,7 @@
 #!/usr/bin/env bash
 # The checks from outside: the C interface and its header, the stack of each operation, the C example, random books against the second
-# evaluator (which must also find four planted faults), the words tool and the examples. Everything is written under target/outside.
+# evaluator (which must also find four planted faults), the words tool, the examples, and the program's files. Everything is written under
+# target/outside.
 #     tests/run.sh [CASES of the random run; 100000 if not said]
 set -euo pipefail
 cd "$(dirname "$0")/.."
@@ -91,6 +92,8 @@ for folder in examples/*/; do
     diff "$folder/stdout" "$to/$name/stdout" || fail "example $name prints something else"
     say "example $name prints what it should"
 done
+said=$(bash tests/program.sh target/bin/expand) || { printf '%s\n' "$said"; fail "the program prints something else for its files"; }
+say "$said"
 
 # 7. the benchmark builds, for one archive and for two, and all agree (its times are not looked at here)
 quiet bash tests/bench/run.sh 0

@@ -49,10 +49,11 @@ loop-again : tie.Need-loop-again Inv-loop μ-loop
 loop-again c =
     let a = c .before .before .before .before .before .before .before .args in
     let l = c .before .before .before .before .loop in
-    let t = c .before .before .before .loop-test .taken in
-    (load-turn (a .words .now) (a .bytes .now) (l .words) (l .i) (l .inv .0) (c .word .result) (c .word .ensures) t,
-    rw (length-set (l .words) (l .i) (c .word .result)) (l .inv .1),
-    search needs)
+    let t = c .before .before .before .loop-test .taken in (
+      load-turn (a .words .now) (a .bytes .now) (l .words) (l .i) (l .inv .0) (c .word .result) (c .word .ensures) t,
+      rw (length-set (l .words) (l .i) (c .word .result)) (l .inv .1),
+      search needs,
+    )
 
 same-length : tie.Need-same-length Inv-loop μ-loop
 same-length c = search needs
