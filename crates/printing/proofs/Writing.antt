@@ -27,6 +27,10 @@ module _ {t t₁ : List ℕ} {at m : ℕ} {xs : List ℕ} (a : Written t at xs m
         becomes = b .becomes ∙ rw (a .becomes, a .ends, over-append t at xs ys);
       }
 
+-- the same bytes, said otherwise
+pub written-same : {t t₁ xs ys : List ℕ} {at r : ℕ} → xs ≡ ys → Written t at xs r t₁ → Written t at ys r t₁
+written-same e w = rw e at w
+
 -- nothing written
 pub written-nothing : (t : List ℕ) (at : ℕ) → at ≤ length t → Written t at [] at t
 written-nothing t at h = record { ends = omega arith; fits = h; becomes = refl }

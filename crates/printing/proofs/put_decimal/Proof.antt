@@ -1,10 +1,12 @@
 -- `put_decimal` meets its contract.
 use Prim.Native.Nat.{_-_}
-use mathlib.Core.Path.{_≡_}
-use lib.ListN.{take}
+use native.Mathlib.Omega.{arith}
+use mathlib.Core.Path.{_≡_, ap}
+use lib.ListN.{length, take}
 use borrow.Author.Needs.{needs}
 use Rattle.printing.specs.Text.{decimal}
 use Rattle.printing.proofs.Decimals.{spelled}
+use Rattle.printing.proofs.Writing.{written-same}
 use Rattle.printing.proofs.put_decimal.Statement.{statement}
 use Rattle.printing.proofs.put_decimal.Tie as tie
 
@@ -23,9 +25,9 @@ part-put-end c = search needs
 put-requires : tie.Need-put-requires
 put-requires c κs =
     let d = c .before .before .before .decimal in
-    let a = c .before .before .before .before .before .before .args in
-    let e : take (d .result - 0) (d .last .1 .0) ≡ decimal (a .n) = spelled _ _ _ (d .ensures .1 .0) (d .ensures .1 .1) in
-    rw e (c .before .before .before .before .before .before .pre)
+    let s = c .before .before .before .before .before .before in
+    let e : take (d .result - 0) (d .last .1 .0) ≡ decimal (s .args .n) = spelled _ _ _ (d .ensures .1 .0) (d .ensures .1 .1) in
+    omega (arith, ap length e, s .pre)
 
 same-length : tie.Need-same-length
 same-length c = search needs
@@ -33,9 +35,7 @@ same-length c = search needs
 returns : tie.Need-returns
 returns c =
     let d = c .before .before .before .before .before .before .decimal in
-    let a = c .before .before .before .before .before .before .before .before .before .args in
-    let e : take (d .result - 0) (d .last .1 .0) ≡ decimal (a .n) = spelled _ _ _ (d .ensures .1 .0) (d .ensures .1 .1) in
-    rw e at (c .before .before .put .ensures)
+    written-same (spelled _ _ _ (d .ensures .1 .0) (d .ensures .1 .1)) (c .before .before .put .ensures)
 
 pub put-decimal-spec : {M : Type 1} → statement M
 put-decimal-spec =
