@@ -20,7 +20,8 @@ returns : tie.Need-returns
 returns c =
     let f = c .before .before .before .before .before in
     let a = f .before .before .before .args in
-    rw (check-missing (a .most) (a .bytes .now) (a .there) (not-true (a .there) (f .if1 .taken))) (c .before .before .put-line .ensures)
+    let t = not-true (a .there) (f .if1 .taken) in
+    rw (check-missing (a .most) (a .bytes .now) (a .there) t) (c .before .before .put-line .ensures)
 
 slice-aggregate-put-line-2 : tie.Need-slice-aggregate-put-line-2
 slice-aggregate-put-line-2 c = search needs
@@ -35,7 +36,8 @@ returns-2 : tie.Need-returns-2
 returns-2 c =
     let f = c .before .before .before .before .before in
     let a = f .before .before .before .before .args in
-    rw (check-long (a .most) (a .bytes .now) (a .there) (not-false (a .there) (f .before .if1 .left)) (f .if2 .taken)) (c .before .before .put-line2 .ensures)
+    let t = not-false (a .there) (f .before .if1 .left) in
+    rw (check-long (a .most) (a .bytes .now) (a .there) t (omega arith)) (c .before .before .put-line2 .ensures)
 
 slice-aggregate-put-line-3 : tie.Need-slice-aggregate-put-line-3
 slice-aggregate-put-line-3 c = search needs
@@ -50,12 +52,14 @@ returns-3 : tie.Need-returns-3
 returns-3 c =
     let f = c .before .before .before .before .before in
     let a = f .before .before .before .before .before .args in
-    rw (check-odd (a .most) (a .bytes .now) (a .there) (not-false (a .there) (f .before .before .if1 .left)) (f .before .if2 .left) (f .if3 .taken)) (c .before .before .put-line3 .ensures)
+    let t = not-false (a .there) (f .before .before .if1 .left) in
+    rw (check-odd (a .most) (a .bytes .now) (a .there) t (omega arith) (λ z. omega arith)) (c .before .before .put-line3 .ensures)
 
 returns-4 : tie.Need-returns-4
 returns-4 c =
     let a = c .before .before .before .before .before .args in
-    rw (check-holds (a .most) (a .bytes .now) (a .there) (not-false (a .there) (c .before .before .if1 .left)) (c .before .if2 .left) (c .if3 .left)) (written-nothing (a .text .now) 0 (omega arith))
+    let t = not-false (a .there) (c .before .before .if1 .left) in
+    rw (check-holds (a .most) (a .bytes .now) (a .there) t (omega arith) (omega arith)) (written-nothing (a .text .now) 0 (omega arith))
 
 pub refuse-spec : {M : Type 1} → statement M
 refuse-spec =

@@ -74,14 +74,14 @@ returns-4 c =
     let e = b .before .before .before .before .before in
     let a = e .before .before .before .before .args in
     by-short (a .book-there) (a .book .now) (a .cue-there) (a .cue .now) (a .text .now) (e .if1 .left) (book b) (cue d)
-    (f .if4 .taken) (c .before .before .put-line .ensures)
+    (omega (arith, f .if4 .taken)) (c .before .before .put-line .ensures)
 
 expand-files-requires : tie.Need-expand-files-requires
 expand-files-requires c κs =
     let d = c .before .before in
     let b = d .before .before .before .before .before in
     let e = b .before .before .before .before .before in
-    (book b .small, c .before .if4 .left, cue d .small, rw (cue d .same, book b .same) (e .if1 .left))
+    (book b .small, omega (arith, c .before .if4 .left), cue d .small, rw (cue d .same, book b .same) (e .if1 .left))
 
 same-length-4 : tie.Need-same-length-4
 same-length-4 c = search needs
