@@ -57,6 +57,7 @@ struct Innermost {
     since: usize,
 }
 
+// A level above `floor` was opened in this run of transitions, so none of its entries was begun before it.
 fn at_level(n: usize, level: usize, floor: usize, since: usize) -> Innermost
     ensures { λ r. ⌜ r ≡ record { n = n; level = level; since = sinceAt floor since level } ⌝ }
 {
