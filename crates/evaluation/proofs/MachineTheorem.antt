@@ -1,15 +1,15 @@
--- The machine's theorem: an evaluation is advancing to the next rewrite and rewriting, in turn. A loop that does both keeps
--- `evaluation s limit t ≡ iterate s limit (suc (limit - steps)) counts r`, and a law below tells each way out of its round.
+-- The machine's theorem: an evaluation is advancing to the next rewrite and rewriting, in turn (`evaluation-iterate`). A loop that does both
+-- keeps `remains counts r ≡ evaluation s limit t`; a law below tells each way out of its round, and how a round leads to the next.
 use Prim.Native.Nat.{ℕ, zero, suc, _+_, _-_, _≤_, _<_}
 use native.Mathlib.Omega.{arith}
-use mathlib.Core.Path.{_≡_, refl, sym, _∙_}
+use mathlib.Core.Path.{_≡_, refl, sym, ap, _∙_}
 use mathlib.Core.List.{List, [], _∷_, _++_}
 use lib.ListN.{length}
 use Rattle.system.specs.Signature.{replace}
 use Rattle.system.specs.System.{System}
 use Rattle.system.specs.Terms.{WellFormed}
 use Rattle.matching.specs.Matching.{Redex}
-use Rattle.evaluation.specs.Evaluation.{Run, settled, stopped, rewrite, evaluation}
+use Rattle.evaluation.specs.Evaluation.{Run, Outcome, settled, stopped, rewrite, evaluation}
 use Rattle.system.specs.Numbers.{spent, overlong, nested}
 use Rattle.system.specs.Limits.{termWords, levels}
 use Rattle.evaluation.specs.machine.Machine.{position, resume, Next, finished, deep, ready, advance, iterate}
@@ -50,10 +50,6 @@ module _ (s : System) (limit : ℕ) where
           iterate s limit (suc k) cs r ≡ iterate s limit k (outer ++ 0 ∷ []) (record { term = rewritten; steps = suc (r .steps) })
       iterate-goes h m = iterate-ready ∙ rewrite-goes s limit here r x h m (λ r′. iterate s limit k (outer ++ 0 ∷ []) r′)
 
-  -- the rounds that are left after a step
-  pub rounds-after : (steps : ℕ) → steps < limit → limit - steps ≡ suc (limit - suc steps)
-  rounds-after steps h = omega arith
-
   -- ---- enough rounds do what is left to do
   pub iterate-resume : (wf : WellFormed s) (k : ℕ) (cs : List ℕ) (r : Run) → r .steps ≤ limit → limit < k + r .steps →
       iterate s limit k cs r ≡ resume s limit levels cs 0 r
@@ -78,3 +74,26 @@ module _ (s : System) (limit : ℕ) where
   evaluation-iterate wf t =
       let r : Run = record { term = t; steps = 0 } in
       sym (iterate-resume wf (suc limit) (0 ∷ []) r (omega arith) (omega arith) ∙ resume-evaluation s limit t)
+
+  -- ---- the same as a loop keeps it
+
+  -- what remains to be done from a state: as many rounds as steps may still be taken, and one to come to the end
+  abbrev pub remains : List ℕ → Run → Outcome
+  remains counts r = iterate s limit (suc (limit - r .steps)) counts r
+
+  pub remains-start : WellFormed s → (t : List ℕ) → remains (0 ∷ []) (record { term = t; steps = 0 }) ≡ evaluation s limit t
+  remains-start wf t =
+      let z : limit - 0 ≡ limit = omega arith in
+      rw z (sym (evaluation-iterate wf t))
+
+  -- after a step one round less
+  pub rounds-after : (steps : ℕ) → steps < limit → limit - steps ≡ suc (limit - suc steps)
+  rounds-after steps h = omega arith
+
+  pub remains-goes : (counts : List ℕ) (r : Run) (outer : List ℕ) (c : ℕ) (x : Redex) → advance s levels counts (r .term) 0 ≡ ready outer c x →
+      let t = replace (s .arities) (r .term) (position s (r .term) outer 0) (x .reduct) in
+      r .steps < limit → length t ≤ termWords → remains counts r ≡ remains (outer ++ 0 ∷ []) (record { term = t; steps = suc (r .steps) })
+  remains-goes counts r outer c x e h m =
+      let t = replace (s .arities) (r .term) (position s (r .term) outer 0) (x .reduct) in
+      let r₁ : Run = record { term = t; steps = suc (r .steps) } in
+      iterate-goes (limit - r .steps) counts r outer c x e h m ∙ ap (λ k. iterate s limit k (outer ++ 0 ∷ []) r₁) (rounds-after (r .steps) h)

@@ -24,12 +24,12 @@ use Rattle.evaluation.specs.declared.reducts.Reduced.{Reduced}
 use Rattle.evaluation.specs.declared.reducts.Reduced.the-variants.{Done, TooLong}
 use Rattle.evaluation.specs.declared.reducts.Subterm.{Subterm}
 use Rattle.evaluation.specs.declared.run.Ended.{Ended}
-use Rattle.evaluation.specs.machine.Machine.{position, ready, advance, iterate}
+use Rattle.evaluation.specs.machine.Machine.{position, ready, advance}
 use Rattle.evaluation.specs.machine.Area.{area, termIn, outerIn, countIn, Laid, Going, Holds}
 use Rattle.evaluation.specs.machine.Arrival.{Arrives, Advances}
 use Rattle.evaluation.specs.reducts.Rewritten.{Reducible, rewritten, Rewritten, done, long, Rewrites}
 use Rattle.evaluation.specs.run.Ended.{Runnable, Ends}
-use Rattle.evaluation.proofs.MachineTheorem.{iterate-finished, iterate-deep, iterate-spent, iterate-long, iterate-goes, rounds-after}
+use Rattle.evaluation.proofs.MachineTheorem.{iterate-finished, iterate-deep, iterate-spent, iterate-long, remains, remains-goes}
 use Rattle.evaluation.proofs.Goings.{going-fire}
 use Rattle.evaluation.proofs.Areas.{held-term, held-outer}
 use Rattle.evaluation.proofs.run.Starts.{area-bare}
@@ -83,7 +83,7 @@ pub record Before (k : Round) : Type 0 where
   pub reducible : Reducible (k .book) (k .ws′) (k .n) (subterm k) (k .a .found)
   pub begun : ℕ
   pub next : advance (systemOf (k .book)) levels (counts k) (now k .term) 0 ≡ ready (outerIn (k .ws′) (k .a .level)) begun (reducible .x)
-  pub same : iterate (systemOf (k .book)) (k .limit) (suc (k .limit - k .steps)) (counts k) (now k) ≡ outcome k
+  pub same : remains (systemOf (k .book)) (k .limit) (counts k) (now k) ≡ outcome k
 
 -- what is known where `advance` came to
 abbrev pub Comes : Round → Stop → Type 0
@@ -222,6 +222,5 @@ module _ (k : Round) where
         })
         go (done f q w) =
             let ep = b .reducible .place in
-            let e = sym (iterate-goes s (k .limit) left (counts k) (now k) outer (b .begun) x (b .next) l (rw ep at f)) ∙ b .same in
-            let e′ = rw (rounds-after s (k .limit) (k .steps) l, ← ep) at e in
-            rw q (running-made (made ws f w) (k .limit) (k .term) (k .steps + 1) (omega arith) (rw (add-one (k .steps)) e′))
+            let e = sym (remains-goes s (k .limit) (counts k) (now k) outer (b .begun) x (b .next) l (rw ep at f)) ∙ b .same in
+            rw q (running-made (made ws f w) (k .limit) (k .term) (k .steps + 1) (omega arith) (rw (add-one (k .steps)) (rw (← ep) at e)))

@@ -1,6 +1,5 @@
 -- What is known of a run in an area at the head of its loop: how it starts, that a state after a rewrite keeps it, and what a stop has to clear.
-use Prim.Native.Nat.{ℕ, zero, suc, _-_, _≤_, _<_}
-use native.Mathlib.Nat.{sub-zero}
+use Prim.Native.Nat.{ℕ, zero, suc, _≤_, _<_}
 use native.Mathlib.Omega.{arith}
 use mathlib.Core.Path.{_≡_, refl, sym, _∙_}
 use mathlib.Core.List.{List, [], _∷_, _++_}
@@ -11,10 +10,10 @@ use Rattle.system.specs.System.{System}
 use Rattle.system.specs.Terms.{Whole, WellFormed}
 use Rattle.system.specs.Limits.{termWords, areaWords, levels}
 use Rattle.evaluation.specs.Evaluation.{evaluation}
-use Rattle.evaluation.specs.machine.Machine.{position, Opened, base, down, iterate}
+use Rattle.evaluation.specs.machine.Machine.{position, Opened, base, down}
 use Rattle.evaluation.specs.machine.Area.{area, termIn, outerIn, countIn, Laid, Going, Positioned, Stored, Holds}
 use Rattle.evaluation.proofs.Laws.{position-le}
-use Rattle.evaluation.proofs.MachineTheorem.{evaluation-iterate}
+use Rattle.evaluation.proofs.MachineTheorem.{remains, remains-start}
 use Rattle.evaluation.proofs.Goings.{opened-replace, going-start, going-within}
 use Rattle.evaluation.proofs.Areas.{held-term, held-outer, held-count, held-length, holds, area-pushed}
 use Rattle.evaluation.proofs.run.Starts.{area-bare}
@@ -44,7 +43,7 @@ positions-kept s wf t outer c g u positions h k l =
 pub record Running (s : System) (limit : ℕ) (t₀ ws positions : List ℕ) (n level steps : ℕ) : Type 0 where
   pub holds : Holds s ws positions n level
   pub afford : steps ≤ limit
-  pub same : iterate s limit (suc (limit - steps)) (outerIn ws level ++ countIn ws level ∷ []) (record { term = termIn ws n; steps = steps }) ≡ evaluation s limit t₀
+  pub same : remains s limit (outerIn ws level ++ countIn ws level ∷ []) (record { term = termIn ws n; steps = steps }) ≡ evaluation s limit t₀
 
 -- an area that was made from a state, whose term has n words, with `level` levels around the innermost one
 pub record Made (s : System) (ws positions : List ℕ) (n level : ℕ) : Type 0 where
@@ -59,7 +58,7 @@ pub record Made (s : System) (ws positions : List ℕ) (n level : ℕ) : Type 0 
   pub positioned : Positioned s t outer positions
 
 pub running-made : {s : System} {ws positions : List ℕ} {n level : ℕ} (m : Made s ws positions n level) (limit : ℕ) (t₀ : List ℕ) (steps : ℕ) → steps ≤ limit →
-    iterate s limit (suc (limit - steps)) (m .outer ++ m .c ∷ []) (record { term = m .t; steps = steps }) ≡ evaluation s limit t₀ →
+    remains s limit (m .outer ++ m .c ∷ []) (record { term = m .t; steps = steps }) ≡ evaluation s limit t₀ →
     Running s limit t₀ ws positions n level steps
 running-made {s} {ws} {positions} {n} {level} m limit t₀ steps afford same =
     let g = m .going in
@@ -78,7 +77,7 @@ running-made {s} {ws} {positions} {n} {level} m limit t₀ steps afford same =
 pub running-start : (s : System) → WellFormed s → (limit : ℕ) (t₀ ws positions : List ℕ) → Whole (s .arities) t₀ → length t₀ ≤ termWords → ws ≡ pad areaWords t₀ →
     length positions ≡ levels → getD positions 0 0 ≡ 0 → Running s limit t₀ ws positions (length t₀) 0 0
 unfolding position
-running-start s wf limit t₀ ws positions h b e slots z = running-made m limit t₀ 0 (omega arith) (rw (sub-zero limit) (sym (evaluation-iterate s limit wf t₀)))
+running-start s wf limit t₀ ws positions h b e slots z = running-made m limit t₀ 0 (omega arith) (remains-start s limit wf t₀)
   where
     first : (k : ℕ) → k ≤ 0 → getD positions k 0 ≡ position s t₀ (take k []) 0
     first zero m = z
