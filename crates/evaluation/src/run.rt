@@ -81,11 +81,11 @@ pub fn run(book: &[u16], shape: Shape, term: &[u16], limit: u32, area: &mut [u16
                 return outcome(13, 0, steps);
             }
             Stop::Ready => {
+                level = a.level;
                 if limit <= steps {
                     clear_state(area, n, a.level);
                     return outcome(11, 0, steps);
                 }
-                level = a.level;
                 let m = a.found;
                 let position = positions[level];
                 let u = Subterm {

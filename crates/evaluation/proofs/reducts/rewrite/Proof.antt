@@ -39,13 +39,13 @@ returns-2 : tie.Need-returns-2
 returns-2 c =
     let l = c .before .before in
     let f = told l in
-    too-long (entry f .pre) (f .found .given .1) (l .reduct-length .result) (l .reduct-length .ensures) (c .if1 .taken)
+    too-long (entry f .pre) (f .found .given .1) (l .reduct-length .result) (l .reduct-length .ensures) (omega (arith, c .if1 .taken))
 
 replace-subterm-requires : tie.Need-replace-subterm-requires
 replace-subterm-requires c κs =
     let l = c .before .before .before in
     let f = told l in
-    replaceable (entry f .pre) (f .found .given .1) (l .reduct-length .result) (l .reduct-length .ensures) (c .before .if1 .left)
+    replaceable (entry f .pre) (f .found .given .1) (l .reduct-length .result) (l .reduct-length .ensures) (omega (arith, c .before .if1 .left))
 
 same-length : tie.Need-same-length
 same-length c = search needs
@@ -55,7 +55,7 @@ returns-3 c =
     let d = c .before .before in
     let l = d .before .before .before .before in
     let f = told l in
-    rewrites (entry f .pre) (f .found .given .1) (l .reduct-length .result) (l .reduct-length .ensures) (d .before .before .if1 .left) _ (d .replace-subterm .ensures)
+    rewrites (entry f .pre) (f .found .given .1) (l .reduct-length .result) (l .reduct-length .ensures) (omega (arith, d .before .before .if1 .left)) _ (d .replace-subterm .ensures)
 
 pub rewrite-spec : {M : Type 1} → statement M
 rewrite-spec =
