@@ -10,12 +10,12 @@ use Rattle.system.specs.Signature.{argument}
 use Rattle.system.specs.System.{System}
 use Rattle.system.specs.Terms.{WellFormed}
 use Rattle.matching.specs.Matching.{Redex, redex}
-use Rattle.evaluation.specs.Evaluation.{Run, settled, stopped, after, rewrite, evaluation}
+use Rattle.evaluation.specs.Evaluation.{Run, settled, stopped, after, rewrite}
 use Rattle.system.specs.Numbers.{nested}
-use Rattle.evaluation.specs.machine.Machine.{strategyAt, down, position, resume, Next, finished, deep, ready, around, scan, enter, advance}
+use Rattle.evaluation.specs.machine.Machine.{strategyAt, down, position, Next, finished, deep, ready, around, scan, enter, advance}
 use Rattle.matching.proofs.Firsts.{redex-empty}
 use Rattle.evaluation.proofs.Walks.{follow-end}
-use Rattle.evaluation.proofs.Laws.{next-entry, position-le, rest, resume-top, resume-under, resume-end, resume-deep, top-pass, top-open, top-fire, level-rewrite}
+use Rattle.evaluation.proofs.Laws.{resume, next-entry, position-le, rest, resume-top, resume-under, resume-end, resume-deep, top-pass, top-open, top-fire, level-rewrite}
 
 module _ (s : System) where
   -- a rule that matches somewhere matches within the term

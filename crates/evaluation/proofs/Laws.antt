@@ -11,7 +11,7 @@ use Rattle.system.specs.System.{System, strategy}
 use Rattle.matching.specs.Matching.{Redex, redex}
 use Rattle.evaluation.specs.Evaluation.{Run, Outcome, settled, stopped, after, rewrite, follow, evaluate, evaluation}
 use Rattle.system.specs.Numbers.{nested}
-use Rattle.evaluation.specs.machine.Machine.{others, last, strategyAt, down, position, resume}
+use Rattle.evaluation.specs.machine.Machine.{others, last, strategyAt, down, position}
 use Rattle.system.proofs.Places.{replace-word, replace-argument}
 use Rattle.evaluation.proofs.Walks.{rewrite-same, after-rewrite, follow-pass, follow-fire, follow-open}
 use Rattle.evaluation.proofs.Again.{evaluate-again}
@@ -51,6 +51,14 @@ module _ (s : System) where
     pub replace-down : down s (replace (s .arities) t q u) p c ≡ down s t p c
     unfolding down
     replace-down = rw replace-strategy (replace-argument (s .arities) t u p q (others (last (strategyAt s t p) c)) h m)
+
+-- what is left to do from a state: at the innermost level, then at each level around it
+unfoldable pub resume : System → ℕ → ℕ → List ℕ → ℕ → Run → Outcome
+resume s limit l [] p r = settled r
+resume s limit zero (c ∷ cs) p r = stopped nested (r .steps)
+resume s limit (suc l) (c ∷ cs) p r =
+    after (resume s limit l cs (down s (r .term) p c) r)
+    (λ r′. follow s limit (evaluate s limit l) (evaluate s limit (suc l)) (drop c (strategyAt s (r .term) p)) p r′)
 
 module _ (s : System) (limit : ℕ) where
   -- the clauses of resume

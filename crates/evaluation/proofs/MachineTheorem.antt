@@ -12,9 +12,9 @@ use Rattle.matching.specs.Matching.{Redex}
 use Rattle.evaluation.specs.Evaluation.{Run, Outcome, settled, stopped, rewrite, evaluation}
 use Rattle.system.specs.Numbers.{spent, overlong, nested}
 use Rattle.system.specs.Limits.{termWords, levels}
-use Rattle.evaluation.specs.machine.Machine.{position, resume, Next, finished, deep, ready, advance, iterate}
+use Rattle.evaluation.specs.machine.Machine.{position, Next, finished, deep, ready, advance, iterate}
 use Rattle.evaluation.proofs.Walks.{rewrite-spent, rewrite-long, rewrite-goes, rewrite-same}
-use Rattle.evaluation.proofs.Laws.{resume-evaluation}
+use Rattle.evaluation.proofs.Laws.{resume, resume-evaluation}
 use Rattle.evaluation.proofs.Iterate.{Reached, reached}
 
 module _ (s : System) (limit : ℕ) where

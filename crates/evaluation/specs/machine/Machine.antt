@@ -8,7 +8,7 @@ use lib.ListN.{length, getD, drop}
 use Rattle.system.specs.Signature.{argument}
 use Rattle.system.specs.System.{System, strategy}
 use Rattle.matching.specs.Matching.{Redex, redex}
-use Rattle.evaluation.specs.Evaluation.{Run, Outcome, settled, stopped, after, rewrite, follow, evaluate}
+use Rattle.evaluation.specs.Evaluation.{Run, Outcome, settled, stopped, rewrite}
 use Rattle.system.specs.Numbers.{spent, nested}
 use Rattle.system.specs.Limits.{levels}
 
@@ -40,14 +40,6 @@ pub data Opened (s : System) (t : List ℕ) : ℕ → List ℕ → Type 0 where
   base : {p : ℕ} → Opened s t p []
   level : {p c i : ℕ} {cs : List ℕ} → c < length (strategyAt s t p) → getD (strategyAt s t p) c 0 ≡ suc i →
       Opened s t (down s t p (suc c)) cs → Opened s t p (suc c ∷ cs)
-
--- what is left to do from a state: at the innermost level, then at each level around it
-unfoldable pub resume : System → ℕ → ℕ → List ℕ → ℕ → Run → Outcome
-resume s limit l [] p r = settled r
-resume s limit zero (c ∷ cs) p r = stopped nested (r .steps)
-resume s limit (suc l) (c ∷ cs) p r =
-    after (resume s limit l cs (down s (r .term) p c) r)
-    (λ r′. follow s limit (evaluate s limit l) (evaluate s limit (suc l)) (drop c (strategyAt s (r .term) p)) p r′)
 
 -- where a machine comes to without a rewrite: the end; an argument that would be opened too deep;
 -- or a rewrite at the position below the levels `outer`, where `begun` entries are begun, the 0 of this rewrite among them
