@@ -5,8 +5,11 @@ ghost use Rattle.system.specs.Reader.{read};
 ghost use Rattle.matching.specs.Safety.{TestedBook};
 ghost use Rattle.evaluation.specs.Expansion.{result, expansion, secondly};
 ghost use Rattle.evaluation.specs.Demand3.{IsDone, IsHandedBack, IsFound, RestsAgain};
-use crate::expand;
+use crate::expand_scanned;
+use matching::safety::test;
 use system::Answer;
+use system::numbers::TAKEN;
+use system::reader::scan_book;
 
 // The answers of the strategy test and of the evaluator.
 pub struct Checked {
@@ -30,8 +33,9 @@ pub fn expand_checked(
         (result (r .answer) (now (out .exit)) (now (work .exit))) ⌝ }
     ensures found { λ r. ⌜ IsFound (now (book .entry)) (r .test) (result (r .answer) (now (out .exit)) (now (work .exit))) ⌝ }
 {
-    let test = matching::test_strategies(book);
-    let answer = expand(book, term, limit, out, work);
+    let s = scan_book(book);
+    let test = test(book, s);
+    let answer = expand_scanned(book, s, term, limit, out, work);
     Checked { test, answer }
 }
 
@@ -63,9 +67,10 @@ pub fn expand_twice(
     ensures rests { λ r. ⌜ RestsAgain (r .test) (result (r .first) (now (out .exit)) (now (work .exit)))
         (now (again .entry)) (now (spare .entry)) (result (r .second) (now (again .exit)) (now (spare .exit))) ⌝ }
 {
-    let test = matching::test_strategies(book);
-    let first = expand(book, term, limit, out, work);
-    if first.number != 0 {
+    let s = scan_book(book);
+    let test = test(book, s);
+    let first = expand_scanned(book, s, term, limit, out, work);
+    if first.number != TAKEN {
         return Twice {
             test,
             first,
@@ -73,7 +78,7 @@ pub fn expand_twice(
         };
     }
     let n = first.place;
-    let second = expand(book, &out[0..n], 0, again, spare);
+    let second = expand_scanned(book, s, &out[0..n], 0, again, spare);
     Twice {
         test,
         first,

@@ -3,6 +3,8 @@ ghost use mathlib.Core.Path.{_≡_};
 ghost use Prim.Native.Nat.{_≤_};
 ghost use lib.ListN.{length, take};
 ghost use Rattle.buffers.specs.Words.{over, zeros, pad};
+ghost use Rattle.system.specs.Reader.{read};
+ghost use Rattle.system.specs.Answers.{scanOf};
 ghost use Rattle.evaluation.specs.Expansion.{result, expansion};
 
 pub mod demands;
@@ -14,6 +16,11 @@ use crate::run::Ended;
 use system::Answer;
 use system::limits::AREA_WORDS;
 use system::limits::TERM_WORDS;
+use system::numbers::CRAMPED;
+use system::numbers::TAKEN;
+use system::reader::Scan;
+use system::reader::scan_book;
+use system::terms::check;
 
 // Expands a term (01: a cue) over a book, with at most `limit` steps (01: the allowance).
 //
@@ -24,18 +31,34 @@ pub fn expand(book: &[u16], term: &[u16], limit: u32, out: &mut [u16], work: &mu
     ensures { λ r. ⌜ result r (now (out .exit)) (now (work .exit))
         ≡ expansion (now (book .entry)) (now (term .entry)) limit (now (out .entry)) (now (work .entry)) ⌝ }
 {
+    let s = scan_book(book);
+    expand_scanned(book, s, term, limit, out, work)
+}
+
+// The same over a book that was scanned.
+fn expand_scanned(
+    book: &[u16],
+    scan: Scan,
+    term: &[u16],
+    limit: u32,
+    out: &mut [u16],
+    work: &mut [u16],
+) -> Answer
+    requires { ⌜ scan ≡ scanOf (read (now book)) ⌝ }
+    ensures { λ r. ⌜ result r (now (out .exit)) (now (work .exit))
+        ≡ expansion (now (book .entry)) (now (term .entry)) limit (now (out .entry)) (now (work .entry)) ⌝ }
+{
     if out.len() < TERM_WORDS {
-        return refused(10);
+        return refused(CRAMPED);
     }
     if work.len() < AREA_WORDS {
-        return refused(10);
+        return refused(CRAMPED);
     }
-    let c = system::check_term(book, term);
-    if c.number != 0 {
+    let c = check(book, scan, term);
+    if c.number != TAKEN {
         return c;
     }
-    let shape = system::shape_of(book);
-    let e = run::run(book, shape, term, limit, &mut work[0..AREA_WORDS]);
+    let e = run::run(book, scan.shape, term, limit, &mut work[0..AREA_WORDS]);
     finish(out, work, e)
 }
 

@@ -6,11 +6,14 @@ use borrow.Author.Needs.{needs}
 use Rattle.evaluation.proofs.demands.expand_checked.Statement.{statement}
 use Rattle.evaluation.proofs.demands.expand_checked.Tie as tie
 
-test-strategies-requires : tie.Need-test-strategies-requires
-test-strategies-requires c κs = search needs
+scan-book-requires : tie.Need-scan-book-requires
+scan-book-requires c κs = search needs
 
-expand-requires : tie.Need-expand-requires
-expand-requires c κs = search needs
+test-requires : tie.Need-test-requires
+test-requires c κs = search needs
+
+expand-scanned-requires : tie.Need-expand-scanned-requires
+expand-scanned-requires c κs = search needs
 
 same-length : tie.Need-same-length
 same-length c = search needs
@@ -20,9 +23,9 @@ same-length-2 c = search needs
 
 returns : tie.Need-returns
 returns c =
-    let a = c .before .before .before .before .before .before .before .before .before .before .before .before .args in
-    let t = c .before .before .before .before .before .before .before .test-strategies in
-    let e = c .before .before .before .before .expand .ensures in
+    let a = c .before .before .before .before .before .before .before .before .before .before .before .before .before .args in
+    let t = c .before .before .before .before .before .before .before .test in
+    let e = c .before .before .before .before .expand-scanned .ensures in
     let b = a .book .now in
     let u = a .term .now in
     let l = a .limit in
@@ -35,4 +38,4 @@ returns c =
 
 pub expand-checked-spec : {M : Type 1} → statement M
 expand-checked-spec =
-    tie.close (tie.spec test-strategies-requires expand-requires same-length same-length-2 returns)
+    tie.close (tie.spec scan-book-requires test-requires expand-scanned-requires same-length same-length-2 returns)

@@ -10,11 +10,14 @@ use borrow.Author.Needs.{needs}
 use Rattle.evaluation.proofs.demands.expand_twice.Statement.{statement}
 use Rattle.evaluation.proofs.demands.expand_twice.Tie as tie
 
-test-strategies-requires : tie.Need-test-strategies-requires
-test-strategies-requires c κs = search needs
+scan-book-requires : tie.Need-scan-book-requires
+scan-book-requires c κs = search needs
 
-expand-requires : tie.Need-expand-requires
-expand-requires c κs = search needs
+test-requires : tie.Need-test-requires
+test-requires c κs = search needs
+
+expand-scanned-requires : tie.Need-expand-scanned-requires
+expand-scanned-requires c κs = search needs
 
 same-length : tie.Need-same-length
 same-length c = search needs
@@ -24,30 +27,30 @@ same-length-2 c = search needs
 
 returns : tie.Need-returns
 returns c =
-    let a = c .before .before .before .before .before .before .before .before .before .before .before .before .before .before .before .before .args in
-    let t = c .before .before .before .before .before .before .before .before .before .test-strategies in
-    let e = c .before .before .before .before .before .before .expand in
-    let x = result (e .result) (e .last .1 .1 .1 .0) (e .last .1 .1 .1 .1 .0) in
+    let a = c .before .before .before .before .before .before .before .before .before .before .before .before .before .before .before .before .before .args in
+    let t = c .before .before .before .before .before .before .before .before .before .test in
+    let e = c .before .before .before .before .before .before .expand-scanned in
+    let x = result (e .result) (e .last .1 .1 .1 .1 .0) (e .last .1 .1 .1 .1 .1 .0) in
     let b = a .book .now in
     let none = second-none b (a .term .now) (a .limit) (a .out .now) (a .work .now) x (e .ensures) (a .again .now) (a .spare .now) (c .if1 .taken) in
     let found = is-found b (a .term .now) (a .limit) (a .out .now) (a .work .now) (t .result) (t .ensures) in
     (t .ensures, (e .ensures, (none, (subst (IsFound b (t .result)) (sym (e .ensures)) found, λ z z′. absurd (c .if1 .taken z′)))))
 
-sub-expand : tie.Need-sub-expand
-sub-expand c = search needs
+sub-expand-scanned : tie.Need-sub-expand-scanned
+sub-expand-scanned c = search needs
 
-part-expand-start : tie.Need-part-expand-start
-part-expand-start c = search needs
+part-expand-scanned-start : tie.Need-part-expand-scanned-start
+part-expand-scanned-start c = search needs
 
-part-expand-end : tie.Need-part-expand-end
-part-expand-end c =
-    let a = c .before .before .before .before .before .before .before .before .before .before .before .before .before .before .before .before .before .args in
-    let e = c .before .before .before .before .before .before .before .expand in
-    let x = result (e .result) (e .last .1 .1 .1 .0) (e .last .1 .1 .1 .1 .0) in
+part-expand-scanned-end : tie.Need-part-expand-scanned-end
+part-expand-scanned-end c =
+    let a = c .before .before .before .before .before .before .before .before .before .before .before .before .before .before .before .before .before .before .args in
+    let e = c .before .before .before .before .before .before .before .expand-scanned in
+    let x = result (e .result) (e .last .1 .1 .1 .1 .0) (e .last .1 .1 .1 .1 .1 .0) in
     handed-fits (a .book .now) (a .term .now) (a .limit) (a .out .now) (a .work .now) x (e .ensures) (c .before .if1 .left)
 
-expand-requires-2 : tie.Need-expand-requires-2
-expand-requires-2 c κs = search needs
+expand-scanned-requires-2 : tie.Need-expand-scanned-requires-2
+expand-scanned-requires-2 c κs = search needs
 
 same-length-3 : tie.Need-same-length-3
 same-length-3 c = search needs
@@ -64,16 +67,16 @@ same-length-6 c = search needs
 returns-2 : tie.Need-returns-2
 returns-2 c =
     let d = c .before .before .before .before .before .before .before .before .before .before .before .before .before .before .before in
-    let a = d .before .before .before .before .before .before .before .before .before .before .args in
-    let t = d .before .before .before .test-strategies in
-    let e = d .expand in
-    let f = c .before .before .before .before .expand2 in
+    let a = d .before .before .before .before .before .before .before .before .before .before .before .args in
+    let t = d .before .before .before .test in
+    let e = d .expand-scanned in
+    let f = c .before .before .before .before .expand-scanned2 in
     let z = c .before .before .before .before .before .before .before .before .before .if1 .left in
-    let x = result (e .result) (e .last .1 .1 .1 .0) (e .last .1 .1 .1 .1 .0) in
-    let x′ = result (f .result) (f .last .1 .1 .1 .0) (f .last .1 .1 .1 .1 .0) in
+    let x = result (e .result) (e .last .1 .1 .1 .1 .0) (e .last .1 .1 .1 .1 .1 .0) in
+    let x′ = result (f .result) (f .last .1 .1 .1 .1 .0) (f .last .1 .1 .1 .1 .1 .0) in
     let b = a .book .now in
-    let v = take (e .result .place - 0) (e .last .1 .1 .1 .0) in
-    let same = ap (λ n. take n (e .last .1 .1 .1 .0)) (sub-zero (e .result .place)) in
+    let v = take (e .result .place - 0) (e .last .1 .1 .1 .1 .0) in
+    let same = ap (λ n. take n (e .last .1 .1 .1 .1 .0)) (sub-zero (e .result .place)) in
     let second = second-goes b (a .term .now) (a .limit) (a .out .now) (a .work .now) x (e .ensures) (a .again .now) (a .spare .now) x′ z v same (f .ensures) in
     let found = is-found b (a .term .now) (a .limit) (a .out .now) (a .work .now) (t .result) (t .ensures) in
     let rests = second-rests b (a .term .now) (a .limit) (a .out .now) (a .work .now) x (e .ensures) (a .again .now) (a .spare .now) (t .result) (t .ensures) in
@@ -83,15 +86,16 @@ pub expand-twice-spec : {M : Type 1} → statement M
 expand-twice-spec =
     tie.close
     (tie.spec
-    test-strategies-requires
-    expand-requires
+    scan-book-requires
+    test-requires
+    expand-scanned-requires
     same-length
     same-length-2
     returns
-    sub-expand
-    part-expand-start
-    part-expand-end
-    expand-requires-2
+    sub-expand-scanned
+    part-expand-scanned-start
+    part-expand-scanned-end
+    expand-scanned-requires-2
     same-length-3
     same-length-4
     same-length-5
