@@ -2,11 +2,11 @@
 // arguments on and its answer back; none asks anything of its caller.
 ghost use mathlib.Core.Path.{_≡_};
 ghost use Rattle.system.specs.Answers.{answerOf, shapeOf, termAnswer, signatureOf};
-ghost use Rattle.system.specs.Reader.{read};
+ghost use Rattle.system.specs.Parser.{read};
 ghost use Rattle.system.specs.Signature.{span};
 ghost use Rattle.system.specs.Book.{systemOf};
 ghost use Rattle.matching.specs.Stretches.{matchOf};
-ghost use Rattle.matching.specs.Safety.{TestedBook};
+ghost use Rattle.matching.specs.StrategyTest.{TestedBook};
 ghost use Rattle.evaluation.specs.Expansion.{result, expansion, secondly};
 ghost use Rattle.evaluation.specs.Demand3.{IsDone, IsHandedBack, IsFound, RestsAgain};
 ghost use Rattle.cue.specs.Exports.{answerFor, asAnswer, shapeFor, partFor, matchFor};

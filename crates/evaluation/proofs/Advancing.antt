@@ -12,7 +12,7 @@ use Rattle.matching.specs.declared.rules.Fit.{Fit}
 use Rattle.matching.specs.declared.Found.the-variants.{Nothing}
 use Rattle.system.specs.Book.{systemOf}
 use Rattle.system.specs.layout.Accepted.{Accepted}
-use Rattle.matching.specs.Stretches.{fitOf}
+use Rattle.matching.specs.rules.Fits.{fitOf}
 use Rattle.evaluation.specs.declared.machine.State.{State}
 use Rattle.evaluation.specs.declared.machine.Event.{Event}
 use Rattle.evaluation.specs.declared.machine.Event.the-variants.{End, Repeated, Rules, Argument}

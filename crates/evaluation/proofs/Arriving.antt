@@ -9,7 +9,8 @@ use Rattle.matching.specs.declared.rules.Fit.{Fit}
 use Rattle.matching.specs.declared.Found.the-variants.{First}
 use Rattle.system.specs.Book.{systemOf}
 use Rattle.matching.specs.Matching.{redex}
-use Rattle.matching.specs.Stretches.{matchOf, fitOf}
+use Rattle.matching.specs.Stretches.{matchOf}
+use Rattle.matching.specs.rules.Fits.{fitOf}
 use Rattle.system.specs.Signature.{span}
 use Rattle.evaluation.specs.declared.machine.Advanced.{Advanced}
 use Rattle.evaluation.specs.declared.machine.Event.the-variants.{End, Rules, TooDeep}

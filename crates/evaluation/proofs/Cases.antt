@@ -3,11 +3,11 @@ use mathlib.Core.Path.{refl}
 use Rattle.buffers.specs.Words.{zeros}
 use Rattle.system.specs.Signature.{isSymbol, arity, span, argument, replace}
 use Rattle.system.specs.System.{strategy, instance}
-use Rattle.system.specs.Reader.{read, readSystem, readRules, readEnd, readRule, readSide, readWords, readStrategy, number, word, learn, sideFault, variableFault, outside, each, times}
+use Rattle.system.specs.Parser.{read, readSystem, readRules, readEnd, readRule, readSide, readWords, readStrategy, number, word, learn, sideFault, variableFault, outside, each, times}
 use Rattle.system.specs.TermCheck.{termFault}
 use Rattle.system.specs.Answers.{termAnswer}
 use Rattle.system.specs.Book.{systemOf}
-use Rattle.matching.specs.Safety.{passes, every, closes, idles, idleTest, isVariable, constructs}
+use Rattle.matching.specs.safety.Computed.{passes, every, closes, idles, idleTest, isVariable, constructs}
 use Rattle.matching.specs.Cases.{failing, testing, strategyCases}
 use Rattle.matching.specs.Matching.{bind, firstMatch, redex}
 use Rattle.system.specs.Cases.{Hold, bookB, readerCases}

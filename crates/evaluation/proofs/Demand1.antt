@@ -7,7 +7,7 @@ use mathlib.Core.List.{List}
 use Rattle.system.specs.declared.Answer.{Answer}
 use Rattle.system.specs.Numbers.{Fault, missing, range, entry, unknown, unbalanced, variableHead, unbound, trailing, faultNumber}
 use Rattle.system.specs.System.{System}
-use Rattle.system.specs.Reader.{Parsed, ok, fault, read}
+use Rattle.system.specs.Parser.{Parsed, ok, fault, read}
 use Rattle.system.specs.TermCheck.{termFault}
 use Rattle.system.specs.Answers.{answerOf, wholeAnswer, termAnswer}
 use Rattle.system.specs.Book.{systemOf}

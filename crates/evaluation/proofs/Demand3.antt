@@ -8,11 +8,11 @@ use lib.Seq.{take-at, sets-eq}
 use Rattle.buffers.specs.Words.{over}
 use Rattle.system.specs.declared.Answer.{Answer}
 use Rattle.system.specs.Terms.{Whole}
-use Rattle.system.specs.Reader.{ok, read}
+use Rattle.system.specs.Parser.{ok, read}
 use Rattle.system.specs.Answers.{termAnswer}
 use Rattle.system.proofs.TermChecks.{whole-fault}
 use Rattle.system.specs.Book.{systemOf}
-use Rattle.matching.specs.Safety.{Safe, Tested, passed, failed, TestedBook}
+use Rattle.matching.specs.StrategyTest.{Safe, Tested, passed, failed, TestedBook}
 use Rattle.evaluation.specs.Evaluation.{Run, Outcome, settled, stopped, evaluation}
 use Rattle.system.specs.Numbers.{Limit, spent, overlong, nested, limitNumber}
 use Rattle.evaluation.specs.Outcomes.{Done}

@@ -12,7 +12,7 @@ use Rattle.buffers.proofs.Pads.{length-zeros, take-pad}
 use Rattle.system.specs.declared.Answer.{Answer}
 use Rattle.system.specs.declared.Shape.{Shape}
 use Rattle.system.specs.Terms.{Whole, WellFormed}
-use Rattle.system.specs.Reader.{read, ok}
+use Rattle.system.specs.Parser.{read, ok}
 use Rattle.system.specs.Answers.{shapeOf, termAnswer}
 use Rattle.system.proofs.Accepts.{read-sound}
 use Rattle.system.proofs.Answering.{checked}

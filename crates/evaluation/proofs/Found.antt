@@ -15,7 +15,7 @@ use Rattle.system.specs.Terms.{more, Whole, Stands, first, later, WellFormed}
 use Rattle.matching.specs.Matching.{redex}
 use Rattle.evaluation.specs.Evaluation.{Run, settled, evaluation}
 use Rattle.evaluation.specs.Outcomes.{Stable}
-use Rattle.matching.specs.Safety.{IdleEntry, idle, Guarded, Constructor, Safe}
+use Rattle.matching.specs.StrategyTest.{IdleEntry, idle, Guarded, Constructor, Safe}
 use Rattle.matching.proofs.Firsts.{fired, unfired}
 use Rattle.evaluation.proofs.Walks.{Walk, end, pass, fire, open′, evaluate-local}
 use Rattle.evaluation.proofs.Done.{walk-whole}

@@ -15,8 +15,9 @@ use Rattle.matching.specs.declared.Found.the-variants.{Nothing, First}
 use Rattle.system.specs.Book.{systemOf}
 use Rattle.system.specs.layout.Accepted.{Accepted}
 use Rattle.matching.specs.Matching.{Redex, redex}
-use Rattle.matching.specs.Stretches.{ends, matchOf, fitOf}
-use Rattle.matching.proofs.Widths.{fit-match, fit-width}
+use Rattle.matching.specs.rules.Fits.{ends, fitOf}
+use Rattle.matching.specs.Stretches.{matchOf}
+use Rattle.matching.proofs.rules.Widths.{fit-match, fit-width}
 use Rattle.system.proofs.layout.Books.{well}
 use Rattle.matching.proofs.Reducts.{match-none, match-some, found-ends}
 use Rattle.evaluation.specs.machine.Machine.{position}

@@ -1,8 +1,8 @@
 // Demand 3 as contracts: small functions that call the strategy test and the evaluator, and whose contracts are its sentences.
 ghost use mathlib.Core.Path.{_≡_};
 ghost use lib.ListN.{length};
-ghost use Rattle.system.specs.Reader.{read};
-ghost use Rattle.matching.specs.Safety.{TestedBook};
+ghost use Rattle.system.specs.Parser.{read};
+ghost use Rattle.matching.specs.StrategyTest.{TestedBook};
 ghost use Rattle.evaluation.specs.Expansion.{result, expansion, secondly};
 ghost use Rattle.evaluation.specs.Demand3.{IsDone, IsHandedBack, IsFound, RestsAgain};
 use crate::expand_scanned;

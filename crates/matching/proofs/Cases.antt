@@ -11,10 +11,11 @@ use Rattle.system.specs.declared.Answer.{Answer}
 use Rattle.system.specs.Signature.{Symbol, isSymbol, arity, span, argument}
 use Rattle.system.specs.System.{System, strategy}
 use Rattle.system.specs.Terms.{Stands, first, later}
-use Rattle.system.specs.Reader.{ok, read, readSystem, readRules, readEnd, readRule, readSide, readWords, readStrategy, number, word, learn, sideFault, variableFault, outside, each, times}
+use Rattle.system.specs.Parser.{ok, read, readSystem, readRules, readEnd, readRule, readSide, readWords, readStrategy, number, word, learn, sideFault, variableFault, outside, each, times}
 use Rattle.system.specs.Cases.{Hold, bookB, earlyB}
 use Rattle.system.specs.Book.{systemOf}
-use Rattle.matching.specs.Safety.{Passes, Tested, passed, failed, TestedBook, passes, every, closes, idles, idleTest, isVariable, constructs}
+use Rattle.matching.specs.StrategyTest.{Passes, Tested, passed, failed, TestedBook}
+use Rattle.matching.specs.safety.Computed.{passes, every, closes, idles, idleTest, isVariable, constructs}
 use Rattle.matching.specs.Cases.{failing, testing, strategyCases}
 use Rattle.system.proofs.Members.{stands-nil, stands-front, stands-back}
 use Rattle.matching.proofs.SafetyTest.{passes-sound, passes-complete}

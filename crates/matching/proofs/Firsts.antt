@@ -7,8 +7,8 @@ use mathlib.Core.Option.{Option, none, some}
 use mathlib.Core.List.{List, [], _∷_, _++_, append-nil}
 use lib.ListN.{length, getD, drop}
 use lib.Seq.{drop-append-seam}
-use Rattle.system.specs.Signature.{Signature}
 use Rattle.system.specs.Limits.{variable}
+use Rattle.system.specs.Signature.{Signature}
 use Rattle.system.specs.System.{System, Rule, rule, noRule, instance}
 use Rattle.system.specs.Terms.{more, Whole, Side, Lawful, WellFormed}
 use Rattle.matching.specs.Matching.{Matches, bind, Redex, firstMatch, redex}

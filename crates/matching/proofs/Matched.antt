@@ -10,8 +10,8 @@ use mathlib.Core.List.{List, [], _∷_, _++_, append-assoc, append-nil}
 use lib.ListN.{length, getD, take, drop, length-append}
 use lib.Seq.{drop-append-seam, take-append-seam, append-snoc, getD-at}
 use borrow.Author.Tests.{lt-ltb, le-ltb, eq-eqb, ne-eqb}
-use Rattle.system.specs.Signature.{Signature, Symbol, span, arity}
 use Rattle.system.specs.Limits.{variable}
+use Rattle.system.specs.Signature.{Signature, Symbol, span, arity}
 use Rattle.system.specs.System.{Rule, instance}
 use Rattle.system.specs.Terms.{Forest, empty, more, Word, Whole, Stands, first, later, Numbered, end, name, next, Lawful}
 use Rattle.matching.specs.Matching.{Matches, bind}

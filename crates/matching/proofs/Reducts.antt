@@ -11,8 +11,8 @@ use lib.ListN.{length, getD, take, drop, length-append, length-drop, length-take
 use lib.Seq.{drop-cons, getD-take, getD-drop, length-take-le}
 use borrow.Author.Tests.{lt-ltb, le-ltb}
 use Rattle.system.specs.declared.Shape.{Shape}
-use Rattle.system.specs.Signature.{Symbol, span}
 use Rattle.system.specs.Limits.{variable}
+use Rattle.system.specs.Signature.{Symbol, span}
 use Rattle.system.specs.System.{System, rule, instance}
 use Rattle.system.specs.Terms.{Whole, Lawful}
 use Rattle.system.specs.Answers.{signatureOf}
@@ -24,13 +24,14 @@ use Rattle.matching.specs.declared.Found.the-variants.{Nothing, First}
 use Rattle.system.specs.Book.{systemOf}
 use Rattle.system.specs.layout.Accepted.{Accepted}
 use Rattle.matching.specs.Matching.{Matches, bind, redex}
-use Rattle.matching.specs.Stretches.{Stretches, ends, matchOf, value, stretchesOf, redexOf, reductLength, RightSide, Within}
+use Rattle.matching.specs.Stretches.{Stretches, matchOf}
+use Rattle.matching.specs.rules.Fits.{ends, value, stretchesOf, redexOf, reductLength, RightSide, Within}
 use Rattle.matching.proofs.Matched.{instance-nil, instance-symbol, instance-variable, instance-cong, bind-sound}
 use Rattle.matching.proofs.Firsts.{redex-first, redex-rest, Fired, fired, unfired}
 use Rattle.matching.proofs.Stretched.{Chosen, Answers, answers}
-use Rattle.matching.proofs.Widths.{ends-bound}
+use Rattle.matching.proofs.rules.Widths.{ends-bound}
 use Rattle.system.proofs.layout.Books.{well, signature, first-rest, lawful, rule-count}
-use Rattle.matching.proofs.Searches.{match-start}
+use Rattle.matching.proofs.rules.Searches.{match-start}
 
 -- ---- lengths
 

@@ -10,11 +10,12 @@ use mathlib.Core.Bool.{Bool, true, false, not, _&&_, _||_, or-true}
 use lib.ListN.{length, getD}
 use lib.Dec.{eqb}
 use borrow.Author.Tests.{leb-true, le-leb, eq-eqb, ne-eqb}
-use Rattle.system.specs.Signature.{Symbol}
 use Rattle.system.specs.Limits.{variable}
+use Rattle.system.specs.Signature.{Symbol}
 use Rattle.system.specs.System.{System, Rule, strategy, rule, noRule, head}
 use Rattle.system.specs.Terms.{Stands, first, later}
-use Rattle.matching.specs.Safety.{Idle, IdleEntry, idle, Constructor, Passes, Safe, every, isVariable, idleTest, idles, closes, constructs, passes}
+use Rattle.matching.specs.StrategyTest.{Idle, IdleEntry, idle, Constructor, Passes, Safe}
+use Rattle.matching.specs.safety.Computed.{every, isVariable, idleTest, idles, closes, constructs, passes}
 
 both : (a b : Bool) → (a && b) ≡ true → (a ≡ true) × (b ≡ true)
 both true b e = (refl, e)

@@ -9,23 +9,24 @@ use mathlib.Core.Option.{Option, none, some}
 use mathlib.Core.List.{List, [], _∷_, _++_}
 use lib.ListN.{length, getD, take, drop, set, replicate, length-append, length-drop, length-set, length-replicate, getD-replicate, List·getD-eq-default, List·getD-append}
 use lib.Seq.{getD-take, getD-drop, getD-at, getD-set-same, getD-set-other, drop-cons}
-use Rattle.system.specs.Signature.{Signature, span, subterm}
 use Rattle.system.specs.Limits.{variable, variables}
+use Rattle.system.specs.Signature.{Signature, span, subterm}
 use Rattle.system.specs.System.{Rule, noRule, instance}
 use Rattle.system.specs.Terms.{Numbered, end, name, next, Lawful}
 use Rattle.system.specs.Format.{encodeRules}
 use Rattle.system.proofs.Accepts.{forest-some}
 use Rattle.system.proofs.Members.{stands-getD, numbered-le}
 use Rattle.system.proofs.Located.{RuleAt, rule-listed}
-use Rattle.system.proofs.Spans.{span-le}
+use Rattle.system.proofs.words.SpanSteps.{span-le}
 use Rattle.matching.specs.Matching.{bind, Redex, firstMatch}
 use Rattle.matching.specs.declared.Match.{Match}
 use Rattle.matching.specs.declared.Found.the-variants.{First}
-use Rattle.matching.specs.Stretches.{Stretches, unset, stretches, nothing, matchFrom, value, stretchesOf, redexOf, RightSide, Within}
+use Rattle.matching.specs.Stretches.{Stretches, unset, stretches, nothing, matchFrom}
+use Rattle.matching.specs.rules.Fits.{value, stretchesOf, redexOf, RightSide, Within}
 use Rattle.matching.proofs.Matched.{bind-nil, instance-cong}
 use Rattle.matching.proofs.Firsts.{first-here, first-next, first-nil}
 use Rattle.matching.proofs.Words.{match-end, match-symbol, match-differ, match-variable}
-use Rattle.matching.proofs.MatchSteps.{takes-end, takes-variable, takes-differ, takes-same, note-symbol, note-variable, words-end, words-stop, words-next, from-nil, from-here, from-next}
+use Rattle.matching.proofs.rules.MatchSteps.{takes-end, takes-variable, takes-differ, takes-same, note-symbol, note-variable, words-end, words-stop, words-next, from-nil, from-here, from-next}
 
 -- a list of zeros
 pub zero-at : (n v : ℕ) → _≡_ {A = ℕ} (getD (replicate n 0) v 0) 0

@@ -8,11 +8,11 @@ use Rattle.system.specs.declared.Answer.{Answer}
 use Rattle.system.specs.Signature.{Symbol}
 use Rattle.system.specs.System.{System}
 use Rattle.system.specs.declared.reader.Scan.{Scan}
-use Rattle.system.specs.Reader.{Parsed, ok, fault, read}
-use Rattle.system.specs.Answers.{scanOf}
-use Rattle.system.proofs.Located.{fault-not-zero}
+use Rattle.system.specs.Parser.{Parsed, ok, fault, read}
+use Rattle.system.specs.reader.Sections.{scanOf}
+use Rattle.system.proofs.FaultNumbers.{fault-not-zero}
 use Rattle.system.specs.Book.{systemFrom, systemOf}
-use Rattle.matching.specs.Safety.{Passes, Safe, Tested, passed, failed, TestedBook}
+use Rattle.matching.specs.StrategyTest.{Passes, Safe, Tested, passed, failed, TestedBook}
 use Rattle.system.proofs.layout.Accepting.{reads-system, scan-accepted}
 
 -- an accepted book whose system is safe

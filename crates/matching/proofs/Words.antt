@@ -5,8 +5,8 @@ use mathlib.Core.Option.{none}
 use mathlib.Core.List.{List, [], _∷_, _++_, append-assoc, append-nil}
 use lib.ListN.{length, getD, take, drop, drop-of-length-le}
 use lib.Seq.{drop-cons, drop-drop, take-suc}
-use Rattle.system.specs.Signature.{Signature, span, subterm}
 use Rattle.system.specs.Limits.{variable}
+use Rattle.system.specs.Signature.{Signature, span, subterm}
 use Rattle.system.specs.System.{instance}
 use Rattle.matching.specs.Matching.{bind}
 use Rattle.matching.proofs.Matched.{bind-symbol, bind-differ, bind-past, instance-nil, instance-symbol, instance-variable}

@@ -6,8 +6,8 @@ use mathlib.Core.Bool.{true, false}
 use mathlib.Core.Option.{Option, none, some}
 use lib.ListN.{getD, take, drop}
 use lib.Dec.{ltb, eqb}
-use Rattle.system.specs.Signature.{Signature, span, subterm}
 use Rattle.system.specs.Limits.{variable}
+use Rattle.system.specs.Signature.{Signature, span, subterm}
 use Rattle.system.specs.System.{System, Rule, instance}
 use Rattle.system.specs.Terms.{Whole}
 

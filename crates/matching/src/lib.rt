@@ -2,10 +2,10 @@
 // contracts of `system`. The two operations here ask nothing of their caller; `rules` is the inner interface for the
 // layers above, over a book that is known to be accepted.
 ghost use mathlib.Core.Path.{_≡_};
-ghost use Rattle.system.specs.Reader.{read};
+ghost use Rattle.system.specs.Parser.{read};
 ghost use Rattle.system.specs.Book.{systemOf};
 ghost use Rattle.matching.specs.Stretches.{matchOf};
-ghost use Rattle.matching.specs.Safety.{TestedBook};
+ghost use Rattle.matching.specs.StrategyTest.{TestedBook};
 use system::Answer;
 use system::limits::VARIABLES;
 use system::numbers::TAKEN;

@@ -1,12 +1,14 @@
 // The strategy test, symbol by symbol, over an accepted book whose shape is known.
 ghost use mathlib.Core.Path.{_≡_};
 ghost use mathlib.Core.Bool.{not};
-ghost use Rattle.system.specs.Reader.{read};
-ghost use Rattle.system.specs.Answers.{signatureOf, scanOf};
+ghost use Rattle.system.specs.Parser.{read};
+ghost use Rattle.system.specs.Answers.{signatureOf};
+ghost use Rattle.system.specs.reader.Sections.{scanOf};
 ghost use Rattle.system.specs.System.{strategy};
 ghost use Rattle.system.specs.Book.{systemOf};
 ghost use Rattle.system.specs.layout.Accepted.{Accepted, StrategyAt};
-ghost use Rattle.matching.specs.Safety.{isVariable, idleTest, closes, constructs, passes, Tested, TestedBook};
+ghost use Rattle.matching.specs.StrategyTest.{Tested, TestedBook};
+ghost use Rattle.matching.specs.safety.Computed.{isVariable, idleTest, closes, constructs, passes};
 use system::Answer;
 use system::Shape;
 use system::layout::rules::rule_at;

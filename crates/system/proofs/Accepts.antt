@@ -12,20 +12,22 @@ use lib.ListN.{length, getD, drop-of-length-le, List·getD-eq-default}
 use lib.Seq.{drop-length}
 use lib.Dec.{ltb}
 use borrow.Author.Tests.{le-ltb, ltb-false}
-use Rattle.system.specs.Signature.{Signature, arity}
 use Rattle.system.specs.Limits.{variable}
+use Rattle.system.specs.Signature.{Signature, arity}
 use Rattle.system.specs.System.{System, Rule, noRule, strategy}
 use Rattle.system.specs.Terms.{Forest, more, Stands, Lawful, WellFormed}
 use Rattle.system.specs.Format.{encodeList, encodeStrategies, encodeRules, encode}
-use Rattle.system.specs.declared.reader.Hand.{Hand}
-use Rattle.system.specs.declared.reader.Hand.the-variants.{Left, Right}
+use Rattle.system.specs.declared.reader.sides.Hand.{Hand}
+use Rattle.system.specs.declared.reader.sides.Hand.the-variants.{Left, Right}
 use Rattle.system.specs.Numbers.{range, entry}
 use Rattle.system.specs.Answers.{answerOf}
-use Rattle.system.specs.Reader.{Parsed, ok, fault, times, each, number, Reading, readWords, readStrategy, readSide, readRule, readRules, readEnd, readSystem, read}
+use Rattle.system.specs.Parser.{Parsed, ok, fault, times, each, number, Reading, readWords, readStrategy, readSide, readRule, readRules, readEnd, readSystem, read}
 use Rattle.system.proofs.Signatures.{arity-getD, arity-none}
 use Rattle.system.proofs.Members.{stands-getD, stands-index}
-use Rattle.system.proofs.Parses.{ok-value, ok-place, not-fault, after-ok, Between, between-join, between-split, between-ok, Reads, reads-iff, one, Every, Pairwise, reads-number, reads-numbers, reads-times, reads-each, reads-counted}
-use Rattle.system.proofs.Sections.{number-positive}
+use Rattle.system.proofs.Parsed.{ok-value, ok-place, not-fault, after-ok, Between, between-join, between-split, between-ok}
+use Rattle.system.proofs.Parses.{Reads, reads-iff, one, reads-number}
+use Rattle.system.proofs.ParsesMany.{Every, Pairwise, reads-numbers, reads-times, reads-each, reads-counted}
+use Rattle.system.proofs.FaultNumbers.{number-positive}
 use Rattle.system.proofs.Sides.{Taken, reads-words, taken-forest, taken-numbered, taken-few, taken-headed, taken-known, left-taken, right-taken}
 
 -- ---- strategies

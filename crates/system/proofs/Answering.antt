@@ -8,11 +8,12 @@ use lib.ListN.{length, getD, take, drop}
 use borrow.Author.Tests.{lt-ltb, le-ltb}
 use Rattle.system.specs.Signature.{Signature, arity, span, argument, subterm}
 use Rattle.system.specs.System.{System}
-use Rattle.system.specs.Reader.{Parsed, ok, fault, read}
+use Rattle.system.specs.Parser.{Parsed, ok, fault, read}
 use Rattle.system.specs.TermCheck.{termFault}
 use Rattle.system.specs.Answers.{signatureOf, wholeAnswer, termAnswer, nthArgument, argumentAt}
-use Rattle.system.proofs.Located.{fault-not-zero, read-signature}
-use Rattle.system.proofs.Spans.{tail}
+use Rattle.system.proofs.FaultNumbers.{fault-not-zero}
+use Rattle.system.proofs.Located.{read-signature}
+use Rattle.system.proofs.words.SpanSteps.{tail}
 
 -- a term that is checked
 pub record Checked (ws t : List ℕ) : Type 0 where

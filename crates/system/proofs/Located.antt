@@ -9,16 +9,12 @@ use lib.Seq.{take-append-seam, drop-cons}
 use Rattle.system.specs.Signature.{Signature}
 use Rattle.system.specs.System.{System, Rule, noRule}
 use Rattle.system.specs.Format.{encodeList, encodeStrategies, encodeRules, encode}
-use Rattle.system.specs.Numbers.{Fault, range, faultNumber}
-use Rattle.system.specs.Reader.{ok, times, each, number, readStrategy, read}
+use Rattle.system.specs.Numbers.{range}
+use Rattle.system.specs.Parser.{ok, times, each, number, readStrategy, read}
 use Rattle.system.specs.Answers.{signatureOf}
-use Rattle.system.proofs.Parses.{drop-head, drop-front, reads-numbers}
+use Rattle.system.proofs.Parsed.{drop-head, drop-front}
+use Rattle.system.proofs.ParsesMany.{reads-numbers}
 use Rattle.system.proofs.Accepts.{reads-strategies, read-sound}
-use Rattle.system.proofs.Sections.{number-positive}
-
--- number 0 is no fault's
-pub fault-not-zero : (f : Fault) → faultNumber f ≡ 0 → ⊥
-fault-not-zero f e = let p = number-positive f in omega arith
 
 -- ---- the signature
 

@@ -7,12 +7,12 @@ use mathlib.Core.Logic.{_⊎_, inl, inr}
 use mathlib.Core.Bool.{Bool, true, false}
 use mathlib.Core.Option.{none, some}
 use borrow.Author.Tests.{lt-ltb, le-ltb, le-leb, lt-leb, eq-eqb, ne-eqb}
-use Rattle.system.specs.declared.reader.Hand.{Hand}
-use Rattle.system.specs.declared.reader.Hand.the-variants.{Left, Right}
-use Rattle.system.specs.Signature.{Signature, Symbol, isSymbol}
+use Rattle.system.specs.declared.reader.sides.Hand.{Hand}
+use Rattle.system.specs.declared.reader.sides.Hand.the-variants.{Left, Right}
 use Rattle.system.specs.Limits.{variable, variables}
+use Rattle.system.specs.Signature.{Signature, Symbol, isSymbol}
 use Rattle.system.specs.Numbers.{Fault, unknown, unbalanced, variableHead, unbound}
-use Rattle.system.specs.Reader.{variableFault, sideFault, learn}
+use Rattle.system.specs.Parser.{variableFault, sideFault, learn}
 
 -- ---- a variable
 

@@ -7,16 +7,17 @@ use mathlib.Core.Bool.{Bool, true, false}
 use mathlib.Core.Option.{none}
 use mathlib.Core.List.{List, [], _∷_}
 use lib.ListN.{length, getD}
-use Rattle.system.specs.Signature.{Signature, Symbol, arity}
 use Rattle.system.specs.Limits.{variable, variables}
+use Rattle.system.specs.Signature.{Signature, Symbol, arity}
 use Rattle.system.specs.Terms.{Forest, empty, more, Word, Stands, first, later, Numbered, end, name, next}
-use Rattle.system.specs.declared.reader.Hand.{Hand}
-use Rattle.system.specs.declared.reader.Hand.the-variants.{Left, Right}
-use Rattle.system.specs.Reader.{ok, sideFault, learn, Reading, readWords, word}
+use Rattle.system.specs.declared.reader.sides.Hand.{Hand}
+use Rattle.system.specs.declared.reader.sides.Hand.the-variants.{Left, Right}
+use Rattle.system.specs.Parser.{ok, sideFault, learn, Reading, readWords, word}
 use Rattle.system.proofs.Signatures.{symbol-below}
 use Rattle.system.proofs.Members.{numbered-le}
 use Rattle.system.proofs.SideWords.{Variable, side-symbol, variable-passes, passes-due, passes-word, left-variable, variable-left, right-variable, variable-right, learn-symbol, learn-variable, learn-right}
-use Rattle.system.proofs.Parses.{ok-value, ok-place, not-fault, after-ok, Between, between-none, between-end, between-join, between-split, between-ok, Reads, one, reads-word}
+use Rattle.system.proofs.Parsed.{ok-value, ok-place, not-fault, after-ok, Between, between-none, between-end, between-join, between-split, between-ok}
+use Rattle.system.proofs.Parses.{Reads, one, reads-word}
 
 -- ---- all words
 

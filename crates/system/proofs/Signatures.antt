@@ -5,8 +5,8 @@ use mathlib.Core.Path.{_≡_, refl}
 use lib.ListN.{length, getD, List·getD-eq-default}
 use lib.Dec.{ltb}
 use borrow.Author.Tests.{lt-ltb, ltb-true}
-use Rattle.system.specs.Signature.{Signature, Symbol, isSymbol, arity}
 use Rattle.system.specs.Limits.{variable}
+use Rattle.system.specs.Signature.{Signature, Symbol, isSymbol, arity}
 use Rattle.system.specs.System.{System}
 use Rattle.system.specs.Terms.{WellFormed}
 

@@ -1,1 +1,2 @@
+-- The scan of a book, from its sections.
 pub mod Scans

@@ -1,1 +1,3 @@
+-- The check of a term, word by word, and against a book that was scanned.
+pub mod TermSteps
 pub mod Checks

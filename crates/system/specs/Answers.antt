@@ -1,5 +1,5 @@
 -- What the operations answer (01: "Each answer is three numbers: number, place, steps").
-use Prim.Native.Nat.{ℕ, zero, suc, _+_, _*_, _≤_, _<_}
+use Prim.Native.Nat.{ℕ, zero, suc, _+_, _*_}
 use mathlib.Core.Path.{_≡_}
 use mathlib.Core.Bool.{cond}
 use mathlib.Core.Option.{Option, none, some}
@@ -9,15 +9,11 @@ use lib.Dec.{ltb}
 use denote.Ref.{RefT, ptr}
 use Rattle.system.specs.declared.Answer.{Answer}
 use Rattle.system.specs.declared.Shape.{Shape}
-use Rattle.system.specs.declared.reader.Section.{Section}
-use Rattle.system.specs.declared.reader.Side.{Side}
-use Rattle.system.specs.declared.reader.Sections.{Sections}
-use Rattle.system.specs.declared.reader.Scan.{Scan}
 use Rattle.system.specs.Signature.{Signature, arity, argument, subterm}
 use Rattle.system.specs.System.{System, head}
 use Rattle.system.specs.Format.{encodeStrategies}
-use Rattle.system.specs.Numbers.{Fault, taken, broken, numberOf, faultNumber}
-use Rattle.system.specs.Reader.{Parsed, ok, fault, Reading, read}
+use Rattle.system.specs.Numbers.{taken, broken, numberOf, faultNumber}
+use Rattle.system.specs.Parser.{Parsed, ok, fault, read}
 use Rattle.system.specs.TermCheck.{termFault}
 
 -- ---- reading a book
@@ -40,35 +36,6 @@ shapeOf (fault f i) = record { symbols = 0; strategies = 0; rules = 0; «first_r
 -- the arities as the words of any book list them, before it is known whether it is accepted
 unfoldable pub signatureOf : List ℕ → Signature
 signatureOf ws = take (getD ws 0 0) (drop 1 ws)
-
--- ---- a section of a book: number 0 and the index after it, or the first fault
-
-abbrev pub sectionOf : {A : Type 0} → Parsed A → Section
-sectionOf (ok a i) = record { number = numberOf taken; place = i }
-sectionOf (fault f i) = record { number = faultNumber f; place = i }
-
--- a word stands at i, and lies between two numbers
-pub record Inside (ws : List ℕ) (i low high : ℕ) : Type 0 where
-  pub here : i < length ws
-  pub above : low ≤ getD ws i 0
-  pub below : getD ws i 0 ≤ high
-
-abbrev pub sideOf : Parsed Reading → Side
-sideOf (ok r i) = record { number = numberOf taken; place = i; known = r .known }
-sideOf (fault f i) = record { number = faultNumber f; place = i; known = 0 }
-
--- the whole book, with the index of the count of its rules
-abbrev pub sectionsOf : Parsed System → Sections
-sectionsOf (ok s i) = record { number = numberOf taken; place = i; rules = length (s .arities) + 2 + length (encodeStrategies (s .strategies)) }
-sectionsOf (fault f i) = record { number = faultNumber f; place = i; rules = 0 }
-
--- the book read once: the reader's answer and the shape
-abbrev pub scanOf : Parsed System → Scan
-scanOf o = record { answer = answerOf o; shape = shapeOf o }
-
-abbrev pub numberOr0 : Option Fault → ℕ
-numberOr0 none = 0
-numberOr0 (some f) = faultNumber f
 
 -- ---- checking a term: 9 and the place, or 0 and the term's length
 

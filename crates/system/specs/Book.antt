@@ -2,7 +2,7 @@
 use Prim.Native.Nat.{ℕ}
 use mathlib.Core.List.{List, []}
 use Rattle.system.specs.System.{System}
-use Rattle.system.specs.Reader.{Parsed, ok, fault, read}
+use Rattle.system.specs.Parser.{Parsed, ok, fault, read}
 
 -- what was read, or the system without symbols and rules
 abbrev pub systemFrom : Parsed System → System

@@ -4,7 +4,7 @@ use mathlib.Core.Path.{_≡_}
 use mathlib.Core.List.{List, [], _∷_, _++_, map}
 use lib.ListN.{take, set}
 use Rattle.system.specs.declared.Answer.{Answer}
-use Rattle.system.specs.Reader.{read}
+use Rattle.system.specs.Parser.{read}
 use Rattle.system.specs.Answers.{answerOf, termAnswer}
 
 -- a case by its number in 01: what the definitions give and what 01 says, each the answer's three numbers (number, place, steps)

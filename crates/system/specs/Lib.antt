@@ -4,10 +4,11 @@ pub mod Signature
 pub mod System
 pub mod Terms
 pub mod Format
-pub mod Reader
+pub mod Parser
 pub mod TermCheck
 pub mod Answers
 pub mod Book
 pub mod Cases
--- The layout of a book in memory: inner
+-- Inner: the reader in one pass; the layout of a book in memory
+pub mod reader
 pub mod layout

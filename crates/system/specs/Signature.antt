@@ -6,7 +6,6 @@ use mathlib.Core.Bool.{Bool, true}
 use mathlib.Core.List.{List, [], _∷_, _++_}
 use lib.ListN.{length, getD, take, drop}
 use lib.Dec.{ltb}
-pub use Rattle.system.specs.Limits.{variable, variables}
 
 -- the arity (01: argument count) of each symbol (01: name)
 abbrev pub Signature : Type 0

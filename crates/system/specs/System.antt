@@ -4,8 +4,8 @@ use mathlib.Core.List.{List, [], _∷_, _++_}
 use mathlib.Core.Bool.{cond}
 use lib.ListN.{getD}
 use lib.Dec.{ltb}
-use Rattle.system.specs.Signature.{Signature}
 use Rattle.system.specs.Limits.{variable}
+use Rattle.system.specs.Signature.{Signature}
 
 -- a rewrite rule: its left and its right side
 pub record Rule : Type 0 where

@@ -4,7 +4,7 @@
 // operations here asks anything of its caller: every refusal is a number of 01's table.
 ghost use mathlib.Core.Path.{_≡_};
 ghost use Rattle.system.specs.Answers.{answerOf, shapeOf, termAnswer, argumentAt, startOf, partOf, LiesIn};
-ghost use Rattle.system.specs.Reader.{read};
+ghost use Rattle.system.specs.Parser.{read};
 
 pub mod layout;
 pub mod limits;

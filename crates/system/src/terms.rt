@@ -1,8 +1,9 @@
 // Whether words are one whole term.
 ghost use mathlib.Core.Path.{_≡_};
-ghost use Rattle.system.specs.Answers.{signatureOf, scanOf, wholeAnswer, termAnswer};
+ghost use Rattle.system.specs.Answers.{signatureOf, wholeAnswer, termAnswer};
+ghost use Rattle.system.specs.reader.Sections.{scanOf};
 ghost use Rattle.system.specs.Numbers.{broken, numberOf};
-ghost use Rattle.system.specs.Reader.{read};
+ghost use Rattle.system.specs.Parser.{read};
 ghost use Rattle.system.specs.TermCheck.{termFault};
 use crate::Answer;
 use crate::limits::TERM_WORDS;

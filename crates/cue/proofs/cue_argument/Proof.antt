@@ -1,5 +1,5 @@
 -- `cue_argument` meets its contract.
-use Rattle.system.proofs.Spans.{tail}
+use Rattle.system.proofs.words.SpanSteps.{tail}
 use native.Mathlib.Omega.{arith}
 use lib.ListN.{length}
 use Rattle.cue.proofs.Exported.{there, empty-part, full-answer}

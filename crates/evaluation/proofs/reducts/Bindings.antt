@@ -19,7 +19,7 @@ use Rattle.matching.specs.declared.Match.{Match}
 use Rattle.matching.specs.Stretches.{Stretches, unset, takes, note, stretches, matchFrom, matchOf}
 use Rattle.evaluation.specs.reducts.Replaced.{Behind}
 use Rattle.matching.proofs.Stretched.{zero-at}
-use Rattle.matching.proofs.MatchSteps.{cons-stop, cons-next, takes-variable, takes-differ, takes-same, note-symbol, note-variable, from-nil, from-here, from-next}
+use Rattle.matching.proofs.rules.MatchSteps.{cons-stop, cons-next, takes-variable, takes-differ, takes-same, note-symbol, note-variable, from-nil, from-here, from-next}
 
 module _ (g : Signature) where
   nil-some : (ws : List ℕ) (q : ℕ) (a : Stretches) → stretches g [] ws q a ≡ some a

@@ -10,7 +10,7 @@ use Rattle.buffers.specs.Words.{part, over, zeros, pad, splice}
 use Rattle.buffers.proofs.Over.{length-part, part-cons, part-slice, part-below, over-left, over-right, take-over, drop-over}
 use Rattle.buffers.proofs.Pads.{length-zeros}
 use Rattle.buffers.proofs.Replaced.{longer, shorter}
-use Rattle.matching.specs.Stretches.{value, Within}
+use Rattle.matching.specs.rules.Fits.{value, Within}
 use Rattle.matching.proofs.Matched.{instance-cong}
 use Rattle.matching.proofs.Reducts.{reduct-length}
 use Rattle.system.specs.Limits.{termWords, areaWords}

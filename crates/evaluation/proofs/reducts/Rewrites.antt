@@ -20,7 +20,8 @@ use Rattle.matching.specs.declared.Match.{Match}
 use Rattle.matching.specs.declared.Found.the-variants.{Nothing, First}
 use Rattle.system.specs.Book.{systemOf}
 use Rattle.matching.specs.Matching.{Redex, redex}
-use Rattle.matching.specs.Stretches.{matchOf, reductLength, RightSide}
+use Rattle.matching.specs.Stretches.{matchOf}
+use Rattle.matching.specs.rules.Fits.{reductLength, RightSide}
 use Rattle.matching.proofs.Firsts.{redex-rest}
 use Rattle.system.proofs.layout.Books.{well}
 use Rattle.matching.proofs.Reducts.{match-right, match-within, match-none, match-some, match-length}

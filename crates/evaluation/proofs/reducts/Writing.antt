@@ -10,7 +10,7 @@ use Rattle.buffers.specs.Words.{part, over}
 use Rattle.buffers.proofs.Over.{over-snoc, over-append, part-above}
 use Rattle.system.specs.Limits.{variable, variables}
 use Rattle.system.specs.System.{instance}
-use Rattle.matching.specs.Stretches.{value, reductLength}
+use Rattle.matching.specs.rules.Fits.{value, reductLength}
 use Rattle.matching.proofs.Matched.{instance-nil}
 use Rattle.matching.proofs.Words.{fill-symbol, fill-variable}
 use Rattle.matching.proofs.Reducts.{length-symbol, length-variable, value-length}

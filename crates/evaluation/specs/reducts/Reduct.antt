@@ -4,7 +4,8 @@ use mathlib.Core.List.{List}
 use lib.ListN.{length, take, drop}
 use Rattle.system.specs.System.{instance}
 use Rattle.matching.specs.declared.Match.{Match}
-use Rattle.matching.specs.Stretches.{Stretches, value, reductLength, RightSide, Within}
+use Rattle.matching.specs.Stretches.{Stretches}
+use Rattle.matching.specs.rules.Fits.{value, reductLength, RightSide, Within}
 use Rattle.evaluation.specs.declared.reducts.Contraction.{Contraction}
 
 -- of a match that was found, whose rule's right side has `size` words from the index `rhs` on

@@ -4,7 +4,7 @@ use mathlib.Core.Path.{_≡_}
 use mathlib.Core.List.{List, _++_}
 use lib.ListN.{length, getD, take, drop}
 use Rattle.buffers.specs.Words.{part, over, zeros, pad, splice}
-use Rattle.matching.specs.Stretches.{reductLength, RightSide, Within}
+use Rattle.matching.specs.rules.Fits.{reductLength, RightSide, Within}
 use Rattle.evaluation.specs.declared.reducts.Contraction.{Contraction}
 use Rattle.evaluation.specs.declared.reducts.Subterm.{Subterm}
 use Rattle.evaluation.specs.reducts.Reduct.{side, reduct}

@@ -2,8 +2,8 @@
 use mathlib.Core.Path.{ap, _∙_}
 use Rattle.system.proofs.layout.Accepting.{scan-accepted}
 use Rattle.matching.specs.Stretches.{unset}
-use Rattle.matching.proofs.Searches.{refused-nothing}
-use Rattle.matching.proofs.Widths.{fit-match}
+use Rattle.matching.proofs.rules.Searches.{refused-nothing}
+use Rattle.matching.proofs.rules.Widths.{fit-match}
 use borrow.Author.Needs.{needs}
 use Rattle.matching.proofs.first_match.Statement.{statement}
 use Rattle.matching.proofs.first_match.Tie as tie

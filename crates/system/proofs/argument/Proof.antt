@@ -1,6 +1,6 @@
 -- The term is whole once its check has answered 0; from there the argument starts and ends within it.
 use Rattle.system.proofs.Answering.{Checked, checked, argument-refused, argument-zero, argument-beyond, argument-there, cut}
-use Rattle.system.proofs.Spans.{tail, tail-length}
+use Rattle.system.proofs.words.SpanSteps.{tail, tail-length}
 use Rattle.system.specs.Answers.{signatureOf, argumentAt}
 use Rattle.system.specs.Signature.{span}
 use mathlib.Core.Option.{some}

@@ -5,12 +5,12 @@ use mathlib.Core.List.{List, []}
 use lib.ListN.{length}
 use Rattle.system.specs.declared.reader.Scan.{Scan}
 use Rattle.system.specs.System.{System}
-use Rattle.system.specs.Reader.{Parsed, ok, fault, read}
-use Rattle.system.specs.Answers.{scanOf}
+use Rattle.system.specs.Parser.{Parsed, ok, fault, read}
+use Rattle.system.specs.reader.Sections.{scanOf}
 use Rattle.system.specs.Book.{systemFrom, systemOf}
 use Rattle.system.specs.layout.Accepted.{Accepted}
 use Rattle.system.proofs.Accepts.{read-sound}
-use Rattle.system.proofs.Located.{fault-not-zero}
+use Rattle.system.proofs.FaultNumbers.{fault-not-zero}
 
 -- what the reader accepts is the system of the book
 pub reads-system : (b : List ℕ) {s : System} {i : ℕ} → read b ≡ ok s i → read b ≡ ok (systemOf b) (length b)

@@ -10,7 +10,7 @@ use Rattle.system.specs.Limits.{variable, variables}
 use Rattle.system.specs.System.{System, rule}
 use Rattle.system.specs.Terms.{Lawful, WellFormed}
 use Rattle.system.specs.Format.{encodeStrategies, encodeRules}
-use Rattle.system.specs.Reader.{ok}
+use Rattle.system.specs.Parser.{ok}
 use Rattle.system.specs.Answers.{signatureOf, shapeOf}
 use Rattle.system.proofs.Accepts.{read-sound, forest-some}
 use Rattle.system.proofs.Members.{stands-getD, numbered-below}

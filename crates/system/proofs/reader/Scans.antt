@@ -4,13 +4,15 @@ use native.Mathlib.Omega.{arith}
 use mathlib.Core.Path.{_≡_, refl, sym, ap, _∙_}
 use mathlib.Core.List.{List}
 use lib.ListN.{length, getD}
-use Rattle.system.specs.declared.reader.Sections.{Sections}
+use Rattle.system.specs.declared.reader.sections.Sections.{Sections}
 use Rattle.system.specs.declared.reader.Scan.{Scan}
 use Rattle.system.specs.System.{System}
 use Rattle.system.specs.Format.{encodeStrategies}
-use Rattle.system.specs.Reader.{Parsed, ok, fault, read}
-use Rattle.system.specs.Answers.{answerOf, shapeOf, sectionsOf, scanOf, signatureOf}
-use Rattle.system.proofs.Located.{fault-not-zero, located, read-signature}
+use Rattle.system.specs.Parser.{Parsed, ok, fault, read}
+use Rattle.system.specs.Answers.{answerOf, shapeOf, signatureOf}
+use Rattle.system.specs.reader.Sections.{sectionsOf, scanOf}
+use Rattle.system.proofs.FaultNumbers.{fault-not-zero}
+use Rattle.system.proofs.Located.{located, read-signature}
 
 -- the sections of an accepted book
 pub record Scanned (ws : List ℕ) (s : Sections) : Type 0 where

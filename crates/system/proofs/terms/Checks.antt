@@ -6,10 +6,12 @@ use mathlib.Core.List.{List}
 use Rattle.system.specs.declared.Answer.{Answer}
 use Rattle.system.specs.declared.reader.Scan.{Scan}
 use Rattle.system.specs.System.{System}
-use Rattle.system.specs.Reader.{Parsed, ok, fault, read}
+use Rattle.system.specs.Parser.{Parsed, ok, fault, read}
 use Rattle.system.specs.TermCheck.{termFault}
-use Rattle.system.specs.Answers.{scanOf, signatureOf, wholeAnswer, termAnswer}
-use Rattle.system.proofs.Located.{fault-not-zero, read-signature}
+use Rattle.system.specs.Answers.{signatureOf, wholeAnswer, termAnswer}
+use Rattle.system.specs.reader.Sections.{scanOf}
+use Rattle.system.proofs.FaultNumbers.{fault-not-zero}
+use Rattle.system.proofs.Located.{read-signature}
 
 module _ (ws : List ℕ) (s : Scan) (is : s ≡ scanOf (read ws)) (t : List ℕ) where
   pub term-refused : (s .answer .number ≡ 0 → ⊥) → s .answer ≡ termAnswer ws t

@@ -6,7 +6,7 @@ use lib.ListN.{length, getD, take, drop}
 use Rattle.system.specs.declared.Shape.{Shape}
 use Rattle.system.specs.System.{System, strategy}
 use Rattle.system.specs.Format.{encodeStrategies, encodeRules}
-use Rattle.system.specs.Reader.{ok, read}
+use Rattle.system.specs.Parser.{ok, read}
 use Rattle.system.specs.Answers.{shapeOf}
 use Rattle.system.specs.Book.{systemOf}
 

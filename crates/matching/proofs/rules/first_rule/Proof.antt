@@ -1,6 +1,6 @@
 -- `rules::first_rule` meets its contract.
 use mathlib.Core.Logic.{⊎-elim}
-use Rattle.matching.proofs.Searches.{Searched, Walked, search-starts, search-ends, root-differs, walk-starts, matches-here, word-differs, symbol-matched, variable-matched}
+use Rattle.matching.proofs.rules.Searches.{Searched, Walked, search-starts, search-ends, root-differs, walk-starts, matches-here, word-differs, symbol-matched, variable-matched}
 use Rattle.system.proofs.layout.Books.{Turn, room, turn-of}
 use native.Mathlib.Omega.{arith}
 use Prim.Native.Nat.{_-_}

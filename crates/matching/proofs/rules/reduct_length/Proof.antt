@@ -3,7 +3,7 @@ use mathlib.Core.Path.{_≡_}
 use native.Mathlib.Omega.{arith}
 use Prim.Native.Nat.{_+_, _-_, _*_, _≤_}
 use lib.ListN.{drop, take}
-use Rattle.matching.specs.Stretches.{reductLength}
+use Rattle.matching.specs.rules.Fits.{reductLength}
 use Rattle.matching.proofs.Reducts.{length-done, length-symbol, length-variable}
 use borrow.Author.Needs.{needs}
 use Rattle.matching.proofs.rules.reduct_length.Statement.{statement}

@@ -2,7 +2,7 @@
 use mathlib.Core.Path.{sym, _∙_}
 use native.Mathlib.Omega.{arith}
 use Rattle.system.specs.Answers.{signatureOf}
-use Rattle.matching.proofs.MatchSteps.{takes-end, takes-variable, takes-differ, takes-same}
+use Rattle.matching.proofs.rules.MatchSteps.{takes-end, takes-variable, takes-differ, takes-same}
 use borrow.Author.Needs.{needs}
 use Rattle.matching.proofs.rules.takes.Statement.{statement}
 use Rattle.matching.proofs.rules.takes.Tie as tie

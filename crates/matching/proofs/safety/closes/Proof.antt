@@ -1,7 +1,7 @@
 -- `safety::closes` meets its contract.
 use borrow.Author.Tests.{not-true, not-false}
-use Rattle.matching.specs.Safety.{idleTest}
-use Rattle.matching.proofs.SafetySteps.{Looked, look-starts, look-ends, look-zero, look-busy, look-idle}
+use Rattle.matching.specs.safety.Computed.{idleTest}
+use Rattle.matching.proofs.safety.SafetySteps.{Looked, look-starts, look-ends, look-zero, look-busy, look-idle}
 use mathlib.Core.Path.{sym, _∙_}
 use Rattle.system.specs.Book.{systemOf}
 use borrow.Author.Needs.{needs}

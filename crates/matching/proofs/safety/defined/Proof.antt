@@ -1,5 +1,5 @@
 -- `safety::defined` meets its contract.
-use Rattle.matching.proofs.SafetySteps.{Passed, every-starts, every-ends, every-fails, every-goes, otherHead, defined-every, head-other, head-same}
+use Rattle.matching.proofs.safety.SafetySteps.{Passed, every-starts, every-ends, every-fails, every-goes, otherHead, defined-every, head-other, head-same}
 use Rattle.system.proofs.layout.Books.{Turn, room, turn-of}
 use mathlib.Core.Bool.{true, false}
 use mathlib.Core.Path.{sym}

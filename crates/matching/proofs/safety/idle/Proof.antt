@@ -1,6 +1,6 @@
 -- `safety::idle` meets its contract.
 use borrow.Author.Tests.{not-true, not-false}
-use Rattle.matching.proofs.SafetySteps.{Passed, every-starts, every-ends, every-fails, every-goes, idleIn, idle-every, idle-other, idle-same}
+use Rattle.matching.proofs.safety.SafetySteps.{Passed, every-starts, every-ends, every-fails, every-goes, idleIn, idle-every, idle-other, idle-same}
 use Rattle.system.proofs.layout.Books.{Turn, room, turn-of}
 use mathlib.Core.Path.{sym, _∙_}
 use native.Mathlib.Omega.{arith}

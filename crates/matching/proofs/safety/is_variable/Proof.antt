@@ -1,6 +1,6 @@
 -- `safety::is_variable` meets its contract.
 use lib.Dec.{leb}
-use Rattle.matching.proofs.SafetySteps.{variable-none, variable-past, variable-here}
+use Rattle.matching.proofs.safety.SafetySteps.{variable-none, variable-past, variable-here}
 use mathlib.Core.Path.{sym, ap, _∙_}
 use Rattle.system.specs.Answers.{signatureOf}
 use borrow.Author.Needs.{needs}

@@ -1,6 +1,6 @@
 -- `safety::tested` meets its contract.
 use borrow.Author.Tests.{not-true, not-false}
-use Rattle.matching.proofs.SafetySteps.{Through, test-starts, test-ends, test-strategy, test-fails, test-goes}
+use Rattle.matching.proofs.safety.SafetySteps.{Through, test-starts, test-ends, test-strategy, test-fails, test-goes}
 use native.Mathlib.Omega.{arith}
 use Prim.Native.Nat.{_-_}
 use borrow.Author.Needs.{needs}

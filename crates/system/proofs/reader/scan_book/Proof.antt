@@ -1,6 +1,6 @@
 -- The answer from the sections that were read, and the shape from the index at which the rules were found.
 use Rattle.system.proofs.reader.Scans.{rules-within, scan-refused, scan-taken}
-use Rattle.system.proofs.BookWords.{signature-within}
+use Rattle.system.proofs.words.BookWords.{signature-within}
 use Prim.Native.Nat.{_<_}
 use lib.ListN.{length}
 use native.Mathlib.Omega.{arith}

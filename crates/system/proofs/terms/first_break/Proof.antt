@@ -1,5 +1,5 @@
 -- The loop keeps: the check of the words from i on, with what is due, answers as that of the whole term.
-use Rattle.system.proofs.TermSteps.{break-complete, break-long, break-unknown, break-next, break-short, break-none}
+use Rattle.system.proofs.terms.TermSteps.{break-complete, break-long, break-unknown, break-next, break-short, break-none}
 use Rattle.system.specs.Answers.{signatureOf, wholeAnswer}
 use Rattle.system.specs.TermCheck.{termFault}
 use Rattle.system.specs.Signature.{arity}

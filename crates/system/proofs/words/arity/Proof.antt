@@ -1,5 +1,5 @@
 -- The arity of symbol i stands at index i + 1; what is no symbol takes no arguments.
-use Rattle.system.proofs.BookWords.{signature-room, signature-arity}
+use Rattle.system.proofs.words.BookWords.{signature-room, signature-arity}
 use Rattle.system.proofs.Signatures.{arity-none}
 use Rattle.system.specs.Answers.{signatureOf}
 use Rattle.system.specs.Signature.{arity}

@@ -1,6 +1,6 @@
 -- As many symbols as the first word says, or as there are words.
 use native.Mathlib.Omega.{arith}
-use Rattle.system.proofs.BookWords.{signature-length}
+use Rattle.system.proofs.words.BookWords.{signature-length}
 use borrow.Author.Needs.{needs}
 use Rattle.system.proofs.words.symbols.Statement.{statement}
 use Rattle.system.proofs.words.symbols.Tie as tie

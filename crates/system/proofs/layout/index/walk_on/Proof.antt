@@ -3,8 +3,7 @@ use Prim.Native.Nat.{_+_, _-_, _≤_}
 use native.Mathlib.Omega.{arith}
 use mathlib.Core.Path.{_≡_, subst}
 use borrow.Author.Needs.{needs}
-use Rattle.system.specs.layout.Accepted.{StrategyAt}
-use Rattle.system.specs.layout.Accepted.{Standing}
+use Rattle.system.specs.layout.Accepted.{StrategyAt, Standing}
 use Rattle.system.proofs.layout.Standings.{standing-strategy, standing-next}
 use Rattle.system.proofs.layout.index.walk_on.Statement.{statement}
 use Rattle.system.proofs.layout.index.walk_on.Tie as tie

@@ -1,0 +1,54 @@
+-- The strategy test (01: the order test): its condition, and what it answers.
+use Prim.Native.Nat.{ℕ, suc, _≤_, _<_}
+use mathlib.Core.Path.{_≡_}
+use mathlib.Core.Logic.{_⊎_}
+use mathlib.Core.List.{List, _∷_, _++_}
+use lib.ListN.{length, getD}
+use Rattle.system.specs.declared.Answer.{Answer}
+use Rattle.system.specs.Numbers.{taken, unsettled, numberOf}
+use Rattle.system.specs.Limits.{variable}
+use Rattle.system.specs.Signature.{Symbol, argument}
+use Rattle.system.specs.System.{System, strategy, rule, head}
+use Rattle.system.specs.Terms.{Stands}
+use Rattle.system.specs.Parser.{Parsed, ok, fault}
+use Rattle.system.specs.Answers.{answerOf}
+
+-- "An argument is idle if it is a placeholder in every left side starting with that name": the argument of f with i others before it
+abbrev pub Idle : System → ℕ → ℕ → Type 0
+Idle s f i =
+    (k : ℕ) → k < length (s .rules) → head (rule s k .lhs) ≡ f → variable ≤ getD (rule s k .lhs) (argument (s .arities) (rule s k .lhs) 0 i) 0
+
+-- an entry that is an idle argument
+pub data IdleEntry (s : System) (f : ℕ) : ℕ → Type 0 where
+  idle : {i : ℕ} → Idle s f i → IdleEntry s f (suc i)
+
+-- "its order holds a 0 and every entry after the last 0 is an idle argument". (Idle entries are not 0, so the 0 named here is the last.)
+pub record Guarded (s : System) (f : ℕ) : Type 0 where
+  pub before : List ℕ
+  pub after : List ℕ
+  pub split : strategy s f ≡ before ++ 0 ∷ after
+  pub last : (e : ℕ) → Stands e after → IdleEntry s f e
+
+-- a constructor: "no left side starts with it"
+abbrev pub Constructor : System → ℕ → Type 0
+Constructor s f = (k : ℕ) → k < length (s .rules) → head (rule s k .lhs) ≡ f → ⊥
+
+-- "a name passes if no left side starts with it, or if its order holds a 0 and .."
+abbrev pub Passes : System → ℕ → Type 0
+Passes s f = Constructor s f ⊎ Guarded s f
+
+-- "All pass"
+abbrev pub Safe : System → Type 0
+Safe s = (f : ℕ) → Symbol (s .arities) f → Passes s f
+
+-- ---- what the test answers
+
+-- "All pass: 0. Otherwise 14, the place being a name that fails." Which of the symbols that fail is free.
+pub data Tested (s : System) : Answer → Type 0 where
+  passed : Safe s → Tested s (record { number = numberOf taken; place = 0; steps = 0 })
+  failed : (f : ℕ) → Symbol (s .arities) f → (Passes s f → ⊥) → Tested s (record { number = numberOf unsettled; place = f; steps = 0 })
+
+-- "A book that the reader refuses gets the reader's answer."
+abbrev pub TestedBook : Parsed System → Answer → Type 0
+TestedBook (ok s i) r = Tested s r
+TestedBook (fault f i) r = r ≡ answerOf (fault f i)

@@ -1,0 +1,2 @@
+-- The strategy test, symbol by symbol: inner.
+pub mod Computed

@@ -1,0 +1,3 @@
+-- The sections of a book, one after the other.
+pub mod SectionSteps
+pub mod ScanSteps

@@ -1,0 +1,61 @@
+-- The loop keeps: the rules still to be read from here answer as all of them do from the start.
+use Rattle.system.proofs.reader.numbers.Sections.{times-end, times-next, times-stop}
+use Rattle.system.specs.Answers.{signatureOf}
+use Rattle.system.specs.reader.Sections.{sectionOf}
+use Rattle.system.specs.Parser.{times, readRule}
+use lib.ListN.{length}
+use Prim.Native.Nat.{_≤_}
+use native.Mathlib.Omega.{arith}
+use mathlib.Core.Path.{_≡_, refl, sym, _∙_}
+use borrow.Author.Needs.{needs}
+use Rattle.system.proofs.reader.sections.read_rules.Statement.{statement}
+use Rattle.system.proofs.reader.sections.read_rules.Tie as tie
+
+abbrev Inv-loop : tie.InvT-loop
+Inv-loop book at n i₀ left₀ i left = (i ≤ length book) × (sectionOf (times left (readRule book (signatureOf book)) i) ≡ sectionOf (times n (readRule book (signatureOf book)) at))
+
+abbrev μ-loop : tie.MeasureT-loop
+μ-loop book at n i₀ left₀ i left = left
+
+loop-holds : tie.Need-loop-holds Inv-loop μ-loop
+loop-holds c = (omega arith, refl)
+
+read-rule-requires : tie.Need-read-rule-requires Inv-loop μ-loop
+read-rule-requires c κs = search needs
+
+returns : tie.Need-returns Inv-loop μ-loop
+returns c = let l = c .before .before .before .before .loop in
+    let a = c .before .before .before .before .before .before .args in
+    let r = c .before .before .read-rule in
+    (sym (times-stop (readRule (a .book .now) (signatureOf (a .book .now))) (l .left) (l .i) (omega arith) (r .result) (r .ensures .0) (c .if1 .taken)) ∙ l .inv .1, r .ensures .1)
+
+sub-left : tie.Need-sub-left Inv-loop μ-loop
+sub-left c = search needs
+
+loop-less : tie.Need-loop-less Inv-loop μ-loop
+loop-less c = search needs
+
+loop-again : tie.Need-loop-again Inv-loop μ-loop
+loop-again c = let l = c .before .before .before .before .loop in
+    let a = c .before .before .before .before .before .before .args in
+    let r = c .before .before .read-rule in
+    (r .ensures .1, sym (times-next (readRule (a .book .now) (signatureOf (a .book .now))) (l .left) (l .i) (omega arith) (r .result) (r .ensures .0) (c .if1 .left)) ∙ l .inv .1)
+
+returns-2 : tie.Need-returns-2 Inv-loop μ-loop
+returns-2 c = let l = c .before .loop in
+    let a = c .before .before .before .args in
+    (sym (times-end (readRule (a .book .now) (signatureOf (a .book .now))) (l .left) (l .i) (omega arith)) ∙ l .inv .1, omega arith)
+
+pub read-rules-spec : {M : Type 1} → statement M
+read-rules-spec =
+    tie.close
+    (tie.spec
+    Inv-loop
+    μ-loop
+    loop-holds
+    read-rule-requires
+    returns
+    sub-left
+    loop-less
+    loop-again
+    returns-2)

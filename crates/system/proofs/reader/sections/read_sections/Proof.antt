@@ -1,0 +1,144 @@
+-- The whole book: after each section that was taken an equation says what is still to be read.
+use Prim.Native.Nat.{ℕ, _+_}
+use mathlib.Core.List.{List}
+use Rattle.system.proofs.reader.sections.ScanSteps.{afterFirst, afterArities, afterCount, afterStrategies, scan-refused, number-bad, AfterFirst, AfterArities, AfterCount, AfterStrategies, scan-start, scan-count, scan-arities, scan-strategies-count, scan-strategies, scan-whole}
+use Rattle.system.specs.Answers.{signatureOf}
+use Rattle.system.specs.Parser.{times, each, number, readStrategy, readRules}
+use Rattle.system.specs.Numbers.{range}
+use native.Mathlib.Omega.{arith}
+use mathlib.Core.Path.{refl, sym, _∙_}
+use borrow.Author.Needs.{needs}
+use Rattle.system.proofs.reader.sections.read_sections.Statement.{statement}
+use Rattle.system.proofs.reader.sections.read_sections.Tie as tie
+
+-- ---- what is still to be read, after each section that was taken
+
+abbrev book : tie.After-wide → List ℕ
+book c = c .before .before .before .before .before .args .book .now
+
+abbrev count : tie.After-wide → ℕ
+count c = c .wide .result
+
+arities-left : (c : tie.After-wide) → AfterFirst (book c) (count c)
+arities-left c = scan-count _ (count c) (c .wide .ensures .0) (c .before .before .before .check .ensures .1 (c .before .before .if1 .left))
+
+count-left : (c : tie.Else2) → AfterArities (book (c .before .before .before)) (count (c .before .before .before))
+count-left c =
+    let w = c .before .before .before in
+    let a = c .before .before .read-numbers in
+    scan-arities _ (count w) (w .wide .ensures .0) (arities-left w) (a .result) (a .ensures .0 range refl) (c .if2 .left)
+
+strategies-left : (c : tie.Else3) → AfterCount (book (c .before .before .before .before .before)) (count (c .before .before .before .before .before))
+strategies-left c = scan-strategies-count _ (count (c .before .before .before .before .before)) (count-left (c .before .before)) (c .before .check2 .ensures .1 (c .if3 .left))
+
+rules-left : (c : tie.Else4) → AfterStrategies (book (c .before .before .before .before .before .before .before .before)) (count (c .before .before .before .before .before .before .before .before)) (c .before .before .read-strategies .result)
+rules-left c =
+    let o = c .before .before .read-strategies in
+    scan-strategies _ (count (c .before .before .before .before .before .before .before .before)) (strategies-left (c .before .before .before)) (o .result) (o .ensures .0) (c .if4 .left)
+
+-- ---- the needs
+
+check-requires : tie.Need-check-requires
+check-requires c κs = search needs
+
+refused-requires : tie.Need-refused-requires
+refused-requires c κs = search needs
+
+returns : tie.Need-returns
+returns c = let ws = c .before .before .before .before .args .book .now in
+    let k = c .before .before .check in
+    c .refused .ensures ∙ sym (number-bad ws range 1 256 0 (afterFirst ws) (scan-start ws) (k .result) (k .ensures .0 range refl) (c .before .if1 .taken))
+
+shared-slice-read-wide : tie.Need-shared-slice-read-wide
+shared-slice-read-wide c = let n = c .before .before .check .ensures .1 (c .before .if1 .left) in let h = n .here in omega arith
+
+wide-requires : tie.Need-wide-requires
+wide-requires c κs = search needs
+
+read-numbers-requires : tie.Need-read-numbers-requires
+read-numbers-requires c κs = let n = c .before .before .before .check .ensures .1 (c .before .before .if1 .left) in let h = n .here in let w = c .wide .ensures in omega arith
+
+refused-requires-2 : tie.Need-refused-requires-2
+refused-requires-2 c κs = search needs
+
+returns-2 : tie.Need-returns-2
+returns-2 c = let w = c .before .before .before .before in
+    let ws = book w in
+    let a = c .before .before .before .read-numbers in
+    c .refused2 .ensures ∙ sym (scan-refused ws (times (count w) (number ws range 0 8) 1) (afterArities ws (count w)) (arities-left w) (a .result) (a .ensures .0 range refl) (c .before .if2 .taken))
+
+add-check : tie.Need-add-check
+add-check c = let w = c .before .before .before .wide .ensures in omega arith
+
+check-requires-2 : tie.Need-check-requires-2
+check-requires-2 c κs = omega arith
+
+add-refused : tie.Need-add-refused
+add-refused c = let w = c .before .before .before .before .before .wide .ensures in omega arith
+
+refused-requires-3 : tie.Need-refused-requires-3
+refused-requires-3 c κs = search needs
+
+returns-3 : tie.Need-returns-3
+returns-3 c = let ws = book (c .before .before .before .before .before .before) in
+    let n = count (c .before .before .before .before .before .before) in
+    let k = c .before .before .check2 in
+    c .refused3 .ensures ∙ sym (number-bad ws range n n (n + 1) (afterCount ws (signatureOf ws)) (count-left (c .before .before .before) .0) (k .result) (k .ensures .0 range refl) (c .before .if3 .taken))
+
+add-read-strategies : tie.Need-add-read-strategies
+add-read-strategies c = let w = c .before .before .before .before .before .wide .ensures in omega arith
+
+read-strategies-requires : tie.Need-read-strategies-requires
+read-strategies-requires c κs = let s = c .before .check2 .ensures .1 (c .if3 .left) in let h = s .here in omega arith
+
+refused-requires-4 : tie.Need-refused-requires-4
+refused-requires-4 c κs = search needs
+
+returns-4 : tie.Need-returns-4
+returns-4 c = let ws = book (c .before .before .before .before .before .before .before .before .before) in
+    let n = count (c .before .before .before .before .before .before .before .before .before) in
+    let o = c .before .before .before .read-strategies in
+    c .refused4 .ensures ∙ sym (scan-refused ws (each (readStrategy ws) (signatureOf ws) (n + 2)) (afterStrategies ws (signatureOf ws)) (strategies-left (c .before .before .before .before)) (o .result) (o .ensures .0) (c .before .if4 .taken))
+
+read-tail-requires : tie.Need-read-tail-requires
+read-tail-requires c κs = c .before .before .read-strategies .ensures .1
+
+refused-requires-5 : tie.Need-refused-requires-5
+refused-requires-5 c κs = search needs
+
+returns-5 : tie.Need-returns-5
+returns-5 c = let ws = book (c .before .before .before .before .before .before .before .before .before .before .before .before) in
+    let o = c .before .before .before .before .before .before .read-strategies .result in
+    let t = c .before .before .before .read-tail in
+    c .refused5 .ensures ∙ sym (scan-refused ws (readRules ws (signatureOf ws) (o .place)) _ (rules-left (c .before .before .before .before) .rest) (t .result) (t .ensures .0) (c .before .if5 .taken))
+
+returns-6 : tie.Need-returns-6
+returns-6 c = let o = c .before .before .before .before .before .read-strategies .result in
+    let t = c .before .before .read-tail in
+    sym (scan-whole _ (count (c .before .before .before .before .before .before .before .before .before .before .before)) (count-left (c .before .before .before .before .before .before .before .before)) o (rules-left (c .before .before .before)) (t .result) (t .ensures .0) (c .if5 .left))
+
+pub read-sections-spec : {M : Type 1} → statement M
+read-sections-spec =
+    tie.close
+    (tie.spec
+    check-requires
+    refused-requires
+    returns
+    shared-slice-read-wide
+    wide-requires
+    read-numbers-requires
+    refused-requires-2
+    returns-2
+    add-check
+    check-requires-2
+    add-refused
+    refused-requires-3
+    returns-3
+    add-read-strategies
+    read-strategies-requires
+    refused-requires-4
+    returns-4
+    read-tail-requires
+    refused-requires-5
+    returns-5
+    returns-6)

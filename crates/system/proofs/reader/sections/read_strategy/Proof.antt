@@ -1,0 +1,61 @@
+-- A strategy: its length decides, and then its entries.
+use Rattle.system.proofs.reader.sections.SectionSteps.{strategy-refused, strategy-entries}
+use Rattle.system.specs.reader.Sections.{sectionOf, Inside}
+use Rattle.system.specs.Parser.{times, number}
+use Rattle.system.specs.Numbers.{range, entry}
+use Prim.Native.Nat.{_+_}
+use native.Mathlib.Omega.{arith}
+use mathlib.Core.Path.{refl, sym, ap, _∙_}
+use borrow.Author.Needs.{needs}
+use Rattle.system.proofs.reader.sections.read_strategy.Statement.{statement}
+use Rattle.system.proofs.reader.sections.read_strategy.Tie as tie
+
+-- the length is in its range
+size : (c : tie.Else1) → Inside (c .before .before .before .args .book .now) (c .before .before .before .args .at) 0 16
+size c = c .before .check .ensures .1 (c .if1 .left)
+
+check-requires : tie.Need-check-requires
+check-requires c κs = search needs
+
+returns : tie.Need-returns
+returns c = let a = c .before .before .before .args in
+    (sym (strategy-refused (a .book .now) (a .arity) (a .at) (c .before .check .result) (c .before .check .ensures .0 range refl) (c .if1 .taken)), omega arith)
+
+add-read-numbers : tie.Need-add-read-numbers
+add-read-numbers c = let h = size c .here in omega arith
+
+mul-wide : tie.Need-mul-wide
+mul-wide c = let h = size c .here in search needs
+
+shared-slice-read-wide : tie.Need-shared-slice-read-wide
+shared-slice-read-wide c = size (c .before) .here
+
+wide-requires : tie.Need-wide-requires
+wide-requires c κs = search needs
+
+read-numbers-requires : tie.Need-read-numbers-requires
+read-numbers-requires c κs = let h = size (c .before .before) .here in
+    let w = c .wide .ensures in
+    omega arith
+
+returns-2 : tie.Need-returns-2
+returns-2 c = let a = c .before .before .before .before .before .before .args in
+    let w = c .before .wide .ensures .0 in (
+      c .read-numbers .ensures .0 entry refl
+          ∙ ap (λ k. sectionOf (times k (number (a .book .now) entry 0 (a .arity)) (a .at + 1))) w
+          ∙ sym (strategy-entries (a .book .now) (a .arity) (a .at) (size (c .before .before .before))),
+      c .read-numbers .ensures .1,
+    )
+
+pub read-strategy-spec : {M : Type 1} → statement M
+read-strategy-spec =
+    tie.close
+    (tie.spec
+    check-requires
+    returns
+    add-read-numbers
+    mul-wide
+    shared-slice-read-wide
+    wide-requires
+    read-numbers-requires
+    returns-2)

@@ -1,0 +1,2 @@
+-- A side, word by word.
+pub mod SideSteps

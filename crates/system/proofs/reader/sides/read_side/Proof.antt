@@ -1,0 +1,64 @@
+-- A side: its length decides, and then its words.
+use Rattle.system.proofs.reader.sections.SectionSteps.{side-refused, side-words}
+use Rattle.system.specs.Answers.{signatureOf}
+use Rattle.system.specs.reader.Sections.{sideOf, Inside}
+use Rattle.system.specs.Parser.{readWords}
+use Rattle.system.specs.Numbers.{range}
+use mathlib.Core.Bool.{true}
+use Prim.Native.Nat.{_+_}
+use native.Mathlib.Omega.{arith}
+use mathlib.Core.Path.{refl, sym, ap, _∙_}
+use borrow.Author.Needs.{needs}
+use Rattle.system.proofs.reader.sides.read_side.Statement.{statement}
+use Rattle.system.proofs.reader.sides.read_side.Tie as tie
+
+-- the length is in its range
+size : (c : tie.Else1) → Inside (c .before .before .before .args .book .now) (c .before .before .before .args .at) 1 64
+size c = c .before .check .ensures .1 (c .if1 .left)
+
+check-requires : tie.Need-check-requires
+check-requires c κs = search needs
+
+returns : tie.Need-returns
+returns c = let a = c .before .before .before .args in
+    (sym (side-refused (a .book .now) (signatureOf (a .book .now)) (a .hand) (a .known) (a .at) (c .before .check .result) (c .before .check .ensures .0 range refl) (c .if1 .taken)), (omega arith, omega arith))
+
+add-read-words : tie.Need-add-read-words
+add-read-words c = let h = size c .here in omega arith
+
+mul-wide : tie.Need-mul-wide
+mul-wide c = let h = size c .here in search needs
+
+shared-slice-read-wide : tie.Need-shared-slice-read-wide
+shared-slice-read-wide c = size (c .before) .here
+
+wide-requires : tie.Need-wide-requires
+wide-requires c κs = search needs
+
+read-words-requires : tie.Need-read-words-requires
+read-words-requires c κs = let h = size (c .before .before) .here in
+    let b = size (c .before .before) .below in
+    let w = c .wide .ensures in
+    omega arith
+
+returns-2 : tie.Need-returns-2
+returns-2 c = let a = c .before .before .before .before .before .before .args in
+    let w = c .before .wide .ensures .0 in (
+      c .read-words .ensures .0
+          ∙ ap (λ k. sideOf (readWords (a .book .now) (signatureOf (a .book .now)) (a .hand) true k 1 (a .known) (a .at + 1))) w
+          ∙ sym (side-words (a .book .now) (signatureOf (a .book .now)) (a .hand) (a .known) (a .at) (size (c .before .before .before))),
+      c .read-words .ensures .1,
+    )
+
+pub read-side-spec : {M : Type 1} → statement M
+read-side-spec =
+    tie.close
+    (tie.spec
+    check-requires
+    returns
+    add-read-words
+    mul-wide
+    shared-slice-read-wide
+    wide-requires
+    read-words-requires
+    returns-2)

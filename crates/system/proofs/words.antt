@@ -1,0 +1,3 @@
+-- What the words of any book tell, and the span of subterms.
+pub mod BookWords
+pub mod SpanSteps

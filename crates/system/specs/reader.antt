@@ -1,0 +1,2 @@
+-- The reader in one pass: inner.
+pub mod Sections

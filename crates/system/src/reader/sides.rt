@@ -1,0 +1,157 @@
+// The sides of rules, word by word.
+ghost use mathlib.Core.Path.{_≡_};
+ghost use mathlib.Core.Bool.{true};
+ghost use Prim.Native.Nat.{_+_, _≤_};
+ghost use lib.ListN.{length};
+ghost use Rattle.system.specs.Limits.{sideWords};
+ghost use Rattle.system.specs.Parser.{readWords, readSide, sideFault, variableFault, learn};
+ghost use Rattle.system.specs.Answers.{signatureOf};
+ghost use Rattle.system.specs.reader.Sections.{sideOf, numberOr0};
+use crate::limits::PAST_VARIABLES;
+use crate::limits::SIDE_WORDS;
+use crate::limits::VARIABLE;
+use crate::numbers::MISSING;
+use crate::numbers::RANGE;
+use crate::numbers::TAKEN;
+use crate::numbers::UNBALANCED;
+use crate::numbers::UNBOUND;
+use crate::numbers::UNKNOWN;
+use crate::numbers::VARIABLE_HEAD;
+use crate::reader::numbers::check;
+use crate::words::arity;
+use crate::words::is_symbol;
+use crate::words::wide;
+
+// Which side of a rule is read.
+pub enum Hand {
+    Left,
+    Right,
+}
+
+// A side that was read: as a section, with how many variables are known after it.
+pub struct Side {
+    pub number: u32,
+    pub place: usize,
+    pub known: usize,
+}
+
+// What is wrong with variable k of a side, where `known` are known: 0, 6 or 7.
+fn variable_fault(hand: Hand, first: bool, known: usize, k: usize) -> u32
+    ensures { λ r. ⌜ r ≡ numberOr0 (variableFault hand first known k) ⌝ }
+{
+    match hand {
+        Hand::Left => {
+            if first {
+                return VARIABLE_HEAD;
+            }
+            if k == known {
+                return 0;
+            }
+            UNBOUND
+        }
+        Hand::Right => {
+            if k < known {
+                return 0;
+            }
+            UNBOUND
+        }
+    }
+}
+
+// What is wrong with word w of a side, where `due` subterms are still to come: 0, 5, 4, 6 or 7, checked in this order.
+fn side_fault(book: &[u16], hand: Hand, first: bool, due: usize, known: usize, w: u16) -> u32
+    ensures { λ r. ⌜ r ≡ numberOr0 (sideFault (signatureOf (now (book .entry))) hand first due known w) ⌝ }
+{
+    if due == 0 {
+        return UNBALANCED;
+    }
+    if is_symbol(book, w) {
+        return 0;
+    }
+    let x = wide(w);
+    if x < VARIABLE {
+        return UNKNOWN;
+    }
+    if PAST_VARIABLES <= x {
+        return UNKNOWN;
+    }
+    variable_fault(hand, first, known, x - VARIABLE)
+}
+
+// How many variables are known after word w.
+fn learn(hand: Hand, known: usize, w: u16) -> usize
+    requires { ⌜ known ≤ 65535 ⌝ }
+    ensures { λ r. ⌜ (r ≡ learn hand known w) × (r ≤ known + 1) ⌝ }
+{
+    match hand {
+        Hand::Left => {
+            if VARIABLE <= w as usize {
+                return known + 1;
+            }
+            known
+        }
+        Hand::Right => known,
+    }
+}
+
+// The n words of a side, which are one term.
+fn read_words(book: &[u16], at: usize, n: usize, hand: Hand, known: usize) -> Side
+    requires { ⌜ (at ≤ length (now book)) × (n ≤ sideWords) × (known ≤ sideWords) ⌝ }
+    ensures { λ r. ⌜ r ≡ sideOf (readWords (now (book .entry)) (signatureOf (now (book .entry))) hand true n 1 known at) ⌝ }
+    ensures within { λ r. ⌜ (r .place ≤ length (now (book .entry))) × (r .known ≤ known + sideWords) ⌝ }
+{
+    let mut due: usize = 1;
+    let mut seen = known;
+    let mut j = 0;
+    while j < n {
+        let i = at + j;
+        if book.len() <= i {
+            return Side {
+                number: MISSING,
+                place: i,
+                known: 0,
+            };
+        }
+        let w = book[i];
+        let f = side_fault(book, hand, j == 0, due, seen, w);
+        if f != TAKEN {
+            return Side {
+                number: f,
+                place: i,
+                known: 0,
+            };
+        }
+        due = due - 1 + arity(book, w);
+        seen = learn(hand, seen, w);
+        j += 1;
+    }
+    if due != 0 {
+        return Side {
+            number: UNBALANCED,
+            place: at + n,
+            known: 0,
+        };
+    }
+    Side {
+        number: TAKEN,
+        place: at + n,
+        known: seen,
+    }
+}
+
+// A side: a length 1 to 64 and that many words.
+pub fn read_side(book: &[u16], at: usize, hand: Hand, known: usize) -> Side
+    requires { ⌜ (at ≤ length (now book)) × (known ≤ sideWords) ⌝ }
+    ensures { λ r. ⌜ r ≡ sideOf (readSide (now (book .entry)) (signatureOf (now (book .entry))) hand known at) ⌝ }
+    ensures within { λ r. ⌜ (r .place ≤ length (now (book .entry))) × (r .known ≤ known + sideWords) ⌝ }
+{
+    let f = check(book, at, 1, SIDE_WORDS, RANGE);
+    if f != TAKEN {
+        return Side {
+            number: f,
+            place: at,
+            known: 0,
+        };
+    }
+    read_words(book, at + 1, wide(book[at]), hand, known)
+}
