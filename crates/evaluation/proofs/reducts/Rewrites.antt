@@ -212,7 +212,8 @@ module _ {book ws : List ℕ} {n : ℕ} {u : Subterm} {m : Match} (asked : Reduc
 
     -- the reduct's length, as a number of the code
     module _ (k : ℕ) (counted : k ≡ reductLength (m .lengths) ls) where
-      pub reduct-bound : n - u .width + k ≤ 4198336
+      -- a right side has at most 64 words, so it fits a word of the machine
+      pub reduct-bound : n - u .width + k ≤ termWords + 64 * 65535
       reduct-bound =
           let r = right-side in
           let z = length-bound (m .lengths) ls stretch-bound in

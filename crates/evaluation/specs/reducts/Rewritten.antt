@@ -19,7 +19,7 @@ use Rattle.evaluation.specs.machine.Machine.{position}
 use Rattle.evaluation.specs.machine.Area.{area, termIn, outerIn, Stored}
 use Rattle.system.specs.Limits.{termWords}
 
--- what the rule that matches gives at the subterm, the first that stands in the term from its position on
+-- x is the first rule that matches at the subterm, and its reduct
 abbrev pub Contracts : List ℕ → List ℕ → ℕ → Subterm → Redex → Type 0
 Contracts book ws n u x = redex (systemOf book) (drop (u .position) (termIn ws n)) ≡ some x
 
