@@ -11,7 +11,7 @@ use Rattle.matching.specs.safety.Computed.{passes, every, closes, idles, idleTe
 use Rattle.matching.specs.Cases.{failing, testing, strategyCases}
 use Rattle.matching.specs.Matching.{bind, firstMatch, redex}
 use Rattle.system.specs.Cases.{Hold, bookB, readerCases}
-use Rattle.evaluation.specs.Evaluation.{rewrite, follow, atRoot, evaluate, evaluation}
+use Rattle.rewriting.specs.Evaluation.{rewrite, follow, atRoot, evaluate, evaluation}
 use Rattle.evaluation.specs.Expansion.{expansion}
 use Rattle.evaluation.specs.Cases.{expanding, evaluatorCases, starred}
 

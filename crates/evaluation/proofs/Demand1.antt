@@ -11,7 +11,7 @@ use Rattle.system.specs.Parser.{Parsed, ok, fault, read}
 use Rattle.system.specs.TermCheck.{termFault}
 use Rattle.system.specs.Answers.{answerOf, wholeAnswer, termAnswer}
 use Rattle.system.specs.Book.{systemOf}
-use Rattle.evaluation.specs.Evaluation.{Outcome, settled, stopped, evaluation}
+use Rattle.rewriting.specs.Evaluation.{Outcome, settled, stopped, evaluation}
 use Rattle.evaluation.specs.Expansion.{ended, expansion}
 use Rattle.evaluation.specs.Demand1.{Refused, untouched, cleared}
 use Rattle.evaluation.proofs.Expanding.{Course, narrow, wrong, runs, course}

@@ -13,13 +13,13 @@ use Rattle.system.specs.Answers.{termAnswer}
 use Rattle.system.proofs.TermChecks.{whole-fault}
 use Rattle.system.specs.Book.{systemOf}
 use Rattle.matching.specs.StrategyTest.{Safe, Tested, passed, failed, TestedBook}
-use Rattle.evaluation.specs.Evaluation.{Run, Outcome, settled, stopped, evaluation}
+use Rattle.rewriting.specs.Evaluation.{Run, Outcome, settled, stopped, evaluation}
 use Rattle.system.specs.Numbers.{Limit, spent, overlong, nested, limitNumber}
-use Rattle.evaluation.specs.Outcomes.{Done}
+use Rattle.rewriting.specs.Outcomes.{Done}
 use Rattle.evaluation.specs.Expansion.{Expansion, result, ended, expansion, handedBack, secondly}
 use Rattle.evaluation.specs.Demand3.{IsDone, IsHandedBack, Rests, Found, IsFound, RestsAgain}
-use Rattle.evaluation.proofs.Done.{theorem-done, steps-last}
-use Rattle.evaluation.proofs.Found.{theorem-found}
+use Rattle.rewriting.proofs.Done.{theorem-done, steps-last}
+use Rattle.rewriting.proofs.Found.{theorem-found}
 use Rattle.evaluation.proofs.Expanding.{Checks, checks, checks-well, evaluates, Course, narrow, wrong, runs, course}
 
 -- no limit has number 0

@@ -20,10 +20,10 @@ use Rattle.system.proofs.TermChecks.{fault-whole}
 use Rattle.system.specs.Book.{systemOf}
 use Rattle.system.specs.layout.Accepted.{Accepted}
 use Rattle.evaluation.specs.declared.run.Ended.{Ended}
-use Rattle.evaluation.specs.Evaluation.{Run, Outcome, settled, stopped, evaluation}
+use Rattle.rewriting.specs.Evaluation.{Run, Outcome, settled, stopped, evaluation}
 use Rattle.evaluation.specs.run.Ended.{Ends}
 use Rattle.evaluation.specs.Expansion.{result, ended, expansion}
-use Rattle.evaluation.proofs.Done.{theorem-done, steps-last}
+use Rattle.rewriting.proofs.Done.{theorem-done, steps-last}
 
 -- ---- what the check of a term tells
 

@@ -6,8 +6,8 @@ use lib.ListN.{length}
 use Rattle.system.specs.declared.Answer.{Answer}
 use Rattle.system.specs.Answers.{termAnswer}
 use Rattle.system.specs.Book.{systemOf}
-use Rattle.evaluation.specs.Evaluation.{Run, settled, evaluation}
-use Rattle.evaluation.specs.Outcomes.{Done, Stable}
+use Rattle.rewriting.specs.Evaluation.{Run, settled, evaluation}
+use Rattle.rewriting.specs.Outcomes.{Done, Stable}
 use Rattle.evaluation.specs.Expansion.{Expansion, expansion, handedBack}
 use Rattle.system.specs.Limits.{areaWords, termWords}
 

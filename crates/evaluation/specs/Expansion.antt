@@ -9,7 +9,7 @@ use Rattle.system.specs.declared.Answer.{Answer}
 use Rattle.system.specs.Numbers.{taken, cramped, numberOf, limitNumber}
 use Rattle.system.specs.Answers.{termAnswer}
 use Rattle.system.specs.Book.{systemOf}
-use Rattle.evaluation.specs.Evaluation.{Outcome, settled, stopped, evaluation}
+use Rattle.rewriting.specs.Evaluation.{Outcome, settled, stopped, evaluation}
 use Rattle.system.specs.Limits.{areaWords, termWords}
 
 -- the three numbers, the answer buffer and the work buffer

@@ -8,8 +8,6 @@ ghost use Rattle.system.specs.reader.Sections.{scanOf};
 ghost use Rattle.evaluation.specs.Expansion.{result, expansion};
 
 pub mod demands;
-mod machine;
-mod reducts;
 mod run;
 
 use crate::run::Ended;

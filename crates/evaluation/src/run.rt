@@ -4,21 +4,21 @@ ghost use Prim.Native.Nat.{_≤_};
 ghost use lib.ListN.{length};
 ghost use Rattle.buffers.specs.Words.{zeros, pad};
 ghost use Rattle.system.specs.Book.{systemOf};
-ghost use Rattle.evaluation.specs.Evaluation.{evaluation};
+ghost use Rattle.rewriting.specs.Evaluation.{evaluation};
 ghost use Rattle.system.specs.Limits.{areaWords};
-ghost use Rattle.evaluation.specs.machine.Area.{Laid};
+ghost use Rattle.machine.specs.advance.Area.{Laid};
 ghost use Rattle.evaluation.specs.run.Ended.{Runnable, Ends};
+use machine::advance::State;
+use machine::advance::Stop;
+use machine::advance::advance;
+use machine::reducts::Reduced;
+use machine::reducts::Subterm;
+use machine::reducts::rewrite;
+use system::Shape;
 use system::layout::index::mark;
 use system::limits::AREA_WORDS;
 use system::limits::LEVELS;
 use system::limits::TERM_WORDS;
-use crate::machine::State;
-use crate::machine::Stop;
-use crate::machine::advance;
-use crate::reducts::Reduced;
-use crate::reducts::Subterm;
-use crate::reducts::rewrite;
-use system::Shape;
 
 // How a run ended: 0, 11, 12 or 13; how many words the term has, on 0; and the steps taken.
 pub struct Ended {

@@ -1,7 +1,7 @@
 -- `expand_scanned` meets its contract.
 use Prim.Native.Nat.{_≤_}
 use Rattle.evaluation.proofs.Expanding.{Checks, checks, checks-accepted, cramped-answer, cramped-work, refuses, evaluates, size-bounded, whole-length, whole-front, same-result, finishes}
-use Rattle.evaluation.specs.Evaluation.{evaluation}
+use Rattle.rewriting.specs.Evaluation.{evaluation}
 use Rattle.evaluation.specs.Expansion.{result}
 use Rattle.system.specs.Book.{systemOf}
 use Rattle.system.specs.Answers.{termAnswer}

@@ -9,7 +9,7 @@ use Rattle.buffers.specs.Words.{pad, zeros, over}
 use Rattle.buffers.proofs.Over.{over-left, over-right}
 use Rattle.buffers.proofs.Pads.{length-zeros, length-pad, zeros-append}
 use Rattle.system.specs.Limits.{termWords, areaWords}
-use Rattle.evaluation.specs.machine.Area.{area, termIn, outerIn, countIn, Laid}
+use Rattle.machine.specs.advance.Area.{area, termIn, outerIn, countIn, Laid}
 use Rattle.evaluation.proofs.run.Starts.{over-all}
 
 pad-cleared : (m n : ℕ) (xs : List ℕ) → length xs ≡ n → n ≤ m → over (pad m xs) 0 (zeros n) ≡ zeros m

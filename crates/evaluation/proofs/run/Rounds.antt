@@ -14,24 +14,24 @@ use Rattle.system.specs.Book.{systemOf}
 use Rattle.matching.specs.Matching.{Redex}
 use Rattle.system.proofs.layout.Books.{well}
 use Rattle.system.specs.Limits.{termWords, areaWords, levels}
-use Rattle.evaluation.specs.Evaluation.{Run, Outcome, stopped, evaluation}
+use Rattle.rewriting.specs.Evaluation.{Run, Outcome, stopped, evaluation}
 use Rattle.system.specs.Numbers.{Limit, spent, overlong, nested, limitNumber}
-use Rattle.evaluation.specs.declared.machine.State.{State}
-use Rattle.evaluation.specs.declared.machine.Advanced.{Advanced}
-use Rattle.evaluation.specs.declared.machine.Stop.{Stop}
-use Rattle.evaluation.specs.declared.machine.Stop.the-variants.{Finished, Deep, Ready}
-use Rattle.evaluation.specs.declared.reducts.Reduced.{Reduced}
-use Rattle.evaluation.specs.declared.reducts.Reduced.the-variants.{Done, TooLong}
-use Rattle.evaluation.specs.declared.reducts.Subterm.{Subterm}
+use Rattle.machine.specs.declared.advance.State.{State}
+use Rattle.machine.specs.declared.advance.Advanced.{Advanced}
+use Rattle.machine.specs.declared.advance.Stop.{Stop}
+use Rattle.machine.specs.declared.advance.Stop.the-variants.{Finished, Deep, Ready}
+use Rattle.machine.specs.declared.reducts.Reduced.{Reduced}
+use Rattle.machine.specs.declared.reducts.Reduced.the-variants.{Done, TooLong}
+use Rattle.machine.specs.declared.reducts.Subterm.{Subterm}
 use Rattle.evaluation.specs.declared.run.Ended.{Ended}
-use Rattle.evaluation.specs.machine.Machine.{position, ready, advance}
-use Rattle.evaluation.specs.machine.Area.{area, termIn, outerIn, countIn, Laid, Going, Holds}
-use Rattle.evaluation.specs.machine.Arrival.{Arrives, Advances}
-use Rattle.evaluation.specs.reducts.Rewritten.{Reducible, rewritten, Rewritten, done, long, Rewrites}
+use Rattle.rewriting.specs.Machine.{position, ready, advance}
+use Rattle.machine.specs.advance.Area.{area, termIn, outerIn, countIn, Laid, Going, Holds}
+use Rattle.machine.specs.advance.Arrival.{Arrives, Advances}
+use Rattle.machine.specs.reducts.Rewritten.{Reducible, rewritten, Rewritten, done, long, Rewrites}
 use Rattle.evaluation.specs.run.Ended.{Runnable, Ends}
-use Rattle.evaluation.proofs.MachineTheorem.{iterate-finished, iterate-deep, iterate-spent, iterate-long, remains, remains-goes}
-use Rattle.evaluation.proofs.Goings.{going-fire}
-use Rattle.evaluation.proofs.Areas.{held-term, held-outer}
+use Rattle.rewriting.proofs.MachineTheorem.{iterate-finished, iterate-deep, iterate-spent, iterate-long, remains, remains-goes}
+use Rattle.machine.proofs.advance.Goings.{going-fire}
+use Rattle.machine.proofs.advance.Areas.{held-term, held-outer}
 use Rattle.evaluation.proofs.run.Starts.{area-bare}
 use Rattle.evaluation.proofs.run.Running.{Running, Made, running-made, positions-kept, stored-laid}
 

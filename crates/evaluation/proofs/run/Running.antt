@@ -9,13 +9,13 @@ use Rattle.system.specs.Signature.{replace}
 use Rattle.system.specs.System.{System}
 use Rattle.system.specs.Terms.{Whole, WellFormed}
 use Rattle.system.specs.Limits.{termWords, areaWords, levels}
-use Rattle.evaluation.specs.Evaluation.{evaluation}
-use Rattle.evaluation.specs.machine.Machine.{position, Opened, base, down}
-use Rattle.evaluation.specs.machine.Area.{area, termIn, outerIn, countIn, Laid, Going, Positioned, Stored, Holds}
-use Rattle.evaluation.proofs.Laws.{position-le}
-use Rattle.evaluation.proofs.MachineTheorem.{remains, remains-start}
-use Rattle.evaluation.proofs.Goings.{opened-replace, going-start, going-within}
-use Rattle.evaluation.proofs.Areas.{held-term, held-outer, held-count, held-length, holds, area-pushed}
+use Rattle.rewriting.specs.Evaluation.{evaluation}
+use Rattle.rewriting.specs.Machine.{position, Opened, base, down}
+use Rattle.machine.specs.advance.Area.{area, termIn, outerIn, countIn, Laid, Going, Positioned, Stored, Holds}
+use Rattle.rewriting.proofs.Laws.{position-le}
+use Rattle.rewriting.proofs.MachineTheorem.{remains, remains-start}
+use Rattle.machine.proofs.advance.Goings.{opened-replace, going-start, going-within}
+use Rattle.machine.proofs.advance.Areas.{held-term, held-outer, held-count, held-length, holds, area-pushed}
 use Rattle.evaluation.proofs.run.Starts.{area-bare}
 
 -- ---- the levels around one of the open levels

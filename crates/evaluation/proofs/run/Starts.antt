@@ -9,7 +9,7 @@ use Rattle.buffers.specs.Words.{pad, zeros, over}
 use Rattle.buffers.proofs.Over.{over-append}
 use Rattle.buffers.proofs.Pads.{length-pad, zeros-append}
 use Rattle.system.specs.Limits.{termWords, areaWords}
-use Rattle.evaluation.specs.machine.Area.{area}
+use Rattle.machine.specs.advance.Area.{area}
 
 pub over-all : (ws xs : List ℕ) → length ws ≡ length xs → over ws 0 xs ≡ xs
 over-all ws xs e =

@@ -10,7 +10,7 @@ use Rattle.system.specs.Terms.{Whole}
 use Rattle.system.specs.Book.{systemOf}
 use Rattle.system.specs.layout.Accepted.{Accepted}
 use Rattle.evaluation.specs.declared.run.Ended.{Ended}
-use Rattle.evaluation.specs.Evaluation.{Outcome, settled, stopped}
+use Rattle.rewriting.specs.Evaluation.{Outcome, settled, stopped}
 use Rattle.system.specs.Numbers.{limitNumber}
 use Rattle.system.specs.Limits.{areaWords, termWords}
 

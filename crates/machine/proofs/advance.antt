@@ -1,0 +1,14 @@
+-- The machine's states and transitions, and the measure of a loop that runs it
+pub mod Goings
+pub mod Passing
+pub mod Levels
+pub mod Measure
+pub mod Advances
+-- In an area of words: what the proofs of `advance` cite
+pub mod Areas
+pub mod Bounds
+pub mod Transitions
+pub mod Performing
+pub mod Trying
+pub mod Advancing
+pub mod Arriving

@@ -1,0 +1,282 @@
+-- What the loop of `machine::advance` keeps, and each way on from a round of it, by the event.
+use Prim.Native.Nat.{ℕ, suc, _+_, _-_, _≤_, _<_}
+use native.Mathlib.Omega.{arith}
+use mathlib.Core.Path.{_≡_, refl, sym, ap, _∙_, subst, subst₂}
+use mathlib.Core.Bool.{true}
+use mathlib.Core.List.{List, [], _∷_, _++_}
+use lib.ListN.{length, getD, take, drop, length-append}
+use lib.Seq.{take-all, take-suc, length-take-le, append-snoc}
+use Rattle.system.specs.declared.Shape.{Shape}
+use Rattle.system.specs.System.{System}
+use Rattle.matching.specs.declared.rules.Fit.{Fit}
+use Rattle.matching.specs.declared.Found.the-variants.{Nothing}
+use Rattle.system.specs.Book.{systemOf}
+use Rattle.system.specs.layout.Accepted.{Accepted}
+use Rattle.matching.specs.rules.Fits.{fitOf}
+use Rattle.machine.specs.declared.advance.State.{State}
+use Rattle.machine.specs.declared.advance.Event.{Event}
+use Rattle.machine.specs.declared.advance.Event.the-variants.{End, Repeated, Rules, Argument}
+use Rattle.rewriting.specs.Machine.{strategyAt, position, Opened, advance}
+use Rattle.machine.specs.advance.Area.{area, termIn, outerIn, countIn, Going, Holds}
+use Rattle.machine.specs.advance.Transition as to
+use Rattle.machine.specs.advance.Transition.{sinceAt, Transition, countsAfter, next, Performed}
+use Rattle.machine.specs.advance.Arrival.{comes}
+use Rattle.rewriting.proofs.Laws.{entry-at}
+use Rattle.system.proofs.layout.entries.Asks.{stood}
+use Rattle.machine.proofs.advance.Passing.{Passes, Passed, passed-start, passed-again, passed-more, passed-open, passed-left}
+use Rattle.machine.proofs.advance.Measure.{remaining, less-end, less-entry, less-argument}
+use Rattle.machine.proofs.advance.Advances.{advance-pop, advance-pass, advance-open}
+use Rattle.machine.proofs.advance.Areas.{held-term, held-outer, held-count}
+use Rattle.machine.proofs.advance.Bounds.{Bounds, bounds}
+use Rattle.machine.proofs.advance.Transitions.{Entered, entered-by}
+use Rattle.machine.proofs.advance.Trying.{tried-none}
+
+-- the transitions that are left in the state in an area
+unfoldable pub remainingIn : System → List ℕ → ℕ → ℕ → ℕ
+remainingIn s ws n level = remaining s (termIn ws n) 64 (outerIn ws level ++ countIn ws level ∷ []) 0
+
+-- a state, of the same term, from which the machine comes to the same place; and what is known of the entries that were followed
+pub record Advancing (s : System) (state : State) (ws₀ ws positions : List ℕ) (level floor since : ℕ) : Type 0 where
+  pub held : Holds s ws positions (state .n) level
+  pub term : termIn ws (state .n) ≡ termIn ws₀ (state .n)
+  pub same : comes s (record { n = state .n; level = level }) ws ≡ comes s state ws₀
+  pub passed : Passed s (termIn ws (state .n)) (outerIn ws level) (countIn ws level) floor since
+
+pub advancing-start : (s : System) (state : State) (ws positions : List ℕ) (since : ℕ) → Holds s ws positions (state .n) (state .level) →
+    since ≡ countIn ws (state .level) → Advancing s state ws ws positions (state .level) (state .level) since
+advancing-start s state ws positions since h q =
+    let level = state .level in
+    record {
+      held = h;
+      term = refl;
+      same = refl;
+      passed = rw q (passed-start s (termIn ws (state .n)) (outerIn ws level) (countIn ws level) level (sym (h .stored .levels)));
+    }
+
+-- a round of the loop: the book, the state at the loop's start, the state before the transition, and what the transition left
+pub record Round : Type 0 where
+  pub book : List ℕ
+  pub shape : Shape
+  pub accepted : Accepted book shape
+  pub state : State
+  pub ws₀ : List ℕ
+  pub ws : List ℕ
+  pub positions : List ℕ
+  pub level : ℕ
+  pub floor : ℕ
+  pub since : ℕ
+  pub kept : Advancing (systemOf book) state ws₀ ws positions level floor since
+  pub event : Event
+  pub ws′ : List ℕ
+  pub positions′ : List ℕ
+  pub performed : Performed (systemOf book) (record { n = state .n; level = level; since = sinceAt floor since level }) ws positions event ws′ positions′
+
+-- it goes on: the same is kept, with fewer transitions left
+pub record Goes (τ : Round) (level floor since : ℕ) : Type 0 where
+  pub on : Advancing (systemOf (τ .book)) (τ .state) (τ .ws₀) (τ .ws′) (τ .positions′) level floor since
+  pub less : remainingIn (systemOf (τ .book)) (τ .ws′) (τ .state .n) level < remainingIn (systemOf (τ .book)) (τ .ws) (τ .state .n) (τ .level)
+
+module _ (τ : Round) where
+  abbrev s : System
+  s = systemOf (τ .book)
+
+  abbrev n : ℕ
+  n = τ .state .n
+
+  abbrev ws′ : List ℕ
+  ws′ = τ .ws′
+
+  abbrev positions′ : List ℕ
+  positions′ = τ .positions′
+
+  abbrev level : ℕ
+  level = τ .level
+
+  abbrev floor : ℕ
+  floor = τ .floor
+
+  abbrev since : ℕ
+  since = τ .since
+
+  abbrev t : List ℕ
+  t = termIn (τ .ws) n
+
+  abbrev outer : List ℕ
+  outer = outerIn (τ .ws) level
+
+  abbrev c : ℕ
+  c = countIn (τ .ws) level
+
+  abbrev counts : List ℕ
+  counts = outer ++ c ∷ []
+
+  abbrev here : ℕ
+  here = position s t outer 0
+
+  abbrev entries : List ℕ
+  entries = strategyAt s t here
+
+  abbrev f : ℕ
+  f = sinceAt floor since level
+
+  going : Going s t outer c
+  going = τ .kept .held .stored .going
+
+  words : length t ≡ n
+  words = τ .kept .held .stored .words
+
+  levels : length outer ≡ level
+  levels = τ .kept .held .stored .levels
+
+  pub round-bounds : Bounds (τ .ws) (τ .positions) n level
+  round-bounds = bounds (τ .book) (τ .shape) (τ .accepted) (τ .ws) (τ .positions) n level (τ .kept .held)
+
+  -- what the event tells
+  pub told : (e : Event) → τ .event ≡ e → Entered s t outer f c e
+  told e q = entered-by s t outer f c e (sym (τ .performed .event) ∙ q)
+
+  -- and what stands in the area where the transition is known
+  module _ (o : Transition) (q : to.transition s t outer f c ≡ o) where
+    pub stands : ws′ ≡ area t (countsAfter counts o)
+    stands = τ .performed .stands ∙ ap (λ y. area t (countsAfter counts y)) q
+
+    pub holds-there : (level′ : ℕ) → length (countsAfter counts o) ≡ suc level′ → Holds s ws′ positions′ n level′
+    holds-there level′ l = τ .performed .holds level′ (ap (λ y. length (countsAfter counts y)) q ∙ l)
+
+  -- ---- to another state
+
+  module _ (outer′ : List ℕ) (c′ level′ : ℕ) (is : ws′ ≡ area t (outer′ ++ c′ ∷ [])) (h : Holds s ws′ positions′ n level′) (levels′ : length outer′ ≡ level′) where
+    room′ : level′ < 64
+    room′ = let z = h .stored .going .room in omega (arith, h .stored .levels)
+
+    term′ : termIn ws′ n ≡ t
+    term′ = held-term ws′ t outer′ c′ n level′ is (going .bounded) words levels′ room′
+
+    outer-is : outerIn ws′ level′ ≡ outer′
+    outer-is = held-outer ws′ t outer′ c′ n level′ is (going .bounded) words levels′ room′
+
+    count-is : countIn ws′ level′ ≡ c′
+    count-is = held-count ws′ t outer′ c′ n level′ is (going .bounded) words levels′ room′
+
+    moved : (floor′ since′ : ℕ) → Passed s t outer′ c′ floor′ since′ → advance s 64 counts t 0 ≡ advance s 64 (outer′ ++ c′ ∷ []) t 0 →
+        remaining s t 64 (outer′ ++ c′ ∷ []) 0 < remaining s t 64 counts 0 → Goes τ level′ floor′ since′
+    unfolding remainingIn
+    moved floor′ since′ w e l =
+        let counts′ : outerIn ws′ level′ ++ countIn ws′ level′ ∷ [] ≡ outer′ ++ c′ ∷ [] = (λ j. outer-is j ++ count-is j ∷ []) in
+        record {
+          on = record {
+            held = h;
+            term = term′ ∙ τ .kept .term;
+            same = (λ j. advance s 64 (counts′ j) (term′ j) 0) ∙ sym e ∙ τ .kept .same;
+            passed = rw (term′, outer-is, count-is) w;
+          };
+          less = subst₂ (λ y z. remaining s y 64 z 0 < remaining s t 64 counts 0) (sym term′) (sym counts′) l;
+        }
+
+  -- ---- the entry leads to no rewrite
+
+  module _ (more : c < length entries) (is : ws′ ≡ area t (outer ++ suc c ∷ [])) (h : Holds s ws′ positions′ n level) where
+    over-it : Passes s t (63 - length outer) here (getD entries c 0) → Goes τ level floor since
+    over-it w =
+        let z : 63 - length outer ≡ 64 - suc (length outer) = omega arith in
+        moved outer (suc c) level is h levels floor since (passed-more s t outer c floor since (τ .kept .passed) more w)
+        (advance-pass s t 64 0 outer c (going .room) more (subst (λ l. Passes s t l here (getD entries c 0)) z w))
+        (less-entry s t 64 0 outer c (going .room) (getD entries c 0) (drop (suc c) entries) (entry-at entries c (getD entries c 0) more refl))
+
+  begun-one : length (outer ++ suc c ∷ []) ≡ suc level
+  begun-one = rw (length-append outer (suc c ∷ [])) (omega (arith, levels))
+
+  -- it is repeated
+  pub goes-repeated : τ .event ≡ Repeated → Goes τ level floor since
+  goes-repeated e =
+      let x = told Repeated e in
+      let o = to.repeated outer (suc c) in
+      let w : stood entries (sinceAt floor since (length outer)) c ≡ true = subst (λ y. stood entries (sinceAt floor since y) c ≡ true) (sym levels) (x .1) in
+      over-it (x .0) (stands o (x .2)) (holds-there o (x .2) level begun-one) (passed-again s t outer c floor since (τ .kept .passed) w)
+
+  -- ---- the strategy is at its end: the level is left
+
+  module _ (e : τ .event ≡ End) (h : 0 < level) where
+    -- the levels around the next one, and its count
+    abbrev below : ℕ
+    below = level - 1
+
+    abbrev ds : List ℕ
+    ds = take below outer
+
+    abbrev d : ℕ
+    d = getD outer below 0
+
+    snoc : outer ≡ ds ++ d ∷ []
+    snoc = let z : level ≡ suc below = omega arith in sym (take-all (suc below) outer (omega (arith, levels))) ∙ take-suc outer below 0 (omega (arith, levels))
+
+    depth : length ds ≡ below
+    depth = length-take-le below outer (omega (arith, levels))
+
+    left-is : ws′ ≡ area t (ds ++ d ∷ [])
+    left-is = stands (to.end outer) (told End e .1) ∙ ap (area t) snoc
+
+    left-to : (floor′ since′ : ℕ) → Passed s t ds d floor′ since′ → Goes τ below floor′ since′
+    left-to floor′ since′ w =
+        let x = told End e in
+        moved ds d below left-is (holds-there (to.end outer) (x .1) below (omega (arith, levels))) depth floor′ since′ w
+        (advance-pop s t 64 0 outer c (going .room) (x .0) ∙ ap (λ y. advance s 64 y t 0) snoc)
+        (subst (λ y. remaining s t 64 y 0 < remaining s t 64 counts 0) snoc (less-end s t 64 0 outer c (going .room) (x .0)))
+
+    -- one that was opened in this run of transitions
+    pub goes-left : floor ≤ level - 1 → Goes τ (level - 1) floor since
+    goes-left l =
+        let past : length (strategyAt s t (position s t (ds ++ d ∷ []) 0)) ≤ c = subst (λ y. length (strategyAt s t (position s t y 0)) ≤ c) snoc (told End e .0) in
+        left-to floor since
+        (passed-left s t ds d c floor since (subst (λ y. Passed s t y c floor since) snoc (τ .kept .passed)) (subst (Opened s t 0) snoc (going .opened))
+        (let z = going .room in omega (arith, depth, levels)) (omega (arith, depth)) past)
+
+    -- one that was open before
+    pub goes-down : (since′ : ℕ) → since′ ≡ countIn ws′ (level - 1) → Goes τ (level - 1) (level - 1) since′
+    goes-down since′ e′ =
+        let z : level - 1 < 64 = (let z = going .room in omega (arith, levels)) in
+        let q : since′ ≡ d = e′ ∙ held-count ws′ t ds d n below left-is (going .bounded) words depth z in
+        left-to below since′ (subst (λ y. Passed s t ds d below y) (sym q) (passed-start s t ds d below (sym depth)))
+
+  -- ---- an argument is opened
+
+  pub goes-argument : τ .event ≡ Argument → Goes τ (level + 1) floor since
+  goes-argument e =
+      let x = told Argument e in
+      let inner = outer ++ suc c ∷ [] in
+      let o = to.argument inner in
+      let d : length inner ≡ level + 1 = begun-one ∙ omega arith in
+      let d′ : length (inner ++ 0 ∷ []) ≡ suc (level + 1) = rw (length-append inner (0 ∷ [])) (omega arith) in
+      let next-entry = entry-at entries c (suc (x .0)) (x .1) (x .2) in
+      moved inner 0 (level + 1) (stands o (x .3)) (holds-there o (x .3) (level + 1) d′) d floor since (passed-open s t outer c floor since (τ .kept .passed))
+      (advance-open s t 64 0 outer c (going .room) (x .1) (x .0) (x .2))
+      (rw (append-snoc outer (suc c) (0 ∷ [])) (less-argument s t 64 0 outer c (going .room) (drop (suc c) entries) (x .0) next-entry))
+
+  -- ---- the rules are to be tried
+
+  module _ (e : τ .event ≡ Rules) where
+    pub tries-is : ws′ ≡ area t (outer ++ suc c ∷ [])
+    tries-is = stands (to.rules outer (suc c)) (told Rules e .2)
+
+    pub tries-held : Holds s ws′ positions′ n level
+    tries-held = holds-there (to.rules outer (suc c)) (told Rules e .2) level begun-one
+
+    pub rules-bounds : Bounds ws′ positions′ n level
+    rules-bounds = bounds (τ .book) (τ .shape) (τ .accepted) ws′ positions′ n level tries-held
+
+    abbrev p : ℕ
+    p = getD positions′ level 0
+
+    -- the subterm there is the one here
+    pub same-subterm : drop (position s (termIn ws′ n) (outerIn ws′ level) 0) (termIn ws′ n) ≡ drop here t
+    same-subterm =
+        let et = term′ outer (suc c) level tries-is tries-held levels in
+        let eo = outer-is outer (suc c) level tries-is tries-held levels in
+        λ j. drop (position s (et j) (eo j) 0) (et j)
+
+    -- none matches
+    pub goes-rules : (fit : Fit) → fit ≡ fitOf s (take (n - p) (drop p ws′)) → fit .found .found ≡ Nothing → Goes τ level floor since
+    goes-rules fit fits q =
+        let x = told Rules e in
+        let no = tried-none (τ .book) (τ .shape) (τ .accepted) ws′ positions′ n level tries-held fit fits q in
+        over-it (x .0) tries-is tries-held (subst (Passes s t (63 - length outer) here) (sym (x .1)) (rw same-subterm at no))

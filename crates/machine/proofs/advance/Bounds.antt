@@ -1,0 +1,61 @@
+-- An area that holds a state: where its innermost level starts, and the bounds that the code's indices need.
+use Prim.Native.Nat.{ℕ, _≤_, _<_}
+use native.Mathlib.Omega.{arith}
+use mathlib.Core.Path.{_≡_, ap, _∙_}
+use mathlib.Core.List.{List}
+use lib.ListN.{length, getD}
+use lib.Seq.{take-all}
+use Rattle.system.specs.declared.Shape.{Shape}
+use Rattle.system.specs.System.{System}
+use Rattle.system.specs.Book.{systemOf}
+use Rattle.system.specs.layout.Accepted.{Accepted}
+use Rattle.system.proofs.layout.Books.{well}
+use Rattle.rewriting.specs.Machine.{position}
+use Rattle.machine.specs.advance.Area.{termIn, outerIn, countIn, Going, Holds}
+use Rattle.machine.proofs.advance.Goings.{going-within}
+use Rattle.machine.proofs.advance.Areas.{held-length}
+
+pub record Bounds (ws positions : List ℕ) (n level : ℕ) : Type 0 where
+  pub total : length ws ≡ 8192
+  pub slots : length positions ≡ 64
+  pub small : n ≤ 4096
+  pub shallow : level < 64
+  pub within : getD positions level 0 < n
+  -- so that one more fits a word
+  pub few : countIn ws level ≤ 16
+
+module _ (b : List ℕ) (sh : Shape) (acc : Accepted b sh) (ws positions : List ℕ) (n level : ℕ) (v : Holds (systemOf b) ws positions n level) where
+  abbrev s : System
+  s = systemOf b
+
+  abbrev t : List ℕ
+  t = termIn ws n
+
+  abbrev outer : List ℕ
+  outer = outerIn ws level
+
+  abbrev c : ℕ
+  c = countIn ws level
+
+  going : Going s t outer c
+  going = v .stored .going
+
+  levels : length outer ≡ level
+  levels = v .stored .levels
+
+  -- the innermost level starts where its slot says
+  pub spot : getD positions level 0 ≡ position s t outer 0
+  spot = v .positioned level (omega (arith, levels)) ∙ ap (λ y. position s t y 0) (take-all level outer (omega (arith, levels)))
+
+  pub bounds : Bounds ws positions n level
+  bounds =
+      let words = v .stored .words in
+      let room : level < 64 = (let z = going .room in omega (arith, levels)) in
+      record {
+        total = held-length ws t outer c n level (v .stored .equal) (going .bounded) words levels room;
+        slots = v .slots;
+        small = (let z = going .bounded in omega (arith, words));
+        shallow = room;
+        within = (let z = going-within s (well b sh acc) t outer c going in omega (arith, spot, words));
+        few = (let z = well b sh acc .short (getD t (position s t outer 0) 0) in let y = going .begun in omega arith);
+      }

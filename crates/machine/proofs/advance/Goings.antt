@@ -1,0 +1,119 @@
+-- The machine's states: which positions are open, and how each transition leads from one state to the next.
+use Prim.Native.Nat.{ℕ, suc, _≤_, _<_}
+use native.Mathlib.Omega.{arith}
+use mathlib.Core.Path.{_≡_, refl, sym, ap, _∙_, subst}
+use mathlib.Core.Option.{some}
+use mathlib.Core.List.{List, [], _∷_, _++_}
+use lib.ListN.{length, getD, drop, length-append}
+use Rattle.system.specs.Signature.{Symbol, replace}
+use Rattle.system.specs.System.{System}
+use Rattle.system.specs.Terms.{Whole, WellFormed}
+use Rattle.matching.specs.Matching.{Redex, redex}
+use Rattle.rewriting.specs.Rewriting.{Active, root, below}
+use Rattle.rewriting.specs.Machine.{strategyAt, down, position, Opened, base, level}
+use Rattle.machine.specs.advance.Area.{Going}
+use Rattle.system.proofs.Members.{stands-getD}
+use Rattle.system.proofs.Places.{patch, at-replace}
+use Rattle.matching.proofs.Firsts.{redex-at, fired}
+use Rattle.rewriting.proofs.Actives.{At, active-whole}
+use Rattle.rewriting.proofs.Done.{whole-within}
+use Rattle.rewriting.proofs.Laws.{position-le, replace-strategy, replace-down}
+
+module _ (s : System) (t : List ℕ) where
+  -- the position below is active
+  pub opened-active : {p : ℕ} {cs : List ℕ} → Active s t p → Opened s t p cs → Active s t (position s t cs p)
+  unfolding position down
+  opened-active act base = act
+  opened-active act (level {p} {c} {i} h e o) =
+      opened-active (rw e (below i act (rw e at (stands-getD (strategyAt s t p) c h)))) o
+
+  -- one level more
+  pub opened-open : {p : ℕ} {cs : List ℕ} (c i : ℕ) → Opened s t p cs → c < length (strategyAt s t (position s t cs p)) → getD (strategyAt s t (position s t cs p)) c 0 ≡ suc i →
+      Opened s t p (cs ++ suc c ∷ [])
+  unfolding position
+  opened-open c i base h e = level h e base
+  opened-open c i (level h′ e′ o) h e = level h′ e′ (opened-open c i o h e)
+
+  -- one level less
+  pub opened-pop : (cs : List ℕ) (c : ℕ) {p : ℕ} → Opened s t p (cs ++ c ∷ []) → Opened s t p cs × (c ≤ length (strategyAt s t (position s t cs p)))
+  unfolding position
+  opened-pop [] c (level h e o) = (base, h)
+  opened-pop (d ∷ cs) c (level h e o) = let x = opened-pop cs c o in (level h e (x .0), x .1)
+
+  -- a rewrite at or below the position leaves the levels above it
+  pub opened-replace : (u : List ℕ) (q : ℕ) {p : ℕ} {cs : List ℕ} → Opened s t p cs → position s t cs p ≤ q → q < length t →
+      Opened s (replace (s .arities) t q u) p cs × (position s (replace (s .arities) t q u) cs p ≡ position s t cs p)
+  unfolding position
+  opened-replace u q base m h = (base, refl)
+  opened-replace u q (level {p} {c} {i} {cs} l e o) m h =
+      let d : down s t p (suc c) ≤ q = (let z = position-le s t cs (down s t p (suc c)) in omega arith) in
+      let qo = replace-strategy s t u p q (suc c) h d in
+      let qd = replace-down s t u p q (suc c) h d in
+      let x = opened-replace u q o m h in
+      (level {p = p} {c = c} {i = i} {cs = cs} (rw qo l) (rw qo e) (rw qd (x .0)), rw qd (x .1))
+
+-- the state that an evaluation starts in
+pub going-start : (s : System) (t : List ℕ) → Whole (s .arities) t → length t ≤ 4096 → Going s t [] 0
+going-start s t h f = record { whole = h; bounded = f; room = omega arith; opened = base; begun = omega arith }
+
+module _ (s : System) (wf : WellFormed s) where
+  -- a rewrite at a whole subterm leaves a whole term
+  pub whole-replaced : (t : List ℕ) (q : ℕ) (a u b : List ℕ) (x : Redex) → t ≡ a ++ (u ++ b) → q ≡ length a → Whole (s .arities) t → Whole (s .arities) u →
+      redex s (drop q t) ≡ some x → Whole (s .arities) (replace (s .arities) t q (x .reduct))
+  whole-replaced t q a u b x e p ht h f =
+      rw (e, p, at-replace (s .arities) (Symbol (s .arities)) a b (x .reduct) h)
+      (patch (s .arities) (Symbol (s .arities)) a b (rw e at ht) h (fired s wf h a b x (sym (redex-at s wf h a b) ∙ (rw (e, p) at f)) .left))
+
+  module _ (t cs : List ℕ) (c : ℕ) (v : Going s t cs c) where
+    abbrev here : ℕ
+    here = position s t cs 0
+
+    abbrev entries : List ℕ
+    entries = strategyAt s t here
+
+    -- the whole subterm at this level
+    pub going-here : At s (λ _. Unit {0}) t here
+    going-here = active-whole s wf (v .whole) (opened-active s t root (v .opened))
+
+    pub going-within : here < length t
+    going-within = let x = going-here in rw (x .position) (subst (λ y. length (x .before) < length y) (sym (x .equal)) (whole-within s (x .before) (x .behind) (x .whole)))
+
+    -- a level is left
+    pub going-pop : (ds : List ℕ) (d : ℕ) → cs ≡ ds ++ d ∷ [] → Going s t ds d
+    going-pop ds d e =
+        let x = opened-pop s t ds d (subst (Opened s t 0) e (v .opened)) in
+        record {
+          whole = v .whole;
+          bounded = v .bounded;
+          room = (let z = v .room in let z′ = ap length e ∙ length-append ds (d ∷ []) in omega arith);
+          opened = x .0;
+          begun = x .1;
+        }
+
+    -- one more entry is begun
+    pub going-pass : c < length entries → Going s t cs (suc c)
+    going-pass more = record { whole = v .whole; bounded = v .bounded; room = v .room; opened = v .opened; begun = more }
+
+    -- an argument is opened
+    pub going-open : c < length entries → (i : ℕ) → getD entries c 0 ≡ suc i → suc (length cs) < 64 → Going s t (cs ++ suc c ∷ []) 0
+    going-open more i e h = record {
+      whole = v .whole;
+      bounded = v .bounded;
+      room = rw (length-append cs (suc c ∷ [])) (omega arith);
+      opened = opened-open s t c i (v .opened) more e;
+      begun = omega arith;
+    }
+
+    -- a step
+    pub going-fire : (x : Redex) → redex s (drop here t) ≡ some x → length (replace (s .arities) t here (x .reduct)) ≤ 4096 →
+        Going s (replace (s .arities) t here (x .reduct)) cs 0
+    going-fire x f m =
+        let x′ = going-here in
+        let o = opened-replace s t (x .reduct) here (v .opened) (omega arith) going-within in
+        record {
+          whole = whole-replaced t here (x′ .before) (x′ .here) (x′ .behind) x (x′ .equal) (x′ .position) (v .whole) (x′ .whole) f;
+          bounded = m;
+          room = v .room;
+          opened = o .0;
+          begun = omega arith;
+        }

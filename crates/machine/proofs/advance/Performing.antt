@@ -1,0 +1,241 @@
+-- One transition of the machine in an area of words, by what the next entry asks for.
+use Prim.Native.Nat.{ℕ, suc, _+_, _-_, _≤_, _<_}
+use native.Mathlib.Omega.{arith}
+use native.Mathlib.Numerals.{add-one}
+use native.Mathlib.Decide.{ℕ-discrete}
+use mathlib.Core.Path.{_≡_, refl, sym, ap, _∙_, subst}
+use mathlib.Core.Bool.{false}
+use mathlib.Core.List.{List, [], _∷_, _++_}
+use lib.ListN.{length, getD, take, drop, set, length-append, length-set}
+use lib.Seq.{take-all, take-suc, take-take, take-append-le, getD-take, getD-set-same, getD-set-other, length-take-le}
+use Rattle.buffers.proofs.Over.{part-slice}
+use Rattle.system.specs.declared.Shape.{Shape}
+use Rattle.system.specs.Signature.{span, argument}
+use Rattle.system.specs.System.{System, strategy}
+use Rattle.system.specs.Terms.{WellFormed}
+use Rattle.system.specs.Answers.{signatureOf}
+use Rattle.system.specs.Book.{systemOf}
+use Rattle.system.specs.layout.Accepted.{Accepted}
+use Rattle.system.proofs.layout.Books.{well, signature}
+use Rattle.system.specs.declared.layout.entries.Entry.{Entry}
+use Rattle.system.specs.declared.layout.entries.Entry.the-variants as entry
+use Rattle.machine.specs.declared.advance.Event.the-variants.{End, Repeated, Rules, Argument, TooDeep}
+use Rattle.machine.specs.declared.advance.Innermost.{Innermost}
+use Rattle.rewriting.specs.Machine.{strategyAt, down, position}
+use Rattle.machine.specs.advance.Area.{area, termIn, outerIn, countIn, Going, Positioned, Holds}
+use Rattle.system.specs.layout.Entries.{entryOf}
+use Rattle.machine.specs.advance.Transition as to
+use Rattle.machine.specs.advance.Transition.{Transition, eventOf, countsAfter, countsIn, positionsAfter, next, Performed}
+use Rattle.rewriting.proofs.Laws.{position-snoc}
+use Rattle.machine.proofs.advance.Goings.{going-pop, going-pass, going-open}
+use Rattle.system.proofs.layout.entries.Asks.{stood, Asks, asks, asked-end, asked-again, asked-rules, asked-argument}
+use Rattle.machine.proofs.advance.Areas.{count-set, count-cleared, area-pushed, holds}
+use Rattle.machine.proofs.advance.Bounds.{spot, bounds}
+use Rattle.machine.proofs.advance.Transitions.{leads-end, leads-repeated, leads-rules, leads-argument, leads-deep}
+
+-- a transition, told by where it leads
+performed : (s : System) (at : Innermost) (ws positions : List ℕ) (o : Transition) → next s at ws ≡ o → (ws′ positions′ : List ℕ) →
+    ws′ ≡ area (termIn ws (at .n)) (countsAfter (countsIn at ws) o) → positions′ ≡ positionsAfter s (termIn ws (at .n)) positions o →
+    ((level : ℕ) → length (countsAfter (countsIn at ws) o) ≡ suc level → Holds s ws′ positions′ (at .n) level) →
+    Performed s at ws positions (eventOf o) ws′ positions′
+performed s at ws positions o q ws′ positions′ stands noted holds = record {
+  event = ap eventOf (sym q);
+  stands = stands ∙ ap (λ y. area (termIn ws (at .n)) (countsAfter (countsIn at ws) y)) (sym q);
+  noted = noted ∙ ap (positionsAfter s (termIn ws (at .n)) positions) (sym q);
+  holds = λ level l. holds level (ap (λ y. length (countsAfter (countsIn at ws) y)) (sym q) ∙ l);
+}
+
+-- the state that an area holds, and the entry that the book's words gave: e, where k are begun
+pub record Taking : Type 0 where
+  pub book : List ℕ
+  pub shape : Shape
+  pub accepted : Accepted book shape
+  pub at : Innermost
+  pub ws : List ℕ
+  pub positions : List ℕ
+  pub held : Holds (systemOf book) ws positions (at .n) (at .level)
+  pub k : ℕ
+  pub is : k ≡ countIn ws (at .level)
+  pub e : Entry
+  pub answers : e ≡ entryOf (strategy (systemOf book) (getD ws (getD positions (at .level) 0) 0)) (at .since) k
+
+module _ (τ : Taking) where
+  abbrev b : List ℕ
+  b = τ .book
+
+  abbrev at : Innermost
+  at = τ .at
+
+  abbrev ws : List ℕ
+  ws = τ .ws
+
+  abbrev positions : List ℕ
+  positions = τ .positions
+
+  abbrev n : ℕ
+  n = at .n
+
+  abbrev level : ℕ
+  level = at .level
+
+  abbrev s : System
+  s = systemOf b
+
+  abbrev t : List ℕ
+  t = termIn ws n
+
+  abbrev outer : List ℕ
+  outer = outerIn ws level
+
+  abbrev c : ℕ
+  c = countIn ws level
+
+  abbrev p : ℕ
+  p = getD positions level 0
+
+  abbrev entries : List ℕ
+  entries = strategyAt s t (position s t outer 0)
+
+  abbrev f : ℕ
+  f = at .since
+
+  v : Holds s ws positions n level
+  v = τ .held
+
+  going : Going s t outer c
+  going = v .stored .going
+
+  wf : WellFormed s
+  wf = well b (τ .shape) (τ .accepted)
+
+  small : length t ≤ 4096
+  small = going .bounded
+
+  words : length t ≡ n
+  words = v .stored .words
+
+  levels : length outer ≡ level
+  levels = v .stored .levels
+
+  room : level < 64
+  room = let z = going .room in omega (arith, levels)
+
+  -- the innermost level starts where its slot says
+  here-is : p ≡ position s t outer 0
+  here-is = spot b (τ .shape) (τ .accepted) ws positions n level v
+
+  within : p < n
+  within = bounds b (τ .shape) (τ .accepted) ws positions n level v .within
+
+  asked : Asks entries f c (τ .e)
+  asked = subst (Asks entries f c)
+      (ap (λ y. entryOf entries f y) (sym (τ .is))
+      ∙ ap (λ y. entryOf (strategy s y) f (τ .k)) (ap (λ y. getD t y 0) (sym here-is) ∙ getD-take n ws p 0 within)
+      ∙ sym (τ .answers))
+      (asks entries f c)
+
+  -- no entry is left
+  pub performed-end : τ .e ≡ entry.End → Performed s at ws positions End (set ws (4096 + level) 0) positions
+  performed-end q =
+      performed s at ws positions (to.end outer) (leads-end s t outer f c (asked-end entries f c (subst (Asks entries f c) q asked)))
+      (set ws (4096 + level) 0) positions cleared refl popped
+    where
+      cleared : set ws (4096 + level) 0 ≡ area t outer
+      cleared = count-cleared ws t outer c n level (v .stored .equal) small words levels room
+
+      popped : (m : ℕ) → length outer ≡ suc m → Holds s (set ws (4096 + level) 0) positions n m
+      popped m z =
+          let ds = take m outer in
+          let d = getD outer m 0 in
+          let y : outer ≡ ds ++ d ∷ [] = sym (take-all (suc m) outer (omega arith)) ∙ take-suc outer m 0 (omega arith) in
+          let l : length ds ≡ m = length-take-le m outer (omega arith) in
+          holds (set ws (4096 + level) 0) t ds d n m (cleared ∙ ap (area t) y) small words l (omega (arith, room, levels)) s
+          (going-pop s wf t outer c going ds d y) positions (v .slots)
+          (λ j g. v .positioned j (omega arith) ∙ ap (λ y. position s t y 0) (sym (take-take j m outer (omega arith))))
+
+  -- one more entry is begun
+  begun : set ws (4096 + level) (c + 1) ≡ area t (outer ++ suc c ∷ [])
+  begun = count-set ws t outer c n level (v .stored .equal) small words levels room (c + 1) ∙ ap (λ y. area t (outer ++ y ∷ [])) (add-one c)
+
+  begun-holds : c < length entries → (m : ℕ) → length (outer ++ suc c ∷ []) ≡ suc m → Holds s (set ws (4096 + level) (c + 1)) positions n m
+  begun-holds more m z =
+      let l : length outer ≡ m = (let y = length-append outer (suc c ∷ []) in omega arith) in
+      holds (set ws (4096 + level) (c + 1)) t outer (suc c) n m begun small words l (omega (arith, going .room)) s
+      (going-pass s wf t outer c going more) positions (v .slots) (v .positioned)
+
+  -- the entry stood before
+  pub performed-repeated : τ .e ≡ entry.Again → Performed s at ws positions Repeated (set ws (4096 + level) (c + 1)) positions
+  performed-repeated q =
+      let a = asked-again entries f c (subst (Asks entries f c) q asked) in
+      performed s at ws positions (to.repeated outer (suc c)) (leads-repeated s t outer f c (a .0) (a .1))
+      (set ws (4096 + level) (c + 1)) positions begun refl (begun-holds (a .0))
+
+  -- the rules are to be tried
+  pub performed-rules : τ .e ≡ entry.Rules → Performed s at ws positions Rules (set ws (4096 + level) (c + 1)) positions
+  performed-rules q =
+      let a = asked-rules entries f c (subst (Asks entries f c) q asked) in
+      performed s at ws positions (to.rules outer (suc c)) (leads-rules s t outer f c (a .0) (a .1) (a .2))
+      (set ws (4096 + level) (c + 1)) positions begun refl (begun-holds (a .0))
+
+  module _ (i : ℕ) (q : τ .e ≡ entry.Argument i) where
+    asks-inner : (c < length entries) × (stood entries f c ≡ false) × (getD entries c 0 ≡ suc i)
+    asks-inner = asked-argument entries f c i (subst (Asks entries f c) q asked)
+
+    -- an argument would be opened from level 64
+    pub performed-deep : 63 ≤ level → Performed s at ws positions TooDeep ws positions
+    performed-deep h =
+        let a = asks-inner in
+        performed s at ws positions to.tooDeep (leads-deep s t outer f c (a .0) (a .1) i (a .2) (omega (arith, levels)))
+        ws positions (v .stored .equal) refl same
+      where
+        same : (m : ℕ) → length (outer ++ c ∷ []) ≡ suc m → Holds s ws positions n m
+        same m z =
+            let l : level ≡ m = (let y = length-append outer (c ∷ []) in omega (arith, levels)) in
+            subst (Holds s ws positions n) l v
+
+    module _ (h : level < 63) (r : ℕ) (spans : r ≡ span (signatureOf b) (take (n - (p + 1)) (drop (p + 1) ws)) i) where
+      more : c < length entries
+      more = asks-inner .0
+
+      entry-is : getD entries c 0 ≡ suc i
+      entry-is = asks-inner .2
+
+      -- the levels around the argument, and where it starts
+      abbrev inner : List ℕ
+      inner = outer ++ suc c ∷ []
+
+      depth : length inner ≡ level + 1
+      depth = rw length-append (omega (arith, levels))
+
+      start : p + 1 + r ≡ position s t inner 0
+      unfolding down argument
+      start =
+          let e : p + 1 + (n - (p + 1)) ≡ n = omega (arith, within) in
+          let w : take (n - (p + 1)) (drop (p + 1) ws) ≡ drop (suc p) t = part-slice (p + 1) (n - (p + 1)) ws ∙ rw (e, add-one p) in
+          rw (spans, w, add-one p, ← signature b (τ .shape) (τ .accepted), here-is) (sym (position-snoc s t outer (suc c) 0 ∙ rw entry-is))
+
+      -- the argument is opened
+      pub performed-argument : Performed s at ws positions Argument (set ws (4096 + level) (c + 1)) (set positions (level + 1) (p + 1 + r))
+      performed-argument =
+          performed s at ws positions (to.argument inner) (leads-argument s t outer f c more (asks-inner .1) i entry-is (omega (arith, levels)))
+          (set ws (4096 + level) (c + 1)) (set positions (level + 1) (p + 1 + r)) pushed (λ j. set positions (sym depth j) (start j)) opened
+        where
+          pushed : set ws (4096 + level) (c + 1) ≡ area t (inner ++ 0 ∷ [])
+          pushed = begun ∙ area-pushed t inner (omega (arith, depth))
+
+          positioned : Positioned s t inner (set positions (level + 1) (p + 1 + r))
+          positioned j g = elim (ℕ-discrete j (level + 1)) [
+            | yes z ↦
+                rw (z, getD-set-same positions (level + 1) (p + 1 + r) 0 (omega (arith, v .slots)))
+                (start ∙ ap (λ y. position s t y 0) (sym (take-all (level + 1) inner (omega (arith, depth)))))
+            | no z ↦
+                getD-set-other positions (level + 1) j (p + 1 + r) 0 z ∙ v .positioned j (omega (arith, depth, levels))
+                ∙ ap (λ y. position s t y 0) (sym (take-append-le j outer (suc c ∷ []) (omega (arith, depth, levels))))
+          ]
+
+          opened : (m : ℕ) → length (inner ++ 0 ∷ []) ≡ suc m → Holds s (set ws (4096 + level) (c + 1)) (set positions (level + 1) (p + 1 + r)) n m
+          opened m z =
+              let l : length inner ≡ m = (let y = length-append inner (0 ∷ []) in omega arith) in
+              holds (set ws (4096 + level) (c + 1)) t inner 0 n m pushed small words l (omega (arith, depth)) s
+              (going-open s wf t outer c going more i entry-is (omega (arith, levels))) (set positions (level + 1) (p + 1 + r))
+              (length-set positions (level + 1) (p + 1 + r) ∙ v .slots) positioned

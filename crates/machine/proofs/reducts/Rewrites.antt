@@ -1,0 +1,267 @@
+-- A rewrite in an area that holds a state: what the code may count on there, and that the edits leave the area of the state after it.
+use Prim.Native.Nat.{ℕ, _+_, _-_, _*_, _≤_, _<_}
+use native.Mathlib.Omega.{arith}
+use native.Mathlib.Decide.{decLt}
+use mathlib.Core.Path.{_≡_, refl, sym, ap, _∙_, subst}
+use mathlib.Core.Option.{some}
+use mathlib.Core.List.{List, [], _∷_, _++_, append-assoc}
+use lib.ListN.{length, getD, take, drop, length-append, length-drop}
+use lib.Seq.{sets-eq, drop-at, take-at, drop-drop, length-take-le}
+use borrow.Author.Tests.{lt-ltb, le-ltb}
+use Rattle.buffers.specs.Words.{over, zeros, pad, splice}
+use Rattle.buffers.proofs.Pads.{length-zeros, length-pad, zeros-append, drop-zeros, pad-zero}
+use Rattle.system.specs.Signature.{Signature, Symbol, span, replace}
+use Rattle.system.specs.Limits.{variable, termWords, areaWords}
+use Rattle.system.specs.System.{System}
+use Rattle.system.specs.Terms.{WellFormed}
+use Rattle.system.proofs.Forests.{span-forest}
+use Rattle.system.proofs.Places.{replace-length}
+use Rattle.matching.specs.declared.Match.{Match}
+use Rattle.matching.specs.declared.Found.the-variants.{Nothing, First}
+use Rattle.system.specs.Book.{systemOf}
+use Rattle.matching.specs.Matching.{Redex, redex}
+use Rattle.matching.specs.Stretches.{matchOf}
+use Rattle.matching.specs.rules.Fits.{reductLength, RightSide}
+use Rattle.matching.proofs.Firsts.{redex-rest}
+use Rattle.system.proofs.layout.Books.{well}
+use Rattle.matching.proofs.Reducts.{match-right, match-within, match-none, match-some, match-length}
+use Rattle.rewriting.specs.Rewriting.{root}
+use Rattle.machine.specs.declared.reducts.Reduced.the-variants.{Done, TooLong}
+use Rattle.machine.specs.declared.reducts.Subterm.{Subterm}
+use Rattle.rewriting.specs.Machine.{down, position}
+use Rattle.machine.specs.advance.Area.{area, termIn, outerIn, countIn, Stored}
+use Rattle.machine.specs.reducts.Reduct.{contraction, side, reduct}
+use Rattle.machine.specs.reducts.Replaced.{subtermIn, Room, Replaceable, Replaced}
+use Rattle.machine.specs.reducts.Rewritten.{Contracts, Reducible, rewritten, done, long, Rewrites}
+use Rattle.rewriting.proofs.Actives.{At, at-parted, active-whole}
+use Rattle.rewriting.proofs.Done.{whole-within}
+use Rattle.rewriting.proofs.Laws.{down-lt}
+use Rattle.machine.proofs.advance.Goings.{opened-active}
+use Rattle.machine.proofs.advance.Areas.{area-length}
+use Rattle.machine.proofs.reducts.Bindings.{match-rest, match-behind}
+use Rattle.machine.proofs.reducts.Replacing.{part-take}
+
+-- each level starts behind the one around it, so at least as many words stand before the innermost one as there are levels around it
+position-room : (s : System) (t cs : List ℕ) (p : ℕ) → length cs + p ≤ position s t cs p
+unfolding position
+position-room s t [] p = omega arith
+position-room s t (c ∷ cs) p =
+    let z : length cs + down s t p c ≤ position s t (c ∷ cs) p = position-room s t cs (down s t p c) in
+    omega (arith, down-lt s t p c)
+
+-- the length of a reduct has a bound
+length-bound : (lengths ls : List ℕ) → ((v : ℕ) → getD lengths v 0 ≤ 65535) → reductLength lengths ls ≤ length ls * 65535
+unfolding reductLength
+length-bound lengths [] h = omega arith
+length-bound lengths (w ∷ ls) h =
+    let z = length-bound lengths ls h in
+    elim (decLt w variable) [
+      | yes l ↦ rw (lt-ltb w variable l) (omega arith)
+      | no l ↦ rw (le-ltb w variable (omega arith)) (omega (arith, h (w - variable)))
+    ]
+
+-- ---- the halves of an area
+
+-- the counts, with zeros written over the last one and over the words behind it
+counts-cleared : (N : ℕ) (outer : List ℕ) (c level width : ℕ) → length outer ≡ level → 0 < width → level + width ≤ N →
+    over (pad N (outer ++ c ∷ [])) level (zeros width) ≡ pad N (outer ++ 0 ∷ [])
+unfolding pad
+counts-cleared N outer c level width e h r =
+    let zs = zeros (N - (level + 1)) in
+    let ws = outer ++ c ∷ [] ++ zs in
+    let n : length (outer ++ c ∷ []) ≡ level + 1 = rw (length-append outer (c ∷ []), e) in
+    let o : N - length outer ≡ width + (N - level - width) = omega arith in
+    let b : level + width ≡ level + 1 + (width - 1) = omega arith in
+    let d : N - (level + 1) - (width - 1) ≡ N - level - width = omega arith in
+    let l : length ws ≡ N = rw (length-append (outer ++ c ∷ []) zs, n, length-zeros (N - (level + 1))) (omega arith) in
+    let f : take level ws ≡ outer = rw (append-assoc outer (c ∷ []) zs) (take-at outer (c ∷ [] ++ zs) level e) in
+    let k : drop (level + width) ws ≡ zeros (N - level - width) =
+    rw (b, ← drop-drop (width - 1) (level + 1) ws, drop-at (outer ++ c ∷ []) zs (level + 1) n, drop-zeros (width - 1) (N - (level + 1)), d) in
+    ap (λ y. over (outer ++ c ∷ [] ++ zeros (N - y)) level (zeros width)) n
+    ∙ sets-eq (zeros width) ws level (rw (length-zeros width, l) r)
+    ∙ rw (length-zeros width, f, k, append-assoc outer (zeros width) (zeros (N - level - width)), zeros-append width (N - level - width), ← o)
+    (sym (pad-zero N outer (omega arith)))
+
+module _ (t cs : List ℕ) (h : length t ≤ termWords) where
+  area-right : drop termWords (area t cs) ≡ pad termWords cs
+  unfolding area
+  area-right = drop-at (pad termWords t) (pad termWords cs) termWords (length-pad termWords t h)
+
+  area-zeros : (n : ℕ) → length t ≡ n → drop n (take termWords (area t cs)) ≡ zeros (termWords - n)
+  unfolding area pad
+  area-zeros n e =
+      ap (drop n) (take-at (pad termWords t) (pad termWords cs) termWords (length-pad termWords t h))
+      ∙ drop-at t (zeros (termWords - length t)) n e
+      ∙ ap (λ y. zeros (termWords - y)) e
+
+-- ---- the state before the rewrite
+
+module _ {book ws : List ℕ} {n : ℕ} {u : Subterm} {m : Match} (asked : Reducible book ws n u m) where
+  abbrev s : System
+  s = systemOf book
+
+  abbrev g : Signature
+  g = s .arities
+
+  abbrev t : List ℕ
+  t = termIn ws n
+
+  abbrev p : ℕ
+  p = u .position
+
+  abbrev outer : List ℕ
+  outer = outerIn ws (u .level)
+
+  abbrev stored : Stored s ws n (u .level)
+  stored = asked .stored
+
+  formed : WellFormed s
+  formed = well book (asked .shape) (asked .accepted)
+
+  -- the whole subterm at p
+  subterm-here : At s (λ _. Unit {0}) t p
+  subterm-here = subst (At s (λ _. Unit {0}) t) (sym (asked .place)) (active-whole s formed (stored .going .whole) (opened-active s t root (stored .going .opened)))
+
+  bounded : n ≤ termWords
+  bounded = omega (arith, stored .words, stored .going .bounded)
+
+  around : u .level ≤ p
+  around = omega (arith, asked .place, stored .levels, position-room s t outer 0)
+
+  area-words : length ws ≡ areaWords
+  area-words =
+      ap length (stored .equal) ∙ area-length t (outer ++ countIn ws (u .level) ∷ []) (stored .going .bounded)
+      (rw (length-append outer (countIn ws (u .level) ∷ [])) (let z = stored .going .room in omega arith))
+
+  parted : drop p t ≡ subterm-here .here ++ subterm-here .behind
+  parted = at-parted s subterm-here
+
+  width-here : u .width ≡ length (subterm-here .here)
+  width-here =
+      let x = subterm-here in
+      asked .wide ∙ ap (λ y. span g y 1) parted ∙ span-forest g (Symbol g) (x .behind) (x .whole)
+
+  inside : p < n
+  inside =
+      let x = subterm-here in
+      let z = subst (λ y. length (x .before) < length y) (sym (x .equal)) (whole-within s (x .before) (x .behind) (x .whole)) in
+      omega (arith, x .position, stored .words)
+
+  pub ends : p + u .width ≤ n
+  ends =
+      let x = subterm-here in
+      let z = ap length parted in
+      let y = length-append (x .here) (x .behind) in
+      omega (arith, length-drop p t, stored .words, width-here, inside)
+
+  words-here : subtermIn ws u ≡ subterm-here .here
+  words-here =
+      let x = subterm-here in
+      sym (part-take ws n p (u .width) ends) ∙ ap (take (u .width)) parted ∙ take-at (x .here) (x .behind) (u .width) (sym width-here)
+
+  width-some : 0 < u .width
+  width-some =
+      let x = subterm-here in
+      let z = whole-within s [] [] (x .whole) in
+      let y = length-append (x .here) [] in
+      omega (arith, width-here)
+
+  room : (k : ℕ) → n - u .width + k ≤ termWords → Room ws n u k
+  room k f = record {
+    words = area-words;
+    bounded = bounded;
+    zeroed = subst (λ y. drop n (take termWords y) ≡ zeros (termWords - n)) (sym (stored .equal)) (area-zeros t _ (stored .going .bounded) n (stored .words));
+    some = width-some;
+    within = ends;
+    around = around;
+    fits = f;
+  }
+
+  -- what was found at p was found in the subterm
+  match-here : m ≡ matchOf s (subtermIn ws u)
+  match-here =
+      let x = subterm-here in
+      asked .match ∙ ap (matchOf s) parted ∙ match-rest s formed (x .behind) (x .whole) ∙ ap (matchOf s) (sym words-here)
+
+  redex-here : redex s (drop p t) ≡ redex s (subtermIn ws u)
+  redex-here =
+      let x = subterm-here in
+      ap (redex s) parted ∙ redex-rest s formed (x .whole) (x .behind) ∙ ap (redex s) (sym words-here)
+
+  -- a rule was found
+  pub none-found : m .found ≡ Nothing → ⊥
+  none-found f =
+      let e = match-none book (asked .shape) (asked .accepted) (drop p t) m (asked .match) f in
+      let z : _≡_ {A = ℕ} 0 1 = cc (asked .contracts) in
+      omega arith
+
+  pub stretch-bound : (v : ℕ) → getD (m .lengths) v 0 ≤ 65535
+  stretch-bound v =
+      let z = match-within book (asked .shape) (asked .accepted) (drop p t) m (asked .match) .inside v in
+      omega (arith, length-drop p t, stored .words, bounded)
+
+  module _ {number rhs size : ℕ} (found : m .found ≡ First number rhs size) where
+    abbrev ls : List ℕ
+    ls = side book (contraction m rhs size)
+
+    abbrev v : List ℕ
+    v = reduct book (contraction m rhs size) (subtermIn ws u)
+
+    pub right-side : RightSide book rhs size
+    right-side = match-right book (asked .shape) (asked .accepted) (drop p t) m (asked .match) found
+
+    -- the reduct's length, as a number of the code
+    module _ (k : ℕ) (counted : k ≡ reductLength (m .lengths) ls) where
+      -- a right side has at most 64 words, so it fits a word of the machine
+      pub reduct-bound : n - u .width + k ≤ termWords + 64 * 65535
+      reduct-bound =
+          let r = right-side in
+          let z = length-bound (m .lengths) ls stretch-bound in
+          let y : length ls ≡ size = length-take-le size (drop rhs book) (rw (length-drop rhs book) (omega (arith, r .fits))) in
+          omega (arith, r .small, bounded)
+
+      reduct-is : (x : Redex) → Contracts book ws n u x → x .reduct ≡ v
+      reduct-is x e =
+          let f = redex-here ∙ match-some book (asked .shape) (asked .accepted) (subtermIn ws u) m match-here found in
+          let z : record { number = number; reduct = v } ≡ x = cc in
+          ap (λ y. y .reduct) (sym z)
+
+      rewritten-length : (x : Redex) → Contracts book ws n u x → length (rewritten s ws n u x) ≡ n - u .width + k
+      rewritten-length x e =
+          let z = replace-length g t (x .reduct) p (rw (← asked .wide, stored .words) ends) in
+          let y = ap length (reduct-is x e) ∙ match-length book (asked .shape) (asked .accepted) (subtermIn ws u) m match-here rhs size in
+          omega (arith, asked .wide, stored .words, ends)
+
+      pub too-long : termWords < n - u .width + k → Rewrites book ws n u TooLong ws
+      too-long h x e = long (omega (arith, rewritten-length x e)) refl refl
+
+      module _ (fits : n - u .width + k ≤ termWords) where
+        pub replaceable : Replaceable book ws n u (contraction m rhs size) k
+        replaceable = record {
+          room = room k fits;
+          right = right-side;
+          counted = counted;
+          inside = match-within book (asked .shape) (asked .accepted) (subtermIn ws u) m match-here;
+          behind = rw (asked .match) (match-behind s formed (drop p t));
+        }
+
+        spliced : (x : Redex) → Contracts book ws n u x → splice (take n ws) p (u .width) v ≡ rewritten s ws n u x
+        unfolding replace
+        spliced x e = rw (append-assoc (take p t) v (drop (p + u .width) t), reduct-is x e, ← asked .wide)
+
+        counts : over (drop termWords ws) (u .level) (zeros (u .width)) ≡ pad termWords (outer ++ 0 ∷ [])
+        counts =
+            let z = around in
+            let y = ends in
+            let a = bounded in
+            ap (λ y. over (drop termWords y) (u .level) (zeros (u .width))) (stored .equal)
+            ∙ ap (λ y. over y (u .level) (zeros (u .width))) (area-right t (outer ++ countIn ws (u .level) ∷ []) (stored .going .bounded))
+            ∙ counts-cleared termWords outer (countIn ws (u .level)) (u .level) (u .width) (stored .levels) width-some (omega arith)
+
+        pub rewrites : (ws′ : List ℕ) → Replaced book ws n u (contraction m rhs size) ws′ → Rewrites book ws n u (Done (n - u .width + k)) ws′
+        unfolding area
+        rewrites ws′ q x e =
+            let l = rewritten-length x e in
+            done (omega arith) (ap Done (sym l))
+            (q ∙ ap (λ y. pad termWords y ++ over (drop termWords ws) (u .level) (zeros (u .width))) (spliced x e)
+            ∙ ap (λ y. pad termWords (rewritten s ws n u x) ++ y) counts)

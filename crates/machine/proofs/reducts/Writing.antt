@@ -1,0 +1,163 @@
+-- Writing the reduct of a contraction: what the loop keeps, and each round.
+use Prim.Native.Nat.{ℕ, _+_, _-_, _≤_, _<_}
+use native.Mathlib.Omega.{arith}
+use native.Mathlib.Numerals.{add-one}
+use mathlib.Core.Path.{_≡_, refl, sym, ap, _∙_}
+use mathlib.Core.List.{List, [], _∷_, _++_}
+use lib.ListN.{length, getD, take, drop, set, length-append, length-drop, length-set}
+use lib.Seq.{drop-drop, getD-take, getD-drop, length-take-le, length-sets, take-all}
+use Rattle.buffers.specs.Words.{part, over}
+use Rattle.buffers.proofs.Over.{over-snoc, over-append, part-above}
+use Rattle.system.specs.Limits.{variable, variables}
+use Rattle.system.specs.System.{instance}
+use Rattle.matching.specs.rules.Fits.{value, reductLength}
+use Rattle.matching.proofs.Matched.{instance-nil}
+use Rattle.matching.proofs.Words.{fill-symbol, fill-variable}
+use Rattle.matching.proofs.Reducts.{length-symbol, length-variable, value-length}
+use Rattle.machine.specs.declared.reducts.Contraction.{Contraction}
+use Rattle.machine.specs.reducts.Reduct.{side, bindings, reduct, Writable}
+
+-- the first j words of the right side, filled from ws
+abbrev filled : List ℕ → Contraction → List ℕ → ℕ → List ℕ
+filled book c ws j = instance (value ws (bindings c)) (take j (side book c))
+
+-- they are written, up to the index `to`
+pub record Writing (book ws₀ : List ℕ) (c : Contraction) (at base to j : ℕ) (ws : List ℕ) : Type 0 where
+  pub inside : j ≤ c .size
+  pub kept : length ws ≡ length ws₀
+  pub next : to ≡ at + length (filled book c (drop base ws₀) j)
+  pub left : to + reductLength (c .lengths) (drop j (side book c)) ≡ at + reductLength (c .lengths) (side book c)
+  pub equal : ws ≡ over ws₀ at (filled book c (drop base ws₀) j)
+
+module _ (book ws₀ : List ℕ) (c : Contraction) (at base : ℕ) where
+  pub writing-starts : Writing book ws₀ c at base at 0 ws₀
+  writing-starts = record {
+    inside = omega arith;
+    kept = refl;
+    next = rw (instance-nil (value (drop base ws₀) (bindings c))) (omega arith);
+    left = refl;
+    equal = rw (instance-nil (value (drop base ws₀) (bindings c)));
+  }
+
+  side-length : Writable book ws₀ c at base → length (side book c) ≡ c .size
+  side-length asked = length-take-le (c .size) (drop (c .rhs) book) (rw (length-drop (c .rhs) book) (omega (arith, asked .right .fits)))
+
+  pub writing-ends : Writable book ws₀ c at base → (to j : ℕ) (ws : List ℕ) → Writing book ws₀ c at base to j ws → c .size ≤ j →
+      ws ≡ over ws₀ at (reduct book c (drop base ws₀))
+  writing-ends asked to j ws v h =
+      v .equal ∙ ap (λ y. over ws₀ at (instance (value (drop base ws₀) (bindings c)) y)) (take-all j (side book c) (omega (arith, side-length asked)))
+
+-- a round of the loop, in which word j of the right side is written
+pub record Round : Type 0 where
+  pub book : List ℕ
+  pub ws₀ : List ℕ
+  pub c : Contraction
+  pub at : ℕ
+  pub base : ℕ
+  pub asked : Writable book ws₀ c at base
+  pub to : ℕ
+  pub j : ℕ
+  pub ws : List ℕ
+  pub writing : Writing book ws₀ c at base to j ws
+  pub here : j < c .size
+
+abbrev pub word : Round → ℕ
+word k = getD (k .book) (k .c .rhs + k .j) 0
+
+-- after it
+abbrev pub Wrote : Round → ℕ → List ℕ → Type 0
+Wrote k to ws = Writing (k .book) (k .ws₀) (k .c) (k .at) (k .base) to (k .j + 1) ws
+
+module _ (k : Round) where
+  abbrev ls : List ℕ
+  ls = side (k .book) (k .c)
+
+  abbrev σ : ℕ → List ℕ
+  σ = value (drop (k .base) (k .ws₀)) (bindings (k .c))
+
+  -- what was written before it
+  abbrev before : List ℕ
+  before = instance σ (take (k .j) ls)
+
+  more : k .j < length ls
+  more = omega (arith, side-length (k .book) (k .ws₀) (k .c) (k .at) (k .base) (k .asked), k .here)
+
+  word-is : getD ls (k .j) 0 ≡ word k
+  word-is = getD-take (k .c .size) (drop (k .c .rhs) (k .book)) (k .j) 0 (k .here) ∙ getD-drop (k .c .rhs) (k .book) (k .j) 0
+
+  -- ---- a symbol
+
+  module _ (h : word k < variable) where
+    left-symbol : reductLength (k .c .lengths) (drop (k .j) ls) ≡ 1 + reductLength (k .c .lengths) (drop (k .j + 1) ls)
+    left-symbol = length-symbol (k .c .lengths) (k .book) (k .c .rhs) (k .c .size) (k .j) (k .asked .right .fits) (k .here) (word k) refl h
+
+    pub symbol-room : k .to < length (k .ws)
+    symbol-room =
+        let v = k .writing in
+        let q = k .asked in
+        omega (arith, left-symbol, v .left, v .kept, q .room, q .based)
+
+    filled-symbol : instance σ (take (k .j + 1) ls) ≡ before ++ word k ∷ []
+    filled-symbol = rw (add-one (k .j), ← word-is) (fill-symbol σ ls (k .j) more (rw word-is h))
+
+    pub writes-symbol : Wrote k (k .to + 1) (set (k .ws) (k .to) (word k))
+    writes-symbol =
+        let v = k .writing in
+        record {
+          inside = omega (arith, k .here);
+          kept = length-set (k .ws) (k .to) (word k) ∙ v .kept;
+          next = rw (filled-symbol, length-append before (word k ∷ [])) (let z = v .next in omega arith);
+          left = (let z = left-symbol in let y = v .left in omega arith);
+          equal = rw (v .equal, v .next, filled-symbol) (sym (over-snoc (k .ws₀) (k .at) before (word k)));
+        }
+
+  -- ---- a variable
+
+  module _ (w : ℕ) (is : w ≡ word k) (h : variable ≤ w) where
+    abbrev n : ℕ
+    n = getD (k .c .lengths) (w - variable) 0
+
+    abbrev from : ℕ
+    from = getD (k .c .starts) (w - variable) 0
+
+    pub variable-known : w - variable < variables
+    variable-known = omega (arith, k .asked .right .known (k .j) (k .here))
+
+    left-variable : reductLength (k .c .lengths) (drop (k .j) ls) ≡ n + reductLength (k .c .lengths) (drop (k .j + 1) ls)
+    left-variable = length-variable (k .c .lengths) (k .book) (k .c .rhs) (k .c .size) (k .j) (k .asked .right .fits) (k .here) w is h
+
+    below : k .to + n ≤ k .base
+    below = (let v = k .writing in omega (arith, left-variable, v .left, k .asked .room))
+
+    pub variable-room : k .to + n ≤ length (k .ws)
+    variable-room = omega (arith, below, k .writing .kept, k .asked .based)
+
+    pub stretch-room : k .base + from + n ≤ length (k .ws)
+    stretch-room =
+        let i = rw (length-drop (k .base) (k .ws₀)) at (k .asked .inside .inside (w - variable)) in
+        omega (arith, k .writing .kept, k .asked .based)
+
+    filled-variable : instance σ (take (k .j + 1) ls) ≡ before ++ σ (w - variable)
+    filled-variable = rw (add-one (k .j)) (fill-variable σ ls (k .j) more (w - variable) (word-is ∙ omega arith))
+
+    -- the stretch still stands where it stood
+    stretch : part (k .base + from) n (k .ws) ≡ σ (w - variable)
+    unfolding value
+    stretch =
+        let v = k .writing in
+        let e : k .at + length before ≤ k .base + from = (let z = v .next in let y = below in omega arith) in
+        ap (λ y. part (k .base + from) n y) (v .equal)
+        ∙ part-above (k .base + from) n (k .ws₀) (k .at) before e
+        ∙ ap (take n) (sym (drop-drop from (k .base) (k .ws₀)))
+
+    pub writes-variable : (ws′ : List ℕ) → ws′ ≡ over (k .ws) (k .to) (part (k .base + from) n (k .ws)) → Wrote k (k .to + n) ws′
+    writes-variable ws′ e =
+        let v = k .writing in
+        let z = value-length (drop (k .base) (k .ws₀)) (bindings (k .c)) (k .asked .inside) (w - variable) in
+        record {
+          inside = omega (arith, k .here);
+          kept = ap length e ∙ length-sets (k .ws) (k .to) (part (k .base + from) n (k .ws)) ∙ v .kept;
+          next = rw (filled-variable, length-append before (σ (w - variable))) (let y = v .next in omega arith);
+          left = (let z = left-variable in let y = v .left in omega arith);
+          equal = rw (e, stretch, v .equal, v .next, filled-variable) (sym (over-append (k .ws₀) (k .at) before (σ (w - variable))));
+        }

@@ -1,0 +1,3 @@
+-- All of it is inner: no public contract rests on it
+pub mod advance
+pub mod reducts

@@ -1,0 +1,46 @@
+-- A subterm replaced in an area: what is asked, and what stands there then.
+use Prim.Native.Nat.{ℕ, _+_, _-_, _≤_, _<_}
+use mathlib.Core.Path.{_≡_}
+use mathlib.Core.List.{List, _++_}
+use lib.ListN.{length, getD, take, drop}
+use Rattle.buffers.specs.Words.{part, over, zeros, pad, splice}
+use Rattle.matching.specs.rules.Fits.{reductLength, RightSide, Within}
+use Rattle.machine.specs.declared.reducts.Contraction.{Contraction}
+use Rattle.machine.specs.declared.reducts.Subterm.{Subterm}
+use Rattle.machine.specs.reducts.Reduct.{side, reduct}
+use Rattle.system.specs.Limits.{areaWords, termWords}
+
+abbrev pub subtermIn : List ℕ → Subterm → List ℕ
+subtermIn ws u = part (u .position) (u .width) ws
+
+-- no stretch starts at the first word: a left side starts with a symbol
+pub record Behind (starts lengths : List ℕ) : Type 0 where
+  pub same : length starts ≡ length lengths
+  pub later : (v : ℕ) → 0 < getD lengths v 0 → 0 < getD starts v 0
+
+-- where `size` words come in the place of the subterm: a term of n words and zeros behind it in the first half of the area, room for the
+-- change, and room behind the counts of the levels around the subterm for all its words but the first
+pub record Room (ws : List ℕ) (n : ℕ) (u : Subterm) (size : ℕ) : Type 0 where
+  pub words : length ws ≡ areaWords
+  pub bounded : n ≤ termWords
+  pub zeroed : drop n (take termWords ws) ≡ zeros (termWords - n)
+  pub some : 0 < u .width
+  pub within : u .position + u .width ≤ n
+  pub around : u .level ≤ u .position
+  pub fits : n - u .width + size ≤ termWords
+
+-- the reduct of a contraction, of k words, comes there
+pub record Replaceable (book ws : List ℕ) (n : ℕ) (u : Subterm) (c : Contraction) (k : ℕ) : Type 0 where
+  pub room : Room ws n u k
+  pub right : RightSide book (c .rhs) (c .size)
+  pub counted : k ≡ reductLength (c .lengths) (side book c)
+  pub inside : Within (subtermIn ws u) (c .starts) (c .lengths)
+  pub behind : Behind (c .starts) (c .lengths)
+
+-- what stands there then, with the words v in the subterm's place: the first half with the change and zeros behind the term, the second
+-- half with the count and the words behind it cleared
+abbrev pub replaced : List ℕ → ℕ → Subterm → List ℕ → List ℕ
+replaced ws n u v = pad termWords (splice (take n ws) (u .position) (u .width) v) ++ over (drop termWords ws) (u .level) (zeros (u .width))
+
+abbrev pub Replaced : List ℕ → List ℕ → ℕ → Subterm → Contraction → List ℕ → Type 0
+Replaced book ws n u c ws′ = ws′ ≡ replaced ws n u (reduct book c (subtermIn ws u))

@@ -1,0 +1,140 @@
+// One rewrite in an area of lent words.
+ghost use mathlib.Core.Path.{_≡_};
+ghost use Prim.Native.Nat.{_+_, _-_, _≤_};
+ghost use lib.ListN.{length, drop};
+ghost use Rattle.buffers.specs.Words.{part, over, zeros};
+ghost use Rattle.machine.specs.reducts.Reduct.{Writable, reduct};
+ghost use Rattle.machine.specs.reducts.Replaced.{Replaceable, Replaced};
+ghost use Rattle.machine.specs.reducts.Rewritten.{Reducible, Rewrites};
+use buffers::clear;
+use buffers::move_words;
+use matching::Found;
+use matching::Match;
+use matching::rules::reduct_length;
+use system::limits::TERM_WORDS;
+use system::limits::VARIABLE;
+use system::words::wide;
+
+// The subterm of the innermost level: how many levels stand around it, its position in the term, and how many words it has.
+pub struct Subterm {
+    pub level: usize,
+    pub position: usize,
+    pub width: usize,
+}
+
+// What comes in the place of a redex: the right side of the rule that matches, as an index of the book and a number of words, and the
+// bindings of its variables, as stretches of the redex.
+struct Contraction {
+    rhs: usize,
+    size: usize,
+    starts: [usize; 16],
+    lengths: [usize; 16],
+}
+
+// What a rewrite came to: it is done, and the term has so many words now; or the term would have more than 4,096.
+pub enum Reduced {
+    Done(usize),
+    TooLong,
+}
+
+// Moves n words; where they stay where they are, nothing is done.
+fn move_tail(area: &mut [u16], from: usize, to: usize, n: usize)
+    requires { ⌜ (from + n ≤ length (now area)) × (to + n ≤ length (now area)) ⌝ }
+    ensures { λ _. ⌜ now (area .exit) ≡ over (now (area .entry)) to (part from n (now (area .entry))) ⌝ }
+{
+    if from != to {
+        move_words(area, from, to, n);
+    }
+}
+
+// Zeros from index a up to b, none where b is not above a.
+fn clear_between(area: &mut [u16], a: usize, b: usize)
+    requires { ⌜ b ≤ length (now area) ⌝ }
+    ensures { λ _. ⌜ now (area .exit) ≡ over (now (area .entry)) a (zeros (b - a)) ⌝ }
+{
+    if a < b {
+        clear(area, a, b - a);
+    }
+}
+
+// Writes the reduct of c over the area from `at` on, each variable filled with its stretch of the words from `base` on.
+fn write_reduct(book: &[u16], area: &mut [u16], c: Contraction, at: usize, base: usize)
+    requires { ⌜ Writable (now book) (now area) c at base ⌝ }
+    ensures { λ _. ⌜ now (area .exit) ≡ over (now (area .entry)) at (reduct (now (book .entry)) c (drop base (now (area .entry)))) ⌝ }
+{
+    let rhs = c.rhs;
+    let size = c.size;
+    let starts = c.starts;
+    let lengths = c.lengths;
+    let mut to = at;
+    let mut j = 0;
+    while j < size {
+        let w = book[rhs + j];
+        let v = wide(w);
+        j += 1;
+        if v < VARIABLE {
+            area[to] = w;
+            to += 1;
+        } else {
+            let n = lengths[v - VARIABLE];
+            move_words(area, base + starts[v - VARIABLE], to, n);
+            to += n;
+        }
+    }
+}
+
+// Puts the reduct of c, of k words, in the place of the subterm u of a term of n words.
+//
+// While it is written the subterm's words, but for its first, stand behind the counts: at `level` levels around the innermost one the term
+// has at least as many words before the subterm, so there is always room. Then they are cleared again, and with them the count of the
+// innermost level, which so starts anew.
+fn replace_subterm(book: &[u16], area: &mut [u16], n: usize, u: Subterm, c: Contraction, k: usize)
+    requires { ⌜ Replaceable (now book) (now area) n u c k ⌝ }
+    ensures { λ _. ⌜ Replaced (now (book .entry)) (now (area .entry)) n u c (now (area .exit)) ⌝ }
+{
+    let p = u.position;
+    let width = u.width;
+    let base = TERM_WORDS + u.level;
+    let end = p + width;
+    move_words(area, p + 1, base + 1, width - 1);
+    move_tail(area, end, p + k, n - end);
+    write_reduct(book, area, c, p, base);
+    clear_between(area, n - width + k, n);
+    clear(area, base, width);
+}
+
+// Puts the reduct of the match m in the place of the subterm u of a term of n words, and starts the innermost level anew. The area is
+// unchanged where the term would be too long.
+pub fn rewrite(book: &[u16], area: &mut [u16], n: usize, u: Subterm, m: Match) -> Reduced
+    requires { ⌜ Reducible (now book) (now area) n u m ⌝ }
+    ensures { λ r. ⌜ Rewrites (now (book .entry)) (now (area .entry)) n u r (now (area .exit)) ⌝ }
+{
+    let found = m.found;
+    match found {
+        // It never is: the caller found a rule.
+        Found::Nothing => {
+            return Reduced::TooLong;
+        }
+        Found::First {
+            number: _,
+            rhs,
+            size,
+        } => {
+            let starts = m.starts;
+            let lengths = m.lengths;
+            let k = reduct_length(book, rhs, size, lengths);
+            let after = n - u.width + k;
+            if TERM_WORDS < after {
+                return Reduced::TooLong;
+            }
+            let c = Contraction {
+                rhs,
+                size,
+                starts,
+                lengths,
+            };
+            replace_subterm(book, area, n, u, c, k);
+            return Reduced::Done(after);
+        }
+    }
+}

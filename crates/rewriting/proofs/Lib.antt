@@ -1,0 +1,11 @@
+-- An evaluation told on the subterm alone, and what demand 3 promises of it
+pub mod Actives
+pub mod Walks
+pub mod Done
+pub mod Quiet
+pub mod Found
+-- The machine: its laws, and its theorem
+pub mod Again
+pub mod Laws
+pub mod Iterate
+pub mod MachineTheorem

@@ -1,0 +1,6 @@
+-- What 01 says of evaluation, the words of demand 3, and what is promised of an evaluation that ends
+pub mod Evaluation
+pub mod Rewriting
+pub mod Outcomes
+-- The evaluation as a machine
+pub mod Machine
