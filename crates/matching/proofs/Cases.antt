@@ -2,16 +2,16 @@
 use Prim.Native.Nat.{ℕ, zero, suc, _<_}
 use native.Mathlib.Omega.{arith}
 use native.Mathlib.Decide.{ℕ-discrete}
-use mathlib.Core.Path.{_≡_, refl, sym, _∙_}
+use mathlib.Core.Path.{_≡_, refl}
 use mathlib.Core.Bool.{Bool, true, false, cond}
-use mathlib.Core.List.{List, [], _∷_, _++_}
+use mathlib.Core.List.{[], _∷_}
 use lib.ListN.{length}
-use borrow.Author.Tests.{ltb-true, lt-ltb}
+use borrow.Author.Tests.{ltb-true}
 use Rattle.system.specs.declared.Answer.{Answer}
 use Rattle.system.specs.Signature.{Symbol, isSymbol, arity, span, argument}
 use Rattle.system.specs.System.{System, strategy}
 use Rattle.system.specs.Terms.{Stands, first, later}
-use Rattle.system.specs.Parser.{ok, read, readSystem, readRules, readEnd, readRule, readSide, readWords, readStrategy, number, word, learn, sideFault, variableFault, outside, each, times}
+use Rattle.system.specs.Parser.{read, readSystem, readRules, readEnd, readRule, readSide, readWords, readStrategy, number, word, learn, sideFault, variableFault, outside, each, times}
 use Rattle.system.specs.Cases.{Hold, bookB, earlyB}
 use Rattle.system.specs.Book.{systemOf}
 use Rattle.matching.specs.StrategyTest.{Passes, Tested, passed, failed, TestedBook}
@@ -21,7 +21,9 @@ use Rattle.system.proofs.Members.{stands-nil, stands-front, stands-back}
 use Rattle.matching.proofs.SafetyTest.{passes-sound, passes-complete}
 
 pub strategy-cases : Hold strategyCases
-unfolding strategyCases testing failing bookB passes every closes idles idleTest isVariable constructs systemOf strategy span argument read readSystem readRules readEnd readRule readSide readWords readStrategy number word learn sideFault variableFault outside each times isSymbol arity
+unfolding strategyCases testing failing bookB
+    passes every closes idles idleTest isVariable constructs systemOf strategy span argument
+    read readSystem readRules readEnd readRule readSide readWords readStrategy number word learn sideFault variableFault outside each times isSymbol arity
 strategy-cases = refl
 
 -- ---- the symbols that fail are those that the table's computation lists
@@ -63,9 +65,11 @@ module _ (s : System) where
 -- ---- the contract's answer
 
 pub early-told : {r : Answer} → TestedBook (read earlyB) r → r ≡ record { number = 14; place = 2; steps = 0 }
-unfolding failing bookB passes every closes idles idleTest isVariable constructs strategy span argument read readSystem readRules readEnd readRule readSide readWords readStrategy number word learn sideFault variableFault outside each times isSymbol arity
+unfolding failing bookB passes every closes idles idleTest isVariable constructs strategy span argument
+    read readSystem readRules readEnd readRule readSide readWords readStrategy number word learn sideFault variableFault outside each times isSymbol arity
 early-told t = tested-one _ 2 refl refl refl t
 
 pub b-told : {r : Answer} → TestedBook (read bookB) r → r ≡ record { number = 0; place = 0; steps = 0 }
-unfolding failing bookB passes every closes idles idleTest isVariable constructs strategy span argument read readSystem readRules readEnd readRule readSide readWords readStrategy number word learn sideFault variableFault outside each times isSymbol arity
+unfolding failing bookB passes every closes idles idleTest isVariable constructs strategy span argument
+    read readSystem readRules readEnd readRule readSide readWords readStrategy number word learn sideFault variableFault outside each times isSymbol arity
 b-told t = tested-none _ refl t

@@ -50,7 +50,10 @@ module _ (g : Signature) (few : length g ≤ variable) where
         ∙ chain-cong (bind g (flatten (take i ps)) (flatten (take i us)) []) _ _ (λ σ. bind-variable g (head (getD ps i [])) (flatten (drop (suc i) ps)) (flatten (drop (suc i) us)) σ var h)
 
     keeps : (v : List ℕ) → Whole g v → bind g (w ∷ flatten ps) (w ∷ flatten us) [] ≡ none → bind g (w ∷ flatten ps) (w ∷ flatten (set us i v)) [] ≡ none
-    keeps v h e = bind-parts v h ∙ chain-none (bind g (flatten (take i ps)) (flatten (take i us)) []) _ _ (λ σ. bind-any g _ _ _ _) (sym (rw (set-getD us i []) at (bind-parts (getD us i []) (wu i lu))) ∙ e)
+    keeps v h e =
+        bind-parts v h
+        ∙ chain-none (bind g (flatten (take i ps)) (flatten (take i us)) []) _ _ (λ σ. bind-any g _ _ _ _)
+        (sym (rw (set-getD us i []) at (bind-parts (getD us i []) (wu i lu))) ∙ e)
 
   -- a rule that is not bound, with a variable for argument i, is not bound after a change there
   idle-keeps : (us : List (List ℕ)) (i : ℕ) (v : List ℕ) {lhs : List ℕ} → Side g lhs → Symbol g (head lhs) → Node g (head lhs) us → i < length us → Whole g v →

@@ -1,6 +1,6 @@
 // Matching a left side, the first rule that matches, and the strategy test (01: the order test): the second library, built on the
-// contracts of `system`. The two operations here ask nothing of their caller; `rules` is the inner interface for the
-// layers above, over a book that is known to be accepted.
+// contracts of `system`. The two operations here ask nothing of their caller; `rules` and `safety::test` are the inner interface for
+// the layers above, over a book that was scanned.
 ghost use mathlib.Core.Path.{_≡_};
 ghost use Rattle.system.specs.Parser.{read};
 ghost use Rattle.system.specs.Book.{systemOf};

@@ -1,5 +1,5 @@
 -- Number 0 is no fault's.
-use Prim.Native.Nat.{ℕ, _<_}
+use Prim.Native.Nat.{_<_}
 use native.Mathlib.Omega.{arith}
 use mathlib.Core.Path.{_≡_}
 use Rattle.system.specs.Numbers.{Fault, missing, range, entry, unknown, unbalanced, variableHead, unbound, trailing, faultNumber}

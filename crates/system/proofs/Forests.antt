@@ -8,7 +8,7 @@ use mathlib.Core.List.{List, [], _∷_, _++_, append-assoc, flatten}
 use lib.ListN.{length, getD, take, drop, set, length-set}
 use lib.Seq.{set-split, getD-set-same, getD-set-other, set-getD, length-take-le, getD-take}
 use Rattle.system.specs.Signature.{Signature, Symbol, span, arity}
-use Rattle.system.specs.Terms.{Forest, empty, more, Whole, Stands, first, later}
+use Rattle.system.specs.Terms.{Forest, empty, more, Whole}
 
 module _ (g : Signature) where
   pub span-zero : (ws : List ℕ) → span g ws 0 ≡ 0

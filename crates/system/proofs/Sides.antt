@@ -15,7 +15,8 @@ use Rattle.system.specs.declared.reader.sides.Hand.the-variants.{Left, R
 use Rattle.system.specs.Parser.{ok, sideFault, learn, Reading, readWords, word}
 use Rattle.system.proofs.Signatures.{symbol-below}
 use Rattle.system.proofs.Members.{numbered-le}
-use Rattle.system.proofs.SideWords.{Variable, side-symbol, variable-passes, passes-due, passes-word, left-variable, variable-left, right-variable, variable-right, learn-symbol, learn-variable, learn-right}
+use Rattle.system.proofs.SideWords.{Variable, side-symbol, variable-passes, passes-due, passes-word}
+use Rattle.system.proofs.SideWords.{left-variable, variable-left, right-variable, variable-right, learn-symbol, learn-variable, learn-right}
 use Rattle.system.proofs.Parsed.{ok-value, ok-place, not-fault, after-ok, Between, between-none, between-end, between-join, between-split, between-ok}
 use Rattle.system.proofs.Parses.{Reads, one, reads-word}
 

@@ -1,7 +1,8 @@
 // Show books and cues read from words: the lowest library.
 //
 // A book is a slice of words, three sections one after the other, each after its count (01: "The show book"). None of the
-// operations here asks anything of its caller: every refusal is a number of 01's table.
+// operations here asks anything of its caller: every refusal is a number of 01's table. `reader::scan_book`, `terms::check`, `words`
+// and `layout` are the inner interface for the layers above: a book is scanned once, and all that is asked of it goes by the scan.
 ghost use mathlib.Core.Path.{_≡_};
 ghost use Rattle.system.specs.Answers.{answerOf, shapeOf, termAnswer, argumentAt, startOf, partOf, LiesIn};
 ghost use Rattle.system.specs.Parser.{read};

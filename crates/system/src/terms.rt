@@ -1,4 +1,4 @@
-// Whether words are one whole term.
+// Whether words are one whole term over the symbols of a book.
 ghost use mathlib.Core.Path.{_≡_};
 ghost use Rattle.system.specs.Answers.{signatureOf, wholeAnswer, termAnswer};
 ghost use Rattle.system.specs.reader.Sections.{scanOf};

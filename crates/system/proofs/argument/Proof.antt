@@ -23,7 +23,8 @@ starts c =
     let p = rw tail-length at (c .spans .ensures .1) in
     omega arith
 
-ends : (c : tie.After-span) → 1 + c .before .before .spans .result + c .span .result ≤ length (c .before .before .before .before .before .before .before .before .before .before .before .before .before .args .term .now)
+ends : (c : tie.After-span) → 1 + c .before .before .spans .result + c .span .result ≤ length
+    (c .before .before .before .before .before .before .before .before .before .before .before .before .before .args .term .now)
 ends c =
     let l = starts (c .before .before) in
     let q = rw tail-length at (c .span .ensures .1) in
@@ -131,13 +132,17 @@ part-result-end-4 : tie.Need-part-result-end-4
 part-result-end-4 c = ends c
 
 returns-4 : tie.Need-returns-4
-returns-4 c = let a = c .before .before .before .before .before .before .before .before .before .before .before .before .before .before .args in
+returns-4 c =
+    let c6 = c .before .before .before .before .before .before in
+    let c9 = c6 .before .before .before in
+    let c14 = c9 .before .before .before .before .before in
+    let a = c14 .args in
     let t = a .term .now in
     let s = c .before .before .before .spans in
-    let r = c .before .before .before .before .before .before .arity .ensures .0 in
+    let r = c6 .arity .ensures .0 in
     let n = s .result in
     let e : argumentAt (a .book .now) t (a .i) ≡ some (1 + n) =
-    argument-there (a .book .now) t (whole (c .before .before .before .before .before .before .before .before .before)) (a .i) (omega arith) (omega arith) ∙ ap (λ m. some (1 + m)) (sym (rw tail at (s .ensures .0))) in
+    argument-there (a .book .now) t (whole c9) (a .i) (omega arith) (omega arith) ∙ ap (λ m. some (1 + m)) (sym (rw tail at (s .ensures .0))) in
     (rw e (cut (signatureOf (a .book .now)) t (1 + n) (c .before .span .result) (c .before .span .ensures .0)), rw e)
 
 pub argument-spec : {M : Type 1} → statement M

@@ -1,6 +1,5 @@
 -- The check of a term against a book that was scanned: the book decides first, then the term.
 use Prim.Native.Nat.{ℕ}
-use native.Mathlib.Omega.{arith}
 use mathlib.Core.Path.{_≡_, refl, sym, ap, _∙_}
 use mathlib.Core.List.{List}
 use Rattle.system.specs.declared.Answer.{Answer}

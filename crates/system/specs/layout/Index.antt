@@ -6,7 +6,14 @@ use lib.ListN.{length, getD}
 use Rattle.system.specs.declared.Shape.{Shape}
 use Rattle.system.specs.layout.Accepted.{Standing}
 
--- mark j is where the strategy of symbol 4 * j stands; a book has at most 256 symbols, so 64 marks are enough
+-- every fourth symbol has a mark; a book has at most 256 symbols, so 64 marks are enough
+abbrev pub stride : ℕ
+stride = 4
+
+abbrev pub markCount : ℕ
+markCount = 64
+
+-- mark j is where the strategy of symbol 4 * j stands
 pub record Marked (ws : List ℕ) (shape : Shape) (marks : List ℕ) : Type 0 where
-  pub slots : length marks ≡ 64
-  pub standing : (j : ℕ) → 4 * j < shape .symbols → Standing ws (4 * j) (getD marks j 0)
+  pub slots : length marks ≡ markCount
+  pub standing : (j : ℕ) → stride * j < shape .symbols → Standing ws (stride * j) (getD marks j 0)

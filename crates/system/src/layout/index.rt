@@ -3,9 +3,14 @@ ghost use mathlib.Core.Path.{_≡_};
 ghost use Prim.Native.Nat.{_≤_, _<_};
 ghost use lib.ListN.{length};
 ghost use Rattle.system.specs.layout.Accepted.{Accepted, StrategyAt, Standing};
-ghost use Rattle.system.specs.layout.Index.{Marked};
+ghost use Rattle.system.specs.layout.Index.{markCount, Marked};
 use crate::Shape;
 use crate::words::wide;
+
+// Every fourth symbol has a mark; 64 are enough for the most symbols that a book may have.
+pub const STRIDE: usize = 4;
+
+pub const MARKS: usize = 64;
 
 // The index at which the strategy of symbol f stands in the book, found from that of the symbol `first`.
 fn walk_on(book: &[u16], shape: Shape, start: usize, first: usize, f: usize) -> usize
@@ -23,13 +28,13 @@ fn walk_on(book: &[u16], shape: Shape, start: usize, first: usize, f: usize) -> 
 
 // Marks the strategies of every fourth symbol.
 pub fn mark(book: &[u16], shape: Shape, marks: &mut [usize])
-    requires { ⌜ Accepted (now book) shape × (length (now marks) ≡ 64) ⌝ }
+    requires { ⌜ Accepted (now book) shape × (length (now marks) ≡ markCount) ⌝ }
     ensures { λ _. ⌜ Marked (now (book .entry)) shape (now (marks .exit)) ⌝ }
 {
     marks[0] = shape.strategies;
     let mut j = 1;
-    while 4 * j < shape.symbols {
-        marks[j] = walk_on(book, shape, marks[j - 1], 4 * (j - 1), 4 * j);
+    while STRIDE * j < shape.symbols {
+        marks[j] = walk_on(book, shape, marks[j - 1], STRIDE * (j - 1), STRIDE * j);
         j += 1;
     }
 }
@@ -40,6 +45,6 @@ pub fn strategy_at(book: &[u16], shape: Shape, marks: &[usize], f: usize) -> usi
     requires { ⌜ Accepted (now book) shape × Marked (now book) shape (now marks) × (f < shape .symbols) ⌝ }
     ensures { λ r. ⌜ StrategyAt (now (book .entry)) f r ⌝ }
 {
-    let j = f / 4;
-    walk_on(book, shape, marks[j], 4 * j, f)
+    let j = f / STRIDE;
+    walk_on(book, shape, marks[j], STRIDE * j, f)
 }

@@ -23,8 +23,11 @@ abbrev μ-rules : tie.MeasureT-rules
 
 -- the rule of this turn
 turn : (c : tie.After-rule-at Inv-words μ-words Inv-rules μ-rules) →
-    Turn (c .before .before .before .before .before .before .args .book .now) (c .before .before .before .before .before .before .args .shape) (c .before .before .before .rules .k) (c .before .before .before .rules .at) (c .rule-at .result)
-turn c = turn-of (c .before .before .before .before .before .before .pre) (c .before .if1 .taken) (c .before .before .before .rules .inv .rest) (c .rule-at .ensures)
+    Turn (c .before .before .before .before .before .before .args .book .now) (c .before .before .before .before .before .before .args .shape) (c .before .before .before .rules .k)
+    (c .before .before .before .rules .at) (c .rule-at .result)
+turn c =
+    let c6 = c .before .before .before .before .before .before in
+    turn-of (c6 .pre) (c .before .if1 .taken) (c .before .before .before .rules .inv .rest) (c .rule-at .ensures)
 
 rules-holds : tie.Need-rules-holds Inv-words μ-words Inv-rules μ-rules
 unfolding unset
@@ -83,7 +86,12 @@ rules-less-2 : tie.Need-rules-less-2 Inv-words μ-words Inv-rules μ-rules
 rules-less-2 c = search needs
 
 rules-again-2 : tie.Need-rules-again-2 Inv-words μ-words Inv-rules μ-rules
-rules-again-2 c = word-differs (turn (c .before .before .before .before .before .before .before .before .before)) (c .before .before .before .before .before .before .before .before .before .before .before .before .rules .inv) (c .before .before .before .before .before .words .inv) (c .before .before .before .before .words-test .taken) (c .before .takes2 .ensures .0) (c .if3 .taken)
+rules-again-2 c =
+    let c4 = c .before .before .before .before in
+    let c5 = c4 .before in
+    let c9 = c5 .before .before .before .before in
+    let c12 = c9 .before .before .before in
+    word-differs (turn c9) (c12 .rules .inv) (c5 .words .inv) (c4 .words-test .taken) (c .before .takes2 .ensures .0) (c .if3 .taken)
 
 wide-requires : tie.Need-wide-requires Inv-words μ-words Inv-rules μ-rules
 wide-requires c κs = search needs
@@ -92,13 +100,21 @@ mul-s : tie.Need-mul-s Inv-words μ-words Inv-rules μ-rules
 mul-s c = search needs
 
 array-write-s : tie.Need-array-write-s Inv-words μ-words Inv-rules μ-rules
-array-write-s c = let w = turn (c .before .before .before .before .before .before .before .before .before .before .before) .here in omega (arith, w .low (c .before .before .before .before .before .before .before .words .j) (c .before .before .before .before .before .before .words-test .taken))
+array-write-s c =
+    let c6 = c .before .before .before .before .before .before in
+    let c7 = c6 .before in
+    let c11 = c7 .before .before .before .before in
+    let w = turn c11 .here in omega (arith, w .low (c7 .words .j) (c6 .words-test .taken))
 
 mul-l : tie.Need-mul-l Inv-words μ-words Inv-rules μ-rules
 mul-l c = search needs
 
 array-write-l : tie.Need-array-write-l Inv-words μ-words Inv-rules μ-rules
-array-write-l c = let w = turn (c .before .before .before .before .before .before .before .before .before .before .before) .here in omega (arith, w .low (c .before .before .before .before .before .before .before .words .j) (c .before .before .before .before .before .before .words-test .taken))
+array-write-l c =
+    let c6 = c .before .before .before .before .before .before in
+    let c7 = c6 .before in
+    let c11 = c7 .before .before .before .before in
+    let w = turn c11 .here in omega (arith, w .low (c7 .words .j) (c6 .words-test .taken))
 
 add-q : tie.Need-add-q Inv-words μ-words Inv-rules μ-rules
 add-q c = search needs
@@ -124,7 +140,10 @@ returns : tie.Need-returns Inv-words μ-words Inv-rules μ-rules
 returns c = search-ends (c .before .before .before .before .before .pre) (c .before .before .rules .inv) (c .if1 .left)
 
 returns-2 : tie.Need-returns-2 Inv-words μ-words Inv-rules μ-rules
-returns-2 c = matches-here (turn (c .before .before .before .before .before)) (c .before .before .before .before .before .before .before .before .rules .inv) (c .before .words .inv) (c .words-test .left)
+returns-2 c =
+    let c5 = c .before .before .before .before .before in
+    let c8 = c5 .before .before .before in
+    matches-here (turn c5) (c8 .rules .inv) (c .before .words .inv) (c .words-test .left)
 
 pub first-rule-spec : {M : Type 1} → statement M
 first-rule-spec =

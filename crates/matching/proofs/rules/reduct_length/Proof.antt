@@ -10,7 +10,8 @@ use Rattle.matching.proofs.rules.reduct_length.Statement.{statement}
 use Rattle.matching.proofs.rules.reduct_length.Tie as tie
 
 abbrev Inv-loop : tie.InvT-loop
-Inv-loop book rhs size lengths total₀ j₀ total j = (j ≤ size) × (total ≤ j * 65535) × (total + reductLength lengths (drop j (take size (drop rhs book))) ≡ reductLength lengths (take size (drop rhs book)))
+Inv-loop book rhs size lengths total₀ j₀ total j = (j ≤ size) × (total ≤ j * 65535) ×
+    (total + reductLength lengths (drop j (take size (drop rhs book))) ≡ reductLength lengths (take size (drop rhs book)))
 
 abbrev μ-loop : tie.MeasureT-loop
 μ-loop book rhs size lengths total₀ j₀ total j = size - j
@@ -40,14 +41,27 @@ loop-less : tie.Need-loop-less Inv-loop μ-loop
 loop-less c = search needs
 
 loop-again : tie.Need-loop-again Inv-loop μ-loop
-loop-again c = let a = c .before .before .before .before .before .before .args in let l = c .before .before .before .before .loop in let w = c .before .wide in let r = c .before .before .before .before .before .before .pre .0 in
-    (omega arith, omega arith, omega (arith, length-symbol (a .t4) (a .book .now) (a .rhs) (a .size) (l .j) (r .fits) (c .before .before .before .loop-test .taken) (w .result) (w .ensures .0) (c .if1 .taken)))
+loop-again c =
+    let c4 = c .before .before .before .before in
+    let c6 = c4 .before .before in
+    let a = c6 .args in let l = c4 .loop in let w = c .before .wide in let r = c6 .pre .0 in (
+      omega arith,
+      omega arith,
+      omega (
+        arith,
+        length-symbol (a .t4) (a .book .now) (a .rhs) (a .size) (l .j) (r .fits) (c .before .before .before .loop-test .taken) (w .result)
+            (w .ensures .0) (c .if1 .taken),
+      ),
+    )
 
 mul-total : tie.Need-mul-total Inv-loop μ-loop
 mul-total c = search needs
 
 array-read-total : tie.Need-array-read-total Inv-loop μ-loop
-array-read-total c = let a = c .before .before .before .before .before .before .args in let l = c .before .before .before .before .loop in omega (arith, c .before .before .before .before .before .before .pre .0 .known (l .j) (c .before .before .before .loop-test .taken), c .before .wide .ensures .0)
+array-read-total c =
+    let c4 = c .before .before .before .before in
+    let c6 = c4 .before .before in
+    let a = c6 .args in let l = c4 .loop in omega (arith, c6 .pre .0 .known (l .j) (c .before .before .before .loop-test .taken), c .before .wide .ensures .0)
 
 add-total-2 : tie.Need-add-total-2 Inv-loop μ-loop
 add-total-2 c = let w = c .before .wide in omega (arith, c .before .before .before .before .before .before .pre .1 (w .result - 32768))
@@ -56,9 +70,19 @@ loop-less-2 : tie.Need-loop-less-2 Inv-loop μ-loop
 loop-less-2 c = search needs
 
 loop-again-2 : tie.Need-loop-again-2 Inv-loop μ-loop
-loop-again-2 c = let a = c .before .before .before .before .before .before .args in let l = c .before .before .before .before .loop in let w = c .before .wide in let r = c .before .before .before .before .before .before .pre .0 in
-    let u = c .before .before .before .before .before .before .pre .1 (w .result - 32768) in
-    (omega arith, omega arith, omega (arith, length-variable (a .t4) (a .book .now) (a .rhs) (a .size) (l .j) (r .fits) (c .before .before .before .loop-test .taken) (w .result) (w .ensures .0) (c .if1 .left)))
+loop-again-2 c =
+    let c4 = c .before .before .before .before in
+    let c6 = c4 .before .before in
+    let a = c6 .args in let l = c4 .loop in let w = c .before .wide in let r = c6 .pre .0 in
+    let u = c6 .pre .1 (w .result - 32768) in (
+      omega arith,
+      omega arith,
+      omega (
+        arith,
+        length-variable (a .t4) (a .book .now) (a .rhs) (a .size) (l .j) (r .fits) (c .before .before .before .loop-test .taken) (w .result)
+            (w .ensures .0) (c .if1 .left),
+      ),
+    )
 
 returns : tie.Need-returns Inv-loop μ-loop
 returns c = let a = c .before .before .before .args in let l = c .before .loop in omega (arith, length-done (a .t4) (a .book .now) (a .rhs) (a .size) (l .j) (c .loop-test .left))

@@ -17,16 +17,22 @@ span-requires : tie.Need-span-requires
 span-requires c κs = search needs
 
 returns-2 : tie.Need-returns-2
-returns-2 c = let a = c .before .before .before .before .before .before .args in (c .span .ensures .0 ∙ sym (takes-variable (signatureOf (a .book .now)) (a .l) (a .ws .now) (omega arith) (omega arith)), omega arith)
+returns-2 c =
+    let c6 = c .before .before .before .before .before .before in
+    let a = c6 .args in (c .span .ensures .0 ∙ sym (takes-variable (signatureOf (a .book .now)) (a .l) (a .ws .now) (omega arith) (omega arith)), omega arith)
 
 shared-slice-read-if3 : tie.Need-shared-slice-read-if3
 shared-slice-read-if3 c = search needs
 
 returns-3 : tie.Need-returns-3
-returns-3 c = let a = c .before .before .before .before .before .before .before .args in (sym (takes-differ (signatureOf (a .book .now)) (a .l) (a .ws .now) (omega arith) (omega arith) (c .if3 .taken)), omega arith)
+returns-3 c =
+    let c7 = c .before .before .before .before .before .before .before in
+    let a = c7 .args in (sym (takes-differ (signatureOf (a .book .now)) (a .l) (a .ws .now) (omega arith) (omega arith) (c .if3 .taken)), omega arith)
 
 returns-4 : tie.Need-returns-4
-returns-4 c = let a = c .before .before .before .before .before .before .before .args in (sym (takes-same (signatureOf (a .book .now)) (a .l) (a .ws .now) (omega arith) (omega arith) (c .if3 .left)), omega arith)
+returns-4 c =
+    let c7 = c .before .before .before .before .before .before .before in
+    let a = c7 .args in (sym (takes-same (signatureOf (a .book .now)) (a .l) (a .ws .now) (omega arith) (omega arith) (c .if3 .left)), omega arith)
 
 pub takes-spec : {M : Type 1} → statement M
 takes-spec =

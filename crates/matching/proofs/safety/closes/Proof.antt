@@ -39,8 +39,11 @@ wide-requires-2 : tie.Need-wide-requires-2 Inv-loop μ-loop
 wide-requires-2 c κs = search needs
 
 returns : tie.Need-returns Inv-loop μ-loop
-returns c = let a = c .before .before .before .before .before .before .before .before .args in
-    sym (look-zero (c .before .before .before .before .before .before .before .before .pre .1) (idleTest (systemOf (a .book .now)) (a .f)) (c .before .before .before .before .loop .inv) (c .before .before .before .loop-test .taken) (c .before .wide2 .ensures .0) (c .if1 .taken))
+returns c =
+    let c4 = c .before .before .before .before in
+    let c8 = c4 .before .before .before .before in
+    let a = c8 .args in
+    sym (look-zero (c8 .pre .1) (idleTest (systemOf (a .book .now)) (a .f)) (c4 .loop .inv) (c .before .before .before .loop-test .taken) (c .before .wide2 .ensures .0) (c .if1 .taken))
 
 sub-idle : tie.Need-sub-idle Inv-loop μ-loop
 sub-idle c = search needs
@@ -49,8 +52,12 @@ idle-requires : tie.Need-idle-requires Inv-loop μ-loop
 idle-requires c κs = c .before .before .before .before .before .before .before .before .pre .0
 
 returns-2 : tie.Need-returns-2 Inv-loop μ-loop
-returns-2 c = let a = c .before .before .before .before .before .before .before .before .before .before .args in
-    sym (look-busy (c .before .before .before .before .before .before .before .before .before .before .pre .1) (idleTest (systemOf (a .book .now)) (a .f)) (c .before .before .before .before .before .before .loop .inv) (c .before .before .before .before .before .loop-test .taken) (c .before .before .before .wide2 .ensures .0)
+returns-2 c =
+    let c5 = c .before .before .before .before .before in
+    let c6 = c5 .before in
+    let c10 = c6 .before .before .before .before in
+    let a = c10 .args in
+    sym (look-busy (c10 .pre .1) (idleTest (systemOf (a .book .now)) (a .f)) (c6 .loop .inv) (c5 .loop-test .taken) (c .before .before .before .wide2 .ensures .0)
     (c .before .before .if1 .left) (sym (c .before .idle .ensures) ∙ not-true _ (c .if2 .taken)))
 
 sub-i : tie.Need-sub-i Inv-loop μ-loop
@@ -60,12 +67,18 @@ loop-less : tie.Need-loop-less Inv-loop μ-loop
 loop-less c = search needs
 
 loop-again : tie.Need-loop-again Inv-loop μ-loop
-loop-again c = let a = c .before .before .before .before .before .before .before .before .before .before .args in
-    look-idle (c .before .before .before .before .before .before .before .before .before .before .pre .1) (idleTest (systemOf (a .book .now)) (a .f)) (c .before .before .before .before .before .before .loop .inv) (c .before .before .before .before .before .loop-test .taken) (c .before .before .before .wide2 .ensures .0)
+loop-again c =
+    let c5 = c .before .before .before .before .before in
+    let c6 = c5 .before in
+    let c10 = c6 .before .before .before .before in
+    let a = c10 .args in
+    look-idle (c10 .pre .1) (idleTest (systemOf (a .book .now)) (a .f)) (c6 .loop .inv) (c5 .loop-test .taken) (c .before .before .before .wide2 .ensures .0)
     (c .before .before .if1 .left) (sym (c .before .idle .ensures) ∙ not-false _ (c .if2 .left))
 
 returns-3 : tie.Need-returns-3 Inv-loop μ-loop
-returns-3 c = let a = c .before .before .before .before .before .args in sym (look-ends (c .before .before .before .before .before .pre .1) (idleTest (systemOf (a .book .now)) (a .f)) (c .before .loop .inv) (c .loop-test .left))
+returns-3 c =
+    let c5 = c .before .before .before .before .before in
+    let a = c5 .args in sym (look-ends (c5 .pre .1) (idleTest (systemOf (a .book .now)) (a .f)) (c .before .loop .inv) (c .loop-test .left))
 
 pub closes-spec : {M : Type 1} → statement M
 closes-spec =

@@ -18,8 +18,11 @@ abbrev μ-loop : tie.MeasureT-loop
 
 -- the rule of this turn
 turn : (c : tie.After-rule-at Inv-loop μ-loop) →
-    Turn (c .before .before .before .before .before .args .book .now) (c .before .before .before .before .before .args .shape) (c .before .before .before .loop .k) (c .before .before .before .loop .at) (c .rule-at .result)
-turn c = turn-of (c .before .before .before .before .before .pre) (c .before .if1 .taken) (c .before .before .before .loop .inv .rest) (c .rule-at .ensures)
+    Turn (c .before .before .before .before .before .args .book .now) (c .before .before .before .before .before .args .shape) (c .before .before .before .loop .k)
+    (c .before .before .before .loop .at) (c .rule-at .result)
+turn c =
+    let c5 = c .before .before .before .before .before in
+    turn-of (c5 .pre) (c .before .if1 .taken) (c .before .before .before .loop .inv .rest) (c .rule-at .ensures)
 
 loop-holds : tie.Need-loop-holds Inv-loop μ-loop
 loop-holds c = every-starts (otherHead (c .before .args .f)) (c .before .pre)
@@ -40,17 +43,25 @@ wide-requires : tie.Need-wide-requires Inv-loop μ-loop
 wide-requires c κs = search needs
 
 returns : tie.Need-returns Inv-loop μ-loop
-returns c = let f = c .before .before .before .before .before .before .before .before .args .f in let t = turn (c .before .before .before) in
-    sym (defined-every (systemOf (c .before .before .before .before .before .before .before .before .args .book .now)) f false (every-fails (otherHead f) t (c .before .before .before .before .before .before .loop .inv) (head-same t f (c .before .wide .ensures .0) (c .if2 .taken))))
+returns c =
+    let c6 = c .before .before .before .before .before .before in
+    let c8 = c6 .before .before in
+    let f = c8 .args .f in let t = turn (c .before .before .before) in
+    sym (defined-every (systemOf (c8 .args .book .now)) f false (every-fails (otherHead f) t (c6 .loop .inv) (head-same t f (c .before .wide .ensures .0) (c .if2 .taken))))
 
 loop-less : tie.Need-loop-less Inv-loop μ-loop
 loop-less c = search needs
 
 loop-again : tie.Need-loop-again Inv-loop μ-loop
-loop-again c = let f = c .before .before .before .before .before .before .before .before .args .f in let t = turn (c .before .before .before) in every-goes (otherHead f) t (c .before .before .before .before .before .before .loop .inv) (head-other t f (c .before .wide .ensures .0) (c .if2 .left))
+loop-again c =
+    let c6 = c .before .before .before .before .before .before in
+    let c8 = c6 .before .before in
+    let f = c8 .args .f in let t = turn (c .before .before .before) in every-goes (otherHead f) t (c6 .loop .inv) (head-other t f (c .before .wide .ensures .0) (c .if2 .left))
 
 returns-2 : tie.Need-returns-2 Inv-loop μ-loop
-returns-2 c = let a = c .before .before .before .before .args in sym (defined-every (systemOf (a .book .now)) (a .f) true (every-ends (otherHead (a .f)) (c .before .before .before .before .pre) (c .before .before .loop .inv) (c .if1 .left)))
+returns-2 c =
+    let c4 = c .before .before .before .before in
+    let a = c4 .args in sym (defined-every (systemOf (a .book .now)) (a .f) true (every-ends (otherHead (a .f)) (c4 .pre) (c .before .before .loop .inv) (c .if1 .left)))
 
 pub defined-spec : {M : Type 1} → statement M
 defined-spec =

@@ -18,8 +18,11 @@ abbrev μ-loop : tie.MeasureT-loop
 
 -- the rule of this turn
 turn : (c : tie.After-rule-at Inv-loop μ-loop) →
-    Turn (c .before .before .before .before .before .args .book .now) (c .before .before .before .before .before .args .shape) (c .before .before .before .loop .k) (c .before .before .before .loop .at) (c .rule-at .result)
-turn c = turn-of (c .before .before .before .before .before .pre) (c .before .if1 .taken) (c .before .before .before .loop .inv .rest) (c .rule-at .ensures)
+    Turn (c .before .before .before .before .before .args .book .now) (c .before .before .before .before .before .args .shape) (c .before .before .before .loop .k)
+    (c .before .before .before .loop .at) (c .rule-at .result)
+turn c =
+    let c5 = c .before .before .before .before .before in
+    turn-of (c5 .pre) (c .before .if1 .taken) (c .before .before .before .loop .inv .rest) (c .rule-at .ensures)
 
 loop-holds : tie.Need-loop-holds Inv-loop μ-loop
 loop-holds c = let a = c .before .args in every-starts (idleIn (signatureOf (a .book .now)) (a .f) (a .i)) (c .before .pre)
@@ -58,28 +61,44 @@ is-variable-requires : tie.Need-is-variable-requires Inv-loop μ-loop
 is-variable-requires c κs = search needs
 
 returns : tie.Need-returns Inv-loop μ-loop
-returns c = let a = c .before .before .before .before .before .before .before .before .before .before .before .before .args in let t = turn (c .before .before .before .before .before .before .before) in
-    sym (idle-every (c .before .before .before .before .before .before .before .before .before .before .before .before .pre) (a .f) (a .i) ∙ every-fails (idleIn (signatureOf (a .book .now)) (a .f) (a .i)) t (c .before .before .before .before .before .before .before .before .before .before .loop .inv)
-    (idle-same t (a .f) (c .before .before .before .before .wide .ensures .0) (a .i) (c .before .before .before .if2 .taken) (c .before .is-variable .ensures) (not-true _ (c .if3 .taken))))
+returns c =
+    let c4 = c .before .before .before .before in
+    let c7 = c4 .before .before .before in
+    let c10 = c7 .before .before .before in
+    let c12 = c10 .before .before in
+    let a = c12 .args in let t = turn c7 in
+    sym (idle-every (c12 .pre) (a .f) (a .i) ∙ every-fails (idleIn (signatureOf (a .book .now)) (a .f) (a .i)) t (c10 .loop .inv)
+    (idle-same t (a .f) (c4 .wide .ensures .0) (a .i) (c .before .before .before .if2 .taken) (c .before .is-variable .ensures) (not-true _ (c .if3 .taken))))
 
 loop-less : tie.Need-loop-less Inv-loop μ-loop
 loop-less c = search needs
 
 loop-again : tie.Need-loop-again Inv-loop μ-loop
-loop-again c = let a = c .before .before .before .before .before .before .before .before .before .before .before .before .args in let t = turn (c .before .before .before .before .before .before .before) in
-    every-goes (idleIn (signatureOf (a .book .now)) (a .f) (a .i)) t (c .before .before .before .before .before .before .before .before .before .before .loop .inv)
-    (idle-same t (a .f) (c .before .before .before .before .wide .ensures .0) (a .i) (c .before .before .before .if2 .taken) (c .before .is-variable .ensures) (not-false _ (c .if3 .left)))
+loop-again c =
+    let c4 = c .before .before .before .before in
+    let c7 = c4 .before .before .before in
+    let c10 = c7 .before .before .before in
+    let c12 = c10 .before .before in
+    let a = c12 .args in let t = turn c7 in
+    every-goes (idleIn (signatureOf (a .book .now)) (a .f) (a .i)) t (c10 .loop .inv)
+    (idle-same t (a .f) (c4 .wide .ensures .0) (a .i) (c .before .before .before .if2 .taken) (c .before .is-variable .ensures) (not-false _ (c .if3 .left)))
 
 loop-less-2 : tie.Need-loop-less-2 Inv-loop μ-loop
 loop-less-2 c = search needs
 
 loop-again-2 : tie.Need-loop-again-2 Inv-loop μ-loop
-loop-again-2 c = let a = c .before .before .before .before .before .before .before .before .before .args in let t = turn (c .before .before .before .before) in
-    every-goes (idleIn (signatureOf (a .book .now)) (a .f) (a .i)) t (c .before .before .before .before .before .before .before .loop .inv) (idle-other t (a .f) (c .before .wide .ensures .0) (a .i) (c .if2 .left))
+loop-again-2 c =
+    let c4 = c .before .before .before .before in
+    let c7 = c4 .before .before .before in
+    let c9 = c7 .before .before in
+    let a = c9 .args in let t = turn c4 in
+    every-goes (idleIn (signatureOf (a .book .now)) (a .f) (a .i)) t (c7 .loop .inv) (idle-other t (a .f) (c .before .wide .ensures .0) (a .i) (c .if2 .left))
 
 returns-2 : tie.Need-returns-2 Inv-loop μ-loop
-returns-2 c = let a = c .before .before .before .before .args in
-    sym (idle-every (c .before .before .before .before .pre) (a .f) (a .i) ∙ every-ends (idleIn (signatureOf (a .book .now)) (a .f) (a .i)) (c .before .before .before .before .pre) (c .before .before .loop .inv) (c .if1 .left))
+returns-2 c =
+    let c4 = c .before .before .before .before in
+    let a = c4 .args in
+    sym (idle-every (c4 .pre) (a .f) (a .i) ∙ every-ends (idleIn (signatureOf (a .book .now)) (a .f) (a .i)) (c4 .pre) (c .before .before .loop .inv) (c .if1 .left))
 
 pub idle-spec : {M : Type 1} → statement M
 idle-spec =

@@ -26,7 +26,9 @@ add-p : tie.Need-add-p
 add-p c = search needs
 
 returns-2 : tie.Need-returns-2
-returns-2 c = let a = c .before .before .before .before .before .before .args in let x = c .before .spans in sym (variable-past (signatureOf (a .book .now)) (a .lhs .now) (a .i) (x .result) (x .ensures .0) (c .if2 .taken))
+returns-2 c =
+    let c6 = c .before .before .before .before .before .before in
+    let a = c6 .args in let x = c .before .spans in sym (variable-past (signatureOf (a .book .now)) (a .lhs .now) (a .i) (x .result) (x .ensures .0) (c .if2 .taken))
 
 mul-wide : tie.Need-mul-wide
 mul-wide c = search needs
@@ -38,7 +40,10 @@ wide-requires : tie.Need-wide-requires
 wide-requires c κs = search needs
 
 returns-3 : tie.Need-returns-3
-returns-3 c = let a = c .before .before .before .before .before .before .before .before .args in let x = c .before .before .before .spans in ap (λ y. leb 32768 y) (c .wide .ensures .0) ∙ sym (variable-here (signatureOf (a .book .now)) (a .lhs .now) (a .i) (x .result) (x .ensures .0))
+returns-3 c =
+    let c8 = c .before .before .before .before .before .before .before .before in
+    let a = c8 .args in
+    let x = c .before .before .before .spans in ap (λ y. leb 32768 y) (c .wide .ensures .0) ∙ sym (variable-here (signatureOf (a .book .now)) (a .lhs .now) (a .i) (x .result) (x .ensures .0))
 
 pub is-variable-spec : {M : Type 1} → statement M
 is-variable-spec =

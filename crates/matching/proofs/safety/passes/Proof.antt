@@ -16,7 +16,9 @@ closes-requires : tie.Need-closes-requires
 closes-requires c κs = search needs
 
 returns-2 : tie.Need-returns-2
-returns-2 c = let a = c .before .before .before .before .args in passes-closes (systemOf (a .book .now)) (a .f) (c .before .before .defined .ensures) (not-false _ (c .before .if1 .left)) (c .closes .ensures)
+returns-2 c =
+    let c4 = c .before .before .before .before in
+    let a = c4 .args in passes-closes (systemOf (a .book .now)) (a .f) (c .before .before .defined .ensures) (not-false _ (c .before .if1 .left)) (c .closes .ensures)
 
 pub passes-spec : {M : Type 1} → statement M
 passes-spec = tie.close (tie.spec defined-requires returns closes-requires returns-2)

@@ -1,7 +1,6 @@
 -- `safety::test` meets its contract.
 use Rattle.system.proofs.layout.Accepting.{scan-accepted}
 use Rattle.matching.proofs.Tests.{test-refused, test-accepted}
-use borrow.Author.Needs.{needs}
 use Rattle.matching.proofs.safety.test.Statement.{statement}
 use Rattle.matching.proofs.safety.test.Tie as tie
 

@@ -20,7 +20,10 @@ passes-requires : tie.Need-passes-requires Inv-loop μ-loop
 passes-requires c κs = (c .before .before .before .before .pre, test-strategy (c .before .before .before .before .pre) (c .before .before .loop .inv) (c .if1 .taken))
 
 returns : tie.Need-returns Inv-loop μ-loop
-returns c = test-fails (c .before .before .before .before .before .before .pre) (c .before .before .before .before .loop .inv) (c .before .before .if1 .taken) (c .before .passes .ensures) (not-true _ (c .if2 .taken))
+returns c =
+    let c4 = c .before .before .before .before in
+    let c6 = c4 .before .before in
+    test-fails (c6 .pre) (c4 .loop .inv) (c .before .before .if1 .taken) (c .before .passes .ensures) (not-true _ (c .if2 .taken))
 
 add-at : tie.Need-add-at Inv-loop μ-loop
 add-at c = let w = test-strategy (c .before .before .before .before .before .before .pre) (c .before .before .before .before .loop .inv) (c .before .before .if1 .taken) in omega arith
@@ -29,13 +32,20 @@ mul-wide : tie.Need-mul-wide Inv-loop μ-loop
 mul-wide c = let w = test-strategy (c .before .before .before .before .before .before .pre) (c .before .before .before .before .loop .inv) (c .before .before .if1 .taken) in omega arith
 
 shared-slice-read-wide : tie.Need-shared-slice-read-wide Inv-loop μ-loop
-shared-slice-read-wide c = let w = test-strategy (c .before .before .before .before .before .before .before .pre) (c .before .before .before .before .before .loop .inv) (c .before .before .before .if1 .taken) in omega arith
+shared-slice-read-wide c =
+    let c5 = c .before .before .before .before .before in
+    let c7 = c5 .before .before in
+    let w = test-strategy (c7 .pre) (c5 .loop .inv) (c .before .before .before .if1 .taken) in omega arith
 
 wide-requires : tie.Need-wide-requires Inv-loop μ-loop
 wide-requires c κs = search needs
 
 add-at-2 : tie.Need-add-at-2 Inv-loop μ-loop
-add-at-2 c = let w = test-strategy (c .before .before .before .before .before .before .before .before .pre) (c .before .before .before .before .before .before .loop .inv) (c .before .before .before .before .if1 .taken) in omega arith
+add-at-2 c =
+    let c4 = c .before .before .before .before in
+    let c6 = c4 .before .before in
+    let c8 = c6 .before .before in
+    let w = test-strategy (c8 .pre) (c6 .loop .inv) (c4 .if1 .taken) in omega arith
 
 add-f : tie.Need-add-f Inv-loop μ-loop
 add-f c = search needs
@@ -44,7 +54,11 @@ loop-less : tie.Need-loop-less Inv-loop μ-loop
 loop-less c = search needs
 
 loop-again : tie.Need-loop-again Inv-loop μ-loop
-loop-again c = test-goes (c .before .before .before .before .before .before .before .before .pre) (c .before .before .before .before .before .before .loop .inv) (c .before .before .before .before .if1 .taken) (c .before .before .before .passes .ensures) (not-false _ (c .before .before .if2 .left)) (c .wide .ensures .0)
+loop-again c =
+    let c4 = c .before .before .before .before in
+    let c6 = c4 .before .before in
+    let c8 = c6 .before .before in
+    test-goes (c8 .pre) (c6 .loop .inv) (c4 .if1 .taken) (c .before .before .before .passes .ensures) (not-false _ (c .before .before .if2 .left)) (c .wide .ensures .0)
 
 returns-2 : tie.Need-returns-2 Inv-loop μ-loop
 returns-2 c = test-ends (c .before .before .before .before .pre) (c .before .before .loop .inv) (c .if1 .left)

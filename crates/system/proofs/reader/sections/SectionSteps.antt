@@ -77,7 +77,8 @@ module _ (ws : List ℕ) (g : Signature) (i : ℕ) (l : Side) (is : l ≡ sideOf
   pub rule-right : l .number ≡ 0 → (r : Side) → r ≡ sideOf (readSide ws g Right (l .known) (l .place)) → sectionOf (readRule ws g i) ≡ record { number = r .number; place = r .place }
   unfolding readRule
   rule-right good r ir =
-      let c = side-next {B = Rule} (readSide ws g Left 0 i) (λ k x j. after (readSide ws g Right k j) (λ y m. ok (record { lhs = x .words; rhs = y .words }) m)) (sym (ap (λ s. s .number) is) ∙ good) in
+      let c = side-next {B = Rule} (readSide ws g Left 0 i) (λ k x j. after (readSide ws g Right k j) (λ y m. ok (record { lhs = x .words; rhs = y .words }) m))
+      (sym (ap (λ s. s .number) is) ∙ good) in
       ap sectionOf (c .1)
       ∙ side-last (readSide ws g Right (sideOf (readSide ws g Left 0 i) .known) (sideOf (readSide ws g Left 0 i) .place)) (c .0 .words)
       ∙ sym (rw (← is) (λ j. record { number = ir j .number; place = ir j .place }))

@@ -50,9 +50,13 @@ broken-requires-3 : tie.Need-broken-requires-3 Inv-loop μ-loop
 broken-requires-3 c κs = search needs
 
 returns-3 : tie.Need-returns-3 Inv-loop μ-loop
-returns-3 c = let l = c .before .before .before .before .before .before .before .loop in
-    let a = c .before .before .before .before .before .before .before .before .before .before .args in
-    c .broken3 .ensures ∙ ap (wholeAnswer (a .term .now)) (sym (break-unknown (signatureOf (a .book .now)) (a .term .now) (l .due) (l .i) (omega arith) (sym (c .before .before .is-symbol .ensures) ∙ not-true _ (c .before .if3 .taken))) ∙ l .inv .3)
+returns-3 c =
+    let c7 = c .before .before .before .before .before .before .before in
+    let c10 = c7 .before .before .before in
+    let l = c7 .loop in
+    let a = c10 .args in
+    c .broken3 .ensures ∙ ap (wholeAnswer (a .term .now)) (sym (break-unknown (signatureOf (a .book .now)) (a .term .now) (l .due) (l .i) (omega arith)
+    (sym (c .before .before .is-symbol .ensures) ∙ not-true _ (c .before .if3 .taken))) ∙ l .inv .3)
 
 sub-due : tie.Need-sub-due Inv-loop μ-loop
 sub-due c = search needs
@@ -70,12 +74,16 @@ loop-less : tie.Need-loop-less Inv-loop μ-loop
 loop-less c = search needs
 
 loop-again : tie.Need-loop-again Inv-loop μ-loop
-loop-again c = let l = c .before .before .before .before .before .before .before .loop in
-    let a = c .before .before .before .before .before .before .before .before .before .before .args in (
+loop-again c =
+    let c7 = c .before .before .before .before .before .before .before in
+    let c10 = c7 .before .before .before in
+    let l = c7 .loop in
+    let a = c10 .args in (
       omega arith,
       omega arith,
       omega arith,
-      rw (c .arity .ensures .0) (sym (break-next (signatureOf (a .book .now)) (a .term .now) (l .due) (l .i) (omega arith) (omega arith) (omega arith) (sym (c .before .before .is-symbol .ensures) ∙ not-false _ (c .before .if3 .left))) ∙ l .inv .3),
+      rw (c .arity .ensures .0) (sym (break-next (signatureOf (a .book .now)) (a .term .now) (l .due) (l .i) (omega arith) (omega arith) (omega arith)
+          (sym (c .before .before .is-symbol .ensures) ∙ not-false _ (c .before .if3 .left))) ∙ l .inv .3),
     )
 
 broken-requires-4 : tie.Need-broken-requires-4 Inv-loop μ-loop

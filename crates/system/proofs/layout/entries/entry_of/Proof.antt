@@ -10,7 +10,8 @@ wide-requires c κs = search needs
 returns : tie.Need-returns
 returns c =
     let a = c .before .before .before .before .before .args in
-    entry-none (a .book .now) (a .shape) (c .before .before .before .before .before .pre .0) (a .w) (c .before .before .wide .result) (a .f) (a .c) (c .before .before .wide .ensures .0) (c .if1 .taken)
+    entry-none (a .book .now) (a .shape) (c .before .before .before .before .before .pre .0) (a .w) (c .before .before .wide .result) (a .f) (a .c) (c .before .before .wide .ensures .0)
+    (c .if1 .taken)
 
 strategy-at-requires : tie.Need-strategy-at-requires
 strategy-at-requires c κs = search needs
@@ -41,7 +42,8 @@ returns-3 c =
     let f = c .before .before .before .before .before .before .before .before .wide in
     let k = c .before .before .before .before .before .strategy-at in
     let n = c .before .before .before .wide2 in
-    entry-repeated (a .book .now) (a .w) (f .result) (k .result) (a .f) (a .c) (n .result) (f .ensures .0) (k .ensures) (n .ensures .0) (c .before .before .if2 .left) (c .before .stood-before .result) (c .before .stood-before .ensures) (c .if3 .taken)
+    entry-repeated (a .book .now) (a .w) (f .result) (k .result) (a .f) (a .c) (n .result) (f .ensures .0) (k .ensures) (n .ensures .0) (c .before .before .if2 .left)
+    (c .before .stood-before .result) (c .before .stood-before .ensures) (c .if3 .taken)
 
 add-wide : tie.Need-add-wide
 add-wide c = search needs
@@ -64,7 +66,9 @@ returns-4 c =
     let f = c .before .before .before .before .before .before .before .before .before .before .before .wide in
     let k = c .before .before .before .before .before .before .before .before .strategy-at in
     let n = c .before .before .before .before .before .before .wide2 in
-    entry-zero (a .book .now) (a .w) (f .result) (k .result) (a .f) (a .c) (n .result) (f .ensures .0) (k .ensures) (n .ensures .0) (c .before .before .before .before .before .if2 .left) (c .before .before .before .before .stood-before .result) (c .before .before .before .before .stood-before .ensures) (c .before .before .before .if3 .left) (c .before .wide3 .result) (c .before .wide3 .ensures .0) (c .if4 .taken)
+    entry-zero (a .book .now) (a .w) (f .result) (k .result) (a .f) (a .c) (n .result) (f .ensures .0) (k .ensures) (n .ensures .0) (c .before .before .before .before .before .if2 .left)
+    (c .before .before .before .before .stood-before .result) (c .before .before .before .before .stood-before .ensures) (c .before .before .before .if3 .left) (c .before .wide3 .result)
+    (c .before .wide3 .ensures .0) (c .if4 .taken)
 
 sub-t11 : tie.Need-sub-t11
 sub-t11 c = search needs
@@ -75,7 +79,9 @@ returns-5 c =
     let f = c .before .before .before .before .before .before .before .before .before .before .before .wide in
     let k = c .before .before .before .before .before .before .before .before .strategy-at in
     let n = c .before .before .before .before .before .before .wide2 in
-    entry-more (a .book .now) (a .w) (f .result) (k .result) (a .f) (a .c) (n .result) (f .ensures .0) (k .ensures) (n .ensures .0) (c .before .before .before .before .before .if2 .left) (c .before .before .before .before .stood-before .result) (c .before .before .before .before .stood-before .ensures) (c .before .before .before .if3 .left) (c .before .wide3 .result) (c .before .wide3 .ensures .0) (c .if4 .left)
+    entry-more (a .book .now) (a .w) (f .result) (k .result) (a .f) (a .c) (n .result) (f .ensures .0) (k .ensures) (n .ensures .0) (c .before .before .before .before .before .if2 .left)
+    (c .before .before .before .before .stood-before .result) (c .before .before .before .before .stood-before .ensures) (c .before .before .before .if3 .left) (c .before .wide3 .result)
+    (c .before .wide3 .ensures .0) (c .if4 .left)
 
 pub entry-of-spec : {M : Type 1} → statement M
 entry-of-spec =

@@ -70,8 +70,11 @@ loop-less c = search needs
 loop-again : tie.Need-loop-again Inv-loop μ-loop
 loop-again c =
     let a = c .before .before .before .before .before .before .before .args in
-    let l = c .before .before .before .before .loop in
-    (marking-next (a .book .now) (a .shape) (c .before .before .before .before .before .before .before .pre .0) (l .marks) (l .j) (l .inv .0) (c .walk-on .result) (omega arith) (c .walk-on .ensures), l .inv .1)
+    let l = c .before .before .before .before .loop in (
+      marking-next (a .book .now) (a .shape) (c .before .before .before .before .before .before .before .pre .0) (l .marks) (l .j) (l .inv .0) (c .walk-on .result) (omega arith)
+          (c .walk-on .ensures),
+      l .inv .1,
+    )
 
 same-length : tie.Need-same-length Inv-loop μ-loop
 same-length c = c .before .before .loop .inv .0 .slots ∙ sym (c .before .before .before .before .before .pre .1)

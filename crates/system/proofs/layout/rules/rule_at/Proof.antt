@@ -35,7 +35,9 @@ add-t8 : tie.Need-add-t8
 add-t8 c = search needs
 
 returns : tie.Need-returns
-returns c = let a = c .before .before .before .before .before .args in place-made (a .book .now) (a .at) (c .before .before .wide .result) (c .wide2 .result) (c .before .before .wide .ensures .0) (c .wide2 .ensures .0)
+returns c =
+    let c5 = c .before .before .before .before .before in
+    let a = c5 .args in place-made (a .book .now) (a .at) (c .before .before .wide .result) (c .wide2 .result) (c .before .before .wide .ensures .0) (c .wide2 .ensures .0)
 
 pub rule-at-spec : {M : Type 1} → statement M
 rule-at-spec =

@@ -13,7 +13,8 @@ use Rattle.system.proofs.reader.numbers.read_numbers.Statement.{stateme
 use Rattle.system.proofs.reader.numbers.read_numbers.Tie as tie
 
 abbrev Inv-loop : tie.InvT-loop
-Inv-loop book at n high otherwise i₀ left₀ i left = (i ≤ length book) × ((f : Fault) → faultNumber f ≡ otherwise → sectionOf (times left (number book f 0 high) i) ≡ sectionOf (times n (number book f 0 high) at))
+Inv-loop book at n high otherwise i₀ left₀ i left = (i ≤ length book) × ((f : Fault) → faultNumber f ≡ otherwise → sectionOf (times left (number book f 0 high) i) ≡ sectionOf
+    (times n (number book f 0 high) at))
 
 abbrev μ-loop : tie.MeasureT-loop
 μ-loop book at n high otherwise i₀ left₀ i left = left

@@ -21,9 +21,14 @@ read-side-requires-2 c κs = let l = c .before .before .read-side in
     omega arith
 
 returns-2 : tie.Need-returns-2
-returns-2 c = let a = c .before .before .before .before .before .args in
-    let l = c .before .before .before .read-side in
-    (sym (rule-right (a .book .now) (signatureOf (a .book .now)) (a .at) (l .result) (l .ensures .0) (c .before .if1 .left) (c .read-side2 .result) (c .read-side2 .ensures .0)), c .read-side2 .ensures .1 .0)
+returns-2 c =
+    let c5 = c .before .before .before .before .before in
+    let a = c5 .args in
+    let l = c .before .before .before .read-side in (
+      sym (rule-right (a .book .now) (signatureOf (a .book .now)) (a .at) (l .result) (l .ensures .0) (c .before .if1 .left) (c .read-side2 .result)
+          (c .read-side2 .ensures .0)),
+      c .read-side2 .ensures .1 .0,
+    )
 
 pub read-rule-spec : {M : Type 1} → statement M
 read-rule-spec = tie.close (tie.spec read-side-requires returns read-side-requires-2 returns-2)

@@ -1,7 +1,9 @@
 -- The whole book: after each section that was taken an equation says what is still to be read.
 use Prim.Native.Nat.{ℕ, _+_}
 use mathlib.Core.List.{List}
-use Rattle.system.proofs.reader.sections.ScanSteps.{afterFirst, afterArities, afterCount, afterStrategies, scan-refused, number-bad, AfterFirst, AfterArities, AfterCount, AfterStrategies, scan-start, scan-count, scan-arities, scan-strategies-count, scan-strategies, scan-whole}
+use Rattle.system.proofs.reader.sections.ScanSteps.{afterFirst, afterArities, afterCount, afterStrategies, scan-refused, number-bad}
+use Rattle.system.proofs.reader.sections.ScanSteps.{AfterFirst, AfterArities, AfterCount, AfterStrategies}
+use Rattle.system.proofs.reader.sections.ScanSteps.{scan-start, scan-count, scan-arities, scan-strategies-count, scan-strategies, scan-whole}
 use Rattle.system.specs.Answers.{signatureOf}
 use Rattle.system.specs.Parser.{times, each, number, readStrategy, readRules}
 use Rattle.system.specs.Numbers.{range}
@@ -31,7 +33,8 @@ count-left c =
 strategies-left : (c : tie.Else3) → AfterCount (book (c .before .before .before .before .before)) (count (c .before .before .before .before .before))
 strategies-left c = scan-strategies-count _ (count (c .before .before .before .before .before)) (count-left (c .before .before)) (c .before .check2 .ensures .1 (c .if3 .left))
 
-rules-left : (c : tie.Else4) → AfterStrategies (book (c .before .before .before .before .before .before .before .before)) (count (c .before .before .before .before .before .before .before .before)) (c .before .before .read-strategies .result)
+rules-left : (c : tie.Else4) → AfterStrategies (book (c .before .before .before .before .before .before .before .before))
+    (count (c .before .before .before .before .before .before .before .before)) (c .before .before .read-strategies .result)
 rules-left c =
     let o = c .before .before .read-strategies in
     scan-strategies _ (count (c .before .before .before .before .before .before .before .before)) (strategies-left (c .before .before .before)) (o .result) (o .ensures .0) (c .if4 .left)
@@ -80,10 +83,13 @@ refused-requires-3 : tie.Need-refused-requires-3
 refused-requires-3 c κs = search needs
 
 returns-3 : tie.Need-returns-3
-returns-3 c = let ws = book (c .before .before .before .before .before .before) in
-    let n = count (c .before .before .before .before .before .before) in
+returns-3 c =
+    let c6 = c .before .before .before .before .before .before in
+    let ws = book c6 in
+    let n = count c6 in
     let k = c .before .before .check2 in
-    c .refused3 .ensures ∙ sym (number-bad ws range n n (n + 1) (afterCount ws (signatureOf ws)) (count-left (c .before .before .before) .0) (k .result) (k .ensures .0 range refl) (c .before .if3 .taken))
+    c .refused3 .ensures ∙ sym (number-bad ws range n n (n + 1) (afterCount ws (signatureOf ws)) (count-left (c .before .before .before) .0) (k .result) (k .ensures .0 range refl)
+    (c .before .if3 .taken))
 
 add-read-strategies : tie.Need-add-read-strategies
 add-read-strategies c = let w = c .before .before .before .before .before .wide .ensures in omega arith
@@ -95,10 +101,14 @@ refused-requires-4 : tie.Need-refused-requires-4
 refused-requires-4 c κs = search needs
 
 returns-4 : tie.Need-returns-4
-returns-4 c = let ws = book (c .before .before .before .before .before .before .before .before .before) in
-    let n = count (c .before .before .before .before .before .before .before .before .before) in
+returns-4 c =
+    let c4 = c .before .before .before .before in
+    let c9 = c4 .before .before .before .before .before in
+    let ws = book c9 in
+    let n = count c9 in
     let o = c .before .before .before .read-strategies in
-    c .refused4 .ensures ∙ sym (scan-refused ws (each (readStrategy ws) (signatureOf ws) (n + 2)) (afterStrategies ws (signatureOf ws)) (strategies-left (c .before .before .before .before)) (o .result) (o .ensures .0) (c .before .if4 .taken))
+    c .refused4 .ensures ∙ sym (scan-refused ws (each (readStrategy ws) (signatureOf ws) (n + 2)) (afterStrategies ws (signatureOf ws)) (strategies-left c4) (o .result) (o .ensures .0)
+    (c .before .if4 .taken))
 
 read-tail-requires : tie.Need-read-tail-requires
 read-tail-requires c κs = c .before .before .read-strategies .ensures .1
@@ -113,9 +123,13 @@ returns-5 c = let ws = book (c .before .before .before .before .before .before .
     c .refused5 .ensures ∙ sym (scan-refused ws (readRules ws (signatureOf ws) (o .place)) _ (rules-left (c .before .before .before .before) .rest) (t .result) (t .ensures .0) (c .before .if5 .taken))
 
 returns-6 : tie.Need-returns-6
-returns-6 c = let o = c .before .before .before .before .before .read-strategies .result in
+returns-6 c =
+    let c5 = c .before .before .before .before .before in
+    let c8 = c5 .before .before .before in
+    let c11 = c8 .before .before .before in
+    let o = c5 .read-strategies .result in
     let t = c .before .before .read-tail in
-    sym (scan-whole _ (count (c .before .before .before .before .before .before .before .before .before .before .before)) (count-left (c .before .before .before .before .before .before .before .before)) o (rules-left (c .before .before .before)) (t .result) (t .ensures .0) (c .if5 .left))
+    sym (scan-whole _ (count c11) (count-left c8) o (rules-left (c .before .before .before)) (t .result) (t .ensures .0) (c .if5 .left))
 
 pub read-sections-spec : {M : Type 1} → statement M
 read-sections-spec =

@@ -20,8 +20,10 @@ check-requires : tie.Need-check-requires
 check-requires c κs = search needs
 
 returns : tie.Need-returns
-returns c = let a = c .before .before .before .args in
-    (sym (side-refused (a .book .now) (signatureOf (a .book .now)) (a .hand) (a .known) (a .at) (c .before .check .result) (c .before .check .ensures .0 range refl) (c .if1 .taken)), (omega arith, omega arith))
+returns c = let a = c .before .before .before .args in (
+  sym (side-refused (a .book .now) (signatureOf (a .book .now)) (a .hand) (a .known) (a .at) (c .before .check .result) (c .before .check .ensures .0 range refl) (c .if1 .taken)),
+  (omega arith, omega arith),
+)
 
 add-read-words : tie.Need-add-read-words
 add-read-words c = let h = size c .here in omega arith

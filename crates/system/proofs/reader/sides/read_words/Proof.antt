@@ -29,9 +29,13 @@ add-i : tie.Need-add-i Inv-loop μ-loop
 add-i c = search needs
 
 returns : tie.Need-returns Inv-loop μ-loop
-returns c = let l = c .before .before .loop in
-    let a = c .before .before .before .before .args in
-    (sym (words-missing (a .book .now) (signatureOf (a .book .now)) (a .hand) (eqb (l .j) 0) (a .n - l .j) (l .due) (l .seen) (a .at + l .j) (omega arith) (c .if1 .taken)) ∙ l .inv .4, (omega arith, omega arith))
+returns c =
+    let c4 = c .before .before .before .before in
+    let l = c .before .before .loop in
+    let a = c4 .args in (
+      sym (words-missing (a .book .now) (signatureOf (a .book .now)) (a .hand) (eqb (l .j) 0) (a .n - l .j) (l .due) (l .seen) (a .at + l .j) (omega arith) (c .if1 .taken)) ∙ l .inv .4,
+      (omega arith, omega arith),
+    )
 
 mul-w : tie.Need-mul-w Inv-loop μ-loop
 mul-w c = search needs
@@ -43,9 +47,15 @@ side-fault-requires : tie.Need-side-fault-requires Inv-loop μ-loop
 side-fault-requires c κs = search needs
 
 returns-2 : tie.Need-returns-2 Inv-loop μ-loop
-returns-2 c = let l = c .before .before .before .before .before .loop in
-    let a = c .before .before .before .before .before .before .before .args in
-    (sym (words-fault (a .book .now) (signatureOf (a .book .now)) (a .hand) (eqb (l .j) 0) (a .n - l .j) (l .due) (l .seen) (a .at + l .j) (omega arith) (omega arith) (c .before .side-fault .result) (c .before .side-fault .ensures) (c .if2 .taken)) ∙ l .inv .4, (omega arith, omega arith))
+returns-2 c =
+    let c5 = c .before .before .before .before .before in
+    let c7 = c5 .before .before in
+    let l = c5 .loop in
+    let a = c7 .args in (
+      sym (words-fault (a .book .now) (signatureOf (a .book .now)) (a .hand) (eqb (l .j) 0) (a .n - l .j) (l .due) (l .seen) (a .at + l .j) (omega arith) (omega arith)
+          (c .before .side-fault .result) (c .before .side-fault .ensures) (c .if2 .taken)) ∙ l .inv .4,
+      (omega arith, omega arith),
+    )
 
 sub-due : tie.Need-sub-due Inv-loop μ-loop
 sub-due c = let l = c .before .before .before .before .before .loop in
@@ -69,12 +79,16 @@ loop-less : tie.Need-loop-less Inv-loop μ-loop
 loop-less c = search needs
 
 loop-again : tie.Need-loop-again Inv-loop μ-loop
-loop-again c = let l = c .before .before .before .before .before .before .before .loop in
-    let a = c .before .before .before .before .before .before .before .before .before .args in
+loop-again c =
+    let c7 = c .before .before .before .before .before .before .before in
+    let c9 = c7 .before .before in
+    let l = c7 .loop in
+    let a = c9 .args in
     let g = signatureOf (a .book .now) in
     let w = getD (a .book .now) (a .at + l .j) 0 in
     let h = side-open g (a .hand) (eqb (l .j) 0) (l .due) (l .seen) w (sym (c .before .before .before .side-fault .ensures) ∙ c .before .before .if2 .left) in
-    let t = words-turn (a .book .now) g (a .hand) (a .n) (l .due) (l .seen) (a .at) (l .j) (omega arith) (omega arith) (c .before .before .before .side-fault .result) (c .before .arity .result) (c .learn .result)
+    let t = words-turn (a .book .now) g (a .hand) (a .n) (l .due) (l .seen) (a .at) (l .j) (omega arith) (omega arith) (c .before .before .before .side-fault .result)
+    (c .before .arity .result) (c .learn .result)
     (c .before .before .before .side-fault .ensures) (c .before .before .if2 .left) (c .before .arity .ensures .0) (c .learn .ensures .0) in
     let k = c .learn .ensures .1 in
     let r = c .before .arity .ensures .1 in
@@ -84,19 +98,29 @@ add-t18 : tie.Need-add-t18 Inv-loop μ-loop
 add-t18 c = search needs
 
 returns-3 : tie.Need-returns-3 Inv-loop μ-loop
-returns-3 c = let l = c .before .before .loop in
-    let a = c .before .before .before .before .args in
-    let e : a .at + l .j ≡ a .at + a .n = omega arith in
-    (rw (← e) (sym (words-short (a .book .now) (signatureOf (a .book .now)) (a .hand) (eqb (l .j) 0) (a .n - l .j) (l .due) (l .seen) (a .at + l .j) (omega arith) (omega arith)) ∙ l .inv .4), (omega arith, omega arith))
+returns-3 c =
+    let c4 = c .before .before .before .before in
+    let l = c .before .before .loop in
+    let a = c4 .args in
+    let e : a .at + l .j ≡ a .at + a .n = omega arith in (
+      rw (← e) (sym (words-short (a .book .now) (signatureOf (a .book .now)) (a .hand) (eqb (l .j) 0) (a .n - l .j) (l .due) (l .seen) (a .at + l .j) (omega arith) (omega arith))
+          ∙ l .inv .4),
+      (omega arith, omega arith),
+    )
 
 add-t19 : tie.Need-add-t19 Inv-loop μ-loop
 add-t19 c = search needs
 
 returns-4 : tie.Need-returns-4 Inv-loop μ-loop
-returns-4 c = let l = c .before .before .loop in
-    let a = c .before .before .before .before .args in
-    let e : a .at + l .j ≡ a .at + a .n = omega arith in
-    (rw (← e) (sym (words-done (a .book .now) (signatureOf (a .book .now)) (a .hand) (eqb (l .j) 0) (a .n - l .j) (l .due) (l .seen) (a .at + l .j) (omega arith) (omega arith)) ∙ l .inv .4), (omega arith, omega arith))
+returns-4 c =
+    let c4 = c .before .before .before .before in
+    let l = c .before .before .loop in
+    let a = c4 .args in
+    let e : a .at + l .j ≡ a .at + a .n = omega arith in (
+      rw (← e) (sym (words-done (a .book .now) (signatureOf (a .book .now)) (a .hand) (eqb (l .j) 0) (a .n - l .j) (l .due) (l .seen) (a .at + l .j) (omega arith) (omega arith))
+          ∙ l .inv .4),
+      (omega arith, omega arith),
+    )
 
 pub read-words-spec : {M : Type 1} → statement M
 read-words-spec =

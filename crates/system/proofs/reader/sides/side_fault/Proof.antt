@@ -25,24 +25,36 @@ wide-requires : tie.Need-wide-requires
 wide-requires c κs = search needs
 
 returns-3 : tie.Need-returns-3
-returns-3 c = let a = c .before .before .before .before .before .before .args in
+returns-3 c =
+    let c6 = c .before .before .before .before .before .before in
+    let a = c6 .args in
     let w = c .before .wide .ensures in
-    sym (ap numberOr0 (side-low (signatureOf (a .book .now)) (a .hand) (a .first) (a .due) (a .known) (a .w) (omega arith) (sym (c .before .before .before .is-symbol .ensures) ∙ c .before .before .if2 .left) (omega arith)))
+    sym (ap numberOr0 (side-low (signatureOf (a .book .now)) (a .hand) (a .first) (a .due) (a .known) (a .w) (omega arith)
+    (sym (c .before .before .before .is-symbol .ensures) ∙ c .before .before .if2 .left) (omega arith)))
 
 returns-4 : tie.Need-returns-4
-returns-4 c = let a = c .before .before .before .before .before .before .before .args in
+returns-4 c =
+    let c4 = c .before .before .before .before in
+    let c7 = c4 .before .before .before in
+    let a = c7 .args in
     let w = c .before .before .wide .ensures in
-    sym (ap numberOr0 (side-high (signatureOf (a .book .now)) (a .hand) (a .first) (a .due) (a .known) (a .w) (omega arith) (sym (c .before .before .before .before .is-symbol .ensures) ∙ c .before .before .before .if2 .left) (omega arith)))
+    sym (ap numberOr0 (side-high (signatureOf (a .book .now)) (a .hand) (a .first) (a .due) (a .known) (a .w) (omega arith)
+    (sym (c4 .is-symbol .ensures) ∙ c .before .before .before .if2 .left) (omega arith)))
 
 variable-fault-requires : tie.Need-variable-fault-requires
 variable-fault-requires c κs = search needs
 
 returns-5 : tie.Need-returns-5
-returns-5 c = let a = c .before .before .before .before .before .before .before .before .args in
+returns-5 c =
+    let c4 = c .before .before .before .before in
+    let c5 = c4 .before in
+    let c8 = c5 .before .before .before in
+    let a = c8 .args in
     let w = c .before .before .before .wide .ensures in
     c .variable-fault .ensures
     ∙ ap (λ k. numberOr0 (variableFault (a .hand) (a .first) (a .known) (k - 32768))) (w .0)
-    ∙ sym (ap numberOr0 (side-variable (signatureOf (a .book .now)) (a .hand) (a .first) (a .due) (a .known) (a .w) (omega arith) (sym (c .before .before .before .before .before .is-symbol .ensures) ∙ c .before .before .before .before .if2 .left) (omega arith) (omega arith)))
+    ∙ sym (ap numberOr0 (side-variable (signatureOf (a .book .now)) (a .hand) (a .first) (a .due) (a .known) (a .w) (omega arith) (sym (c5 .is-symbol .ensures) ∙ c4 .if2 .left)
+    (omega arith) (omega arith)))
 
 pub side-fault-spec : {M : Type 1} → statement M
 side-fault-spec =
