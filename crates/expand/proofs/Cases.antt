@@ -4,8 +4,9 @@ use mathlib.Core.List.{[], _∷_}
 use lib.ListN.{replicate}
 use Rattle.evaluation.specs.Expansion.{result}
 use Rattle.printing.specs.Text.{ascii, decimalIn, decimal, heading, numbersLine, wordLines}
-use Rattle.expand.specs.Words.{wordsOf}
-use Rattle.expand.specs.Report.{absent, bytes, check, onZero, answerText, textOf, report}
+use Rattle.files.specs.Words.{wordsOf}
+use Rattle.files.specs.Files.{absent, bytes, check}
+use Rattle.expand.specs.Report.{onZero, answerText, textOf, report}
 
 pub report-cases :
     (report absent absent ≡ ascii "missing\n")

@@ -1,42 +1,17 @@
 -- What the program prints (01, "The program"), whatever it finds of its two files.
-use Prim.Native.Nat.{ℕ, zero, suc, _%_}
-use mathlib.Core.Bool.{Bool, true, false, cond}
+use Prim.Native.Nat.{ℕ, zero, suc}
+use mathlib.Core.Bool.{cond}
 use mathlib.Core.List.{List, [], _∷_, _++_}
-use lib.ListN.{length}
-use lib.Dec.{ltb, eqb}
+use lib.Dec.{ltb}
 use Rattle.buffers.specs.Words.{zeros}
 use Rattle.system.specs.Limits.{termWords, areaWords}
 use Rattle.evaluation.specs.Expansion.{Expansion, expansion, handedBack}
 use Rattle.printing.specs.Text.{ascii, line, heading, numbersLine, wordLines}
-use Rattle.expand.specs.Words.{wordsOf}
+use Rattle.files.specs.Files.{File, bookBytes, Checked, stops, holds, check}
 
--- a file: it is not there, or it has these bytes
-pub data File : Type 0 where
-  absent : File
-  bytes : List ℕ → File
-
-abbrev pub fileOf : Bool → List ℕ → File
-fileOf false bs = absent
-fileOf true bs = bytes bs
-
--- the most bytes of a book and of a cue file: "`long` (over 42,502 or 8,194 bytes)"
-abbrev pub bookBytes : ℕ
-bookBytes = 42502
-
+-- the most bytes of a cue file: "`long` (over .. 8,194 bytes)"
 abbrev pub cueBytes : ℕ
 cueBytes = 8194
-
--- what the checks make of a file: the one word that is printed, or the file's words
-pub data Checked : Type 0 where
-  stops : List ℕ → Checked
-  holds : List ℕ → Checked
-
--- "for a file `missing`, `long` .., `odd` in length .. checks in this order"
-unfoldable pub check : ℕ → File → Checked
-check most absent = stops (ascii "missing")
-check most (bytes bs) =
-    cond (ltb most (length bs)) (stops (ascii "long"))
-    (cond (eqb (length bs % 2) 0) (holds (wordsOf bs)) (stops (ascii "odd")))
 
 -- "a heading, the three numbers, and on 0 the answer, a word a line"
 unfoldable pub onZero : ℕ → List ℕ → List ℕ
@@ -64,9 +39,3 @@ textBytes = 24638
 -- a slice that has not so many bytes gets no text at all
 abbrev pub inRoom : ℕ → List ℕ → List ℕ
 inRoom room text = cond (ltb room textBytes) [] text
-
--- ---- inner: what is printed of one file by itself
-
-abbrev pub refusal : Checked → List ℕ
-refusal (stops why) = line why
-refusal (holds ws) = []

@@ -5,14 +5,15 @@ ghost use mathlib.Core.List.{[]};
 ghost use lib.ListN.{length, getD, drop};
 ghost use Rattle.evaluation.specs.Expansion.{expansion, result};
 ghost use Rattle.printing.specs.Text.{Written};
-ghost use Rattle.expand.specs.Words.{wordsOf};
-ghost use Rattle.expand.specs.Report.{fileOf, holds, check, refusal, answerText, textOf, report, inRoom};
-use crate::words::load;
+ghost use Rattle.files.specs.Words.{wordsOf};
+ghost use Rattle.files.specs.Files.{fileOf, holds};
+ghost use Rattle.expand.specs.Report.{answerText, textOf, report, inRoom};
+use files::checks::BOOK_BYTES;
+use files::checks::refuse;
+use files::words::load;
 use system::Answer;
 
-// The most bytes of a book and of a cue file, and those that any text has room in.
-pub const BOOK_BYTES: usize = 42502;
-
+// The most bytes of a cue file, and those that any text has room in.
 pub const CUE_BYTES: usize = 8194;
 
 pub const TEXT_BYTES: usize = 24638;
@@ -39,23 +40,6 @@ pub fn report(book_there: bool, book: &[u8], cue_there: bool, cue: &[u8], text: 
         return printing::put_line(text, 0, b"short");
     }
     expand_files(book, cue, text)
-}
-
-// The word for a file that the program does not take; nothing, and 0, for one that it takes.
-fn refuse(there: bool, bytes: &[u8], most: usize, text: &mut [u8]) -> usize
-    requires { ⌜ 8 ≤ length (now text) ⌝ }
-    ensures { λ r. ⌜ Written (now (text .entry)) 0 (refusal (check most (fileOf there (now (bytes .entry))))) r (now (text .exit)) ⌝ }
-{
-    if !there {
-        return printing::put_line(text, 0, b"missing");
-    }
-    if most < bytes.len() {
-        return printing::put_line(text, 0, b"long");
-    }
-    if bytes.len() % 2 != 0 {
-        return printing::put_line(text, 0, b"odd");
-    }
-    0
 }
 
 // Both files are taken, and the cue file has its first word.

@@ -3,8 +3,10 @@ use native.Mathlib.Omega.{arith}
 use lib.ListN.{length}
 use borrow.Author.Needs.{needs}
 use Rattle.printing.proofs.Writing.{written-nothing}
-use Rattle.expand.specs.Report.{bookBytes, cueBytes}
-use Rattle.expand.proofs.Reports.{Taken, taken, room-none, by-book, by-cue, by-short, by-answer}
+use Rattle.files.specs.Files.{bookBytes}
+use Rattle.files.proofs.checks.Checks.{Taken, taken}
+use Rattle.expand.specs.Report.{cueBytes}
+use Rattle.expand.proofs.Reports.{room-none, by-book, by-cue, by-short, by-answer}
 use Rattle.expand.proofs.report.report.Statement.{statement}
 use Rattle.expand.proofs.report.report.Tie as tie
 

@@ -8,7 +8,7 @@ use lib.ListN.{length, getD, take, drop, set}
 use lib.Seq.{take-all, take-at, take-suc, length-take-le, length-sets, sets-eq}
 use Rattle.buffers.specs.Words.{over}
 use Rattle.buffers.proofs.Over.{over-snoc}
-use Rattle.expand.specs.Words.{wordOf, wordsOf}
+use Rattle.files.specs.Words.{wordOf, wordsOf}
 
 pub words-length : (bs : List ℕ) → length (wordsOf bs) ≡ length bs / 2
 unfolding wordsOf

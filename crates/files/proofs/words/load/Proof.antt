@@ -1,13 +1,13 @@
 -- `load` meets its contract.
-use Rattle.expand.proofs.Loads.{words-length, load-turn, load-end}
-use Rattle.expand.specs.Words.{wordsOf}
+use Rattle.files.proofs.words.Loads.{words-length, load-turn, load-end}
+use Rattle.files.specs.Words.{wordsOf}
 use Rattle.buffers.specs.Words.{over}
 use lib.ListN.{length, take, length-set}
 use mathlib.Core.Path.{_≡_, sym}
 use Prim.Native.Nat.{_≤_, _-_}
 use borrow.Author.Needs.{needs}
-use Rattle.expand.proofs.words.load.Statement.{statement}
-use Rattle.expand.proofs.words.load.Tie as tie
+use Rattle.files.proofs.words.load.Statement.{statement}
+use Rattle.files.proofs.words.load.Tie as tie
 
 abbrev Inv-loop : tie.InvT-loop
 Inv-loop bytes words₀ n i₀ words i = (words ≡ over words₀ 0 (take i (wordsOf bytes))) × (length words ≡ length words₀) × (i ≤ n)

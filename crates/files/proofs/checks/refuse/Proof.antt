@@ -3,9 +3,9 @@ use native.Mathlib.Omega.{arith}
 use borrow.Author.Needs.{needs}
 use borrow.Author.Tests.{not-true, not-false}
 use Rattle.printing.proofs.Writing.{written-nothing}
-use Rattle.expand.proofs.Reports.{check-missing, check-long, check-odd, check-holds}
-use Rattle.expand.proofs.report.refuse.Statement.{statement}
-use Rattle.expand.proofs.report.refuse.Tie as tie
+use Rattle.files.proofs.checks.Checks.{check-missing, check-long, check-odd, check-holds}
+use Rattle.files.proofs.checks.refuse.Statement.{statement}
+use Rattle.files.proofs.checks.refuse.Tie as tie
 
 slice-aggregate-put-line : tie.Need-slice-aggregate-put-line
 slice-aggregate-put-line c = search needs

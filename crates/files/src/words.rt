@@ -3,7 +3,7 @@ ghost use Prim.Native.Nat.{_*_, _≤_};
 ghost use mathlib.Core.Path.{_≡_};
 ghost use lib.ListN.{length};
 ghost use Rattle.buffers.specs.Words.{over};
-ghost use Rattle.expand.specs.Words.{wordOf, wordsOf};
+ghost use Rattle.files.specs.Words.{wordOf, wordsOf};
 
 // A word from its two bytes, low byte first.
 fn word(low: u8, high: u8) -> u16

@@ -1,7 +1,7 @@
 -- `word` meets its contract.
 use borrow.Author.Needs.{needs}
-use Rattle.expand.proofs.words.word.Statement.{statement}
-use Rattle.expand.proofs.words.word.Tie as tie
+use Rattle.files.proofs.words.word.Statement.{statement}
+use Rattle.files.proofs.words.word.Tie as tie
 
 mul-result : tie.Need-mul-result
 mul-result c = search needs
