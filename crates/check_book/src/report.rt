@@ -1,0 +1,56 @@
+// What the program prints, from the bytes of show.book.
+ghost use Prim.Native.Nat.{_≤_};
+ghost use lib.ListN.{length};
+ghost use Rattle.files.specs.Words.{wordsOf};
+ghost use Rattle.files.specs.Files.{fileOf};
+ghost use Rattle.check_book.specs.Verdict.{Says};
+ghost use Rattle.check_book.specs.report.Told.{Told};
+use crate::lines::put_fault;
+use crate::lines::put_order;
+use crate::lines::put_taken;
+use files::checks::BOOK_BYTES;
+use files::checks::refuse;
+use files::words::load;
+use system::numbers::TAKEN;
+
+// The bytes that any text has room in.
+pub const TEXT_BYTES: usize = 256;
+
+// Puts the text for the book's file at the start of `text` and answers how long it is. It is told whether the file is there, and its bytes:
+// all of them, or more than it may have. A `text` below 256 bytes stays as it is, and the answer is 0.
+pub fn verdict(there: bool, book: &[u8], text: &mut [u8]) -> usize
+    ensures { λ r. ⌜ Says (now (text .entry)) (fileOf there (now (book .entry))) r (now (text .exit)) ⌝ }
+{
+    if text.len() < TEXT_BYTES {
+        return 0;
+    }
+    let n = refuse(there, book, BOOK_BYTES, text);
+    if n != 0 {
+        return n;
+    }
+    check_file(book, text)
+}
+
+// The file is taken.
+fn check_file(book: &[u8], text: &mut [u8]) -> usize
+    requires { ⌜ (length (now book) ≤ 42502) × (256 ≤ length (now text)) ⌝ }
+    ensures { λ r. ⌜ Told (wordsOf (now (book .entry))) (now (text .entry)) r (now (text .exit)) ⌝ }
+{
+    let mut words = [0u16; 21251];
+    let n = load(book, &mut words);
+    check_words(&words[0..n], text)
+}
+
+// The reader's line, and the order test's where the reader takes the book.
+fn check_words(book: &[u16], text: &mut [u8]) -> usize
+    requires { ⌜ 256 ≤ length (now text) ⌝ }
+    ensures { λ r. ⌜ Told (now (book .entry)) (now (text .entry)) r (now (text .exit)) ⌝ }
+{
+    let a = system::read(book);
+    if a.number != TAKEN {
+        return put_fault(text, a);
+    }
+    let order = put_taken(text, a.place);
+    let t = matching::test_strategies(book);
+    put_order(text, order, t)
+}
