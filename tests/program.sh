@@ -1,42 +1,10 @@
 #!/usr/bin/env bash
-# What the program prints for its two files (01, "The program"): each file missing, long, odd or short, on either side of its limits, the
+# What the program `expand` prints for its two files (01, "The program"): each file missing, long, odd or short, on either side of its limits, the
 # book before the cue file, and some answers of every kind.
 #     tests/program.sh PROGRAM
 set -euo pipefail
-program=$(realpath "$1")
-folder=$(mktemp -d)
-trap 'rm -rf "$folder"' EXIT
-cd "$folder"
-cases=0
-wrong=0
-
-# words, low byte first
-words() {
-    local w
-    for w in "$@"; do printf "\\x$(printf %02x $((w % 256)))\\x$(printf %02x $((w / 256)))"; done
-}
-zeros() { head -c "$1" /dev/zero; }
-no() { rm -rf "$1"; }
-book_b="5 0 2 1 1 0 5 0 1 1 2 1 0 2 1 0 1 0 3 1 4 3 1 0 4 4 2 1 32768 32769 1 32768 4 3 1 32768 32769 1 32769"
-# book B with the words that follow it
-book() { words $book_b "$@" > show.book; }
+. "$(dirname "$0")/files.sh"
 cue() { words "$@" > show.cue; }
-
-# what the program prints here, its lines given one by one; the last line must be ended too
-prints() { # CASE LINE..
-    local name=$1
-    shift
-    cases=$((cases + 1))
-    printf '%s\n' "$@" > expected
-    "$program" > printed < /dev/null || true
-    if ! cmp -s expected printed; then
-        printf 'program: %s: it should print\n' "$name"
-        sed 's/^/    /' expected
-        printf 'and prints\n'
-        sed 's/^/    /' printed
-        wrong=1
-    fi
-}
 answers() { # CASE NUMBERS WORD..
     local name=$1
     shift
@@ -150,5 +118,4 @@ words 5 0 2 1 1 0 5 0 2 1 2 2 1 0 2 1 0 1 0 3 1 4 3 1 0 4 4 2 1 32768 32769 1 32
 cue 64 4
 answers 'C13' '13 0 64'
 
-[ "$wrong" = 0 ] || exit 1
-printf 'program: %s cases of files print what 01 says\n' "$cases"
+all_print 'what 01 says'

@@ -1,6 +1,6 @@
 #!/usr/bin/env bash
 # The checks from outside: the C interface and its header, the stack of each operation, the C example, random books against the second
-# evaluator (which must also find four planted faults), the words tool, the examples, and the program's files. Everything is written under
+# evaluator (which must also find four planted faults), the words tool, the examples, and the programs' files. Everything is written under
 # target/outside.
 #     tests/run.sh [CASES of the random run; 100000 if not said]
 set -euo pipefail
@@ -92,8 +92,13 @@ for folder in examples/*/; do
     diff "$folder/stdout" "$to/$name/stdout" || fail "example $name prints something else"
     say "example $name prints what it should"
 done
-said=$(bash tests/program.sh target/bin/expand) || { printf '%s\n' "$said"; fail "the program prints something else for its files"; }
-say "$said"
+quiet rt check check_book
+prints() { # SCRIPT PROGRAM
+    said=$(bash "$1" "target/bin/$2") || { printf '%s\n' "$said"; fail "$2 prints something else for its files"; }
+    say "$said"
+}
+prints tests/program.sh expand
+prints tests/check_book.sh check_book
 
 # 7. the benchmark builds, for one archive and for two, and all agree (its times are not looked at here)
 quiet bash tests/bench/run.sh 0

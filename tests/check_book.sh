@@ -1,0 +1,72 @@
+#!/usr/bin/env bash
+# What the program `check_book` prints for show.book: a file missing, long or odd, each number of the reader with its place and sentence
+# (01, "The table of numbers"), and the order test, passed and failed.
+#     tests/check_book.sh PROGRAM
+set -euo pipefail
+. "$(dirname "$0")/files.sh"
+b=($book_b)
+
+passes='order test: taken, every name passes'
+fails() { printf 'order test: unsettled at name %s: its order holds no 0, or an entry after the last 0 is not idle' "$1"; }
+# a book by its words, and the one line that it gets: the table's word, the place, and the table's sentence
+refused() { # CASE WORD PLACE SENTENCE WORDS..
+    words "${@:5}" > show.book
+    prints "$1" "show.book: $2 at word $3: $4"
+}
+taken() { # CASE LENGTH LINE WORDS..
+    words "${@:4}" > show.book
+    prints "$1" "show.book: taken, $2 words" "$3"
+}
+
+# the file
+no show.book
+prints 'no book' missing
+zeros 42503 > show.book
+prints 'a book of an odd length, one byte too long' long
+zeros 42504 > show.book
+prints 'a book two bytes too long' long
+zeros 100000 > show.book
+prints 'a book of many bytes too many' long
+zeros 42501 > show.book
+prints 'a book one byte below its limit' odd
+zeros 1 > show.book
+prints 'a book of one byte' odd
+
+# 1 to 8
+short='a word the book needs is missing'
+refused 'C5, an empty book' short 0 "$short"
+refused 'C2, book B without its last word' short 38 "$short" ${book_b% *}
+no show.book; mkdir show.book
+prints 'a folder for a book: it opens, and has no bytes' "show.book: short at word 0: $short"
+no show.book
+count='a count or length outside its range'
+refused 'C6, no names' count 0 "$count" 0
+refused '257 names' count 0 "$count" 257
+refused 'a name with nine arguments' count 1 "$count" 1 9
+refused 'two names and one order' count 3 "$count" 2 0 0 1
+zeros 42502 > show.book
+prints 'a book as long as it may be' "show.book: count at word 0: $count"
+refused 'an order that asks for an argument that is not there' entry 4 'an order entry above the argument count' 1 0 1 1 1 0
+refused 'a left side of a name that is not there' stranger 6 "a side's word is neither name nor placeholder" 1 0 1 0 1 1 1 1 0
+ragged='a side is complete too early, or not at its last word'
+refused 'a left side of two cues' ragged 7 "$ragged" 1 0 1 0 1 2 0 0 1 0
+refused 'a left side without its argument: the word after it' ragged 7 "$ragged" 1 1 1 0 1 1 0
+refused 'a left side that is a placeholder' headless 6 'a left side starts with a placeholder' 1 0 1 0 1 1 32768 1 0
+stray='a left placeholder is not the next one, or a right one is not in the left'
+refused 'C4, word 29 of book B made 32768' stray 29 "$stray" "${b[@]:0:29}" 32768 "${b[@]:30}"
+refused 'placeholder 1 before 0' stray 7 "$stray" 1 1 1 0 1 2 0 32769 1 0
+refused 'a placeholder on the right alone' stray 8 "$stray" 1 0 1 0 1 1 0 1 32768
+surplus='words after the last rule'
+refused 'C3, book B with one word more' surplus 39 "$surplus" $book_b 0
+refused 'a word after no rules' surplus 5 "$surplus" 1 0 1 0 0 7
+
+# taken, and the order test
+taken 'C1, book B' 39 "$passes" $book_b
+taken 'one name and no rules' 5 "$passes" 1 0 1 0 0
+taken '256 names' 515 "$passes" 256 $(printf '0 %.0s' {1..256}) 256 $(printf '0 %.0s' {1..256}) 0
+taken 'C10, the order of head 0 1' 39 "$(fails 2)" "${b[@]:0:11}" 0 1 "${b[@]:13}"
+taken 'a rule for a name whose order is empty' 9 "$(fails 0)" 1 0 1 0 1 1 0 1 0
+taken 'an idle argument after the last 0' 14 "$passes" 2 0 1 2 0 2 0 1 1 2 1 32768 1 0
+taken 'one that is not idle' 14 "$(fails 1)" 2 0 1 2 0 2 0 1 1 2 1 0 1 0
+
+all_print "01's words"

@@ -1,0 +1,41 @@
+# For the scripts that hold what a program prints for its files to lines written by hand from 01: sourced with the program's path. It goes
+# to a folder of its own, which is removed at the end.
+program=$(realpath "$1")
+folder=$(mktemp -d)
+trap 'rm -rf "$folder"' EXIT
+cd "$folder"
+cases=0
+wrong=0
+
+# words, low byte first
+words() {
+    local w
+    for w in "$@"; do printf "\\x$(printf %02x $((w % 256)))\\x$(printf %02x $((w / 256)))"; done
+}
+zeros() { head -c "$1" /dev/zero; }
+no() { rm -rf "$1"; }
+book_b="5 0 2 1 1 0 5 0 1 1 2 1 0 2 1 0 1 0 3 1 4 3 1 0 4 4 2 1 32768 32769 1 32768 4 3 1 32768 32769 1 32769"
+# book B with the words that follow it
+book() { words $book_b "$@" > show.book; }
+
+# what the program prints here, its lines given one by one; the last line must be ended too
+prints() { # CASE LINE..
+    local name=$1
+    shift
+    cases=$((cases + 1))
+    printf '%s\n' "$@" > expected
+    "$program" > printed < /dev/null || true
+    if ! cmp -s expected printed; then
+        printf '%s: %s: it should print\n' "$(basename "$program")" "$name"
+        sed 's/^/    /' expected
+        printf 'and prints\n'
+        sed 's/^/    /' printed
+        wrong=1
+    fi
+}
+
+# the last line of a script: how many cases there were, if all are right
+all_print() { # WHAT
+    [ "$wrong" = 0 ] || exit 1
+    printf '%s: %s cases of files print %s\n' "$(basename "$program")" "$cases" "$1"
+}
