@@ -4,7 +4,7 @@ use borrow.Author.Needs.{needs}
 use Rattle.buffers.specs.Words.{zeros}
 use Rattle.files.specs.Words.{wordsOf}
 use Rattle.files.proofs.words.Loads.{words-length, Loaded, loaded}
-use Rattle.expand.proofs.Reports.{text-words}
+use Rattle.expand.proofs.report.Reports.{text-words}
 use Rattle.expand.proofs.report.expand_files.Statement.{statement}
 use Rattle.expand.proofs.report.expand_files.Tie as tie
 

@@ -5,7 +5,7 @@ use lib.ListN.{length, drop, length-drop}
 use lib.Seq.{take-all}
 use borrow.Author.Needs.{needs}
 use Rattle.evaluation.proofs.Demand3.{handed-fits}
-use Rattle.expand.proofs.Reports.{expanded}
+use Rattle.expand.proofs.report.Reports.{expanded}
 use Rattle.expand.proofs.report.expand_words.Statement.{statement}
 use Rattle.expand.proofs.report.expand_words.Tie as tie
 

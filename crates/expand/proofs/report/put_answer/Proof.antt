@@ -4,7 +4,7 @@ use native.Mathlib.Omega.{arith}
 use lib.ListN.{length-take}
 use borrow.Author.Needs.{needs}
 use Rattle.printing.proofs.Writing.{written-length, heading-length}
-use Rattle.expand.proofs.Reports.{answer-refused, answer-words}
+use Rattle.expand.proofs.report.Reports.{answer-refused, answer-words}
 use Rattle.expand.proofs.report.put_answer.Statement.{statement}
 use Rattle.expand.proofs.report.put_answer.Tie as tie
 

@@ -6,7 +6,7 @@ use Rattle.printing.proofs.Writing.{written-nothing}
 use Rattle.files.specs.Files.{bookBytes}
 use Rattle.files.proofs.checks.Checks.{Taken, taken}
 use Rattle.expand.specs.Report.{cueBytes}
-use Rattle.expand.proofs.Reports.{room-none, by-book, by-cue, by-short, by-answer}
+use Rattle.expand.proofs.report.Reports.{room-none, by-book, by-cue, by-short, by-answer}
 use Rattle.expand.proofs.report.report.Statement.{statement}
 use Rattle.expand.proofs.report.report.Tie as tie
 
