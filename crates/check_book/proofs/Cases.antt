@@ -4,7 +4,7 @@ use mathlib.Core.List.{[], _∷_}
 use lib.ListN.{replicate}
 use Rattle.system.specs.declared.Answer.{Answer}
 use Rattle.system.specs.Numbers.{missing, unbound, trailing}
-use Rattle.system.specs.Reader.{ok}
+use Rattle.system.specs.Parser.{ok}
 use Rattle.printing.specs.Text.{ascii, decimalIn, decimal}
 use Rattle.files.specs.Words.{wordsOf}
 use Rattle.files.specs.Files.{absent, bytes, bookBytes, check}

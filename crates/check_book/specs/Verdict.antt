@@ -9,8 +9,8 @@ use lib.Dec.{ltb}
 use Rattle.system.specs.declared.Answer.{Answer}
 use Rattle.system.specs.Numbers.{Fault, missing, range, entry, unknown, unbalanced, variableHead, unbound, trailing}
 use Rattle.system.specs.System.{System}
-use Rattle.system.specs.Reader.{Parsed, ok, fault, read}
-use Rattle.matching.specs.Safety.{TestedBook}
+use Rattle.system.specs.Parser.{Parsed, ok, fault, read}
+use Rattle.matching.specs.StrategyTest.{TestedBook}
 use Rattle.printing.specs.Text.{ascii, decimal, line, Written}
 use Rattle.files.specs.Files.{File, bookBytes, Checked, stops, holds, check}
 

@@ -9,10 +9,10 @@ use borrow.Author.Tests.{lt-ltb, le-ltb}
 use Rattle.system.specs.declared.Answer.{Answer}
 use Rattle.system.specs.Numbers.{faultNumber}
 use Rattle.system.specs.System.{System}
-use Rattle.system.specs.Reader.{Parsed, ok, fault, read}
+use Rattle.system.specs.Parser.{Parsed, ok, fault, read}
 use Rattle.system.specs.Answers.{answerOf}
-use Rattle.system.proofs.Located.{fault-not-zero}
-use Rattle.matching.specs.Safety.{TestedBook}
+use Rattle.system.proofs.FaultNumbers.{fault-not-zero}
+use Rattle.matching.specs.StrategyTest.{TestedBook}
 use Rattle.printing.specs.Text.{Written}
 use Rattle.printing.proofs.Writing.{written-then, written-nothing}
 use Rattle.files.specs.Words.{wordsOf}

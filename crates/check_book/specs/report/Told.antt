@@ -2,8 +2,8 @@
 use Prim.Native.Nat.{ℕ}
 use mathlib.Core.List.{List}
 use Rattle.system.specs.declared.Answer.{Answer}
-use Rattle.system.specs.Reader.{read}
-use Rattle.matching.specs.Safety.{TestedBook}
+use Rattle.system.specs.Parser.{read}
+use Rattle.matching.specs.StrategyTest.{TestedBook}
 use Rattle.printing.specs.Text.{Written}
 use Rattle.check_book.specs.Verdict.{bookText}
 
