@@ -17,15 +17,15 @@ use Rattle.system.proofs.Forests.{split, span-forest}
 use Rattle.system.proofs.TermChecks.{fault-whole}
 use Rattle.system.proofs.Answering.{Checked, checked, argument-refused, argument-zero, argument-beyond, argument-there}
 use Rattle.matching.specs.declared.Match.{Match}
-use Rattle.matching.specs.declared.Found.the-variants.{Nothing, First}
+use Rattle.matching.specs.declared.FirstRule.the-variants.{Nothing, First}
 use Rattle.cue.specs.Exports.{matchFor, partFor}
 
 -- ---- a match
 
-pub match-nothing : (m : Match) → m .found ≡ Nothing → record { found = 0; number = 0; rhs = 0; size = 0; starts = m .starts; lengths = m .lengths } ≡ matchFor m
+pub match-nothing : (m : Match) → m .rule ≡ Nothing → record { found = 0; number = 0; rhs = 0; size = 0; starts = m .starts; lengths = m .lengths } ≡ matchFor m
 match-nothing m e = rw e
 
-pub match-first : (m : Match) (k at n : ℕ) → m .found ≡ First k at n →
+pub match-first : (m : Match) (k at n : ℕ) → m .rule ≡ First k at n →
     record { found = 1; number = k; rhs = at; size = n; starts = m .starts; lengths = m .lengths } ≡ matchFor m
 match-first m k at n e = rw e
 

@@ -6,7 +6,7 @@ use Rattle.system.specs.declared.Answer.{Answer}
 use Rattle.system.specs.declared.Shape.{Shape}
 use Rattle.system.specs.Answers.{startOf, partOf, argumentAt}
 use Rattle.matching.specs.declared.Match.{Match}
-use Rattle.matching.specs.declared.Found.the-variants.{Nothing, First}
+use Rattle.matching.specs.declared.FirstRule.the-variants.{Nothing, First}
 use Rattle.cue.specs.declared.CueAnswer.{CueAnswer}
 use Rattle.cue.specs.declared.CueShape.{CueShape}
 use Rattle.cue.specs.declared.CuePart.{CuePart}
@@ -30,7 +30,7 @@ partFor book t i = record { start = startOf (argumentAt book t i); length = leng
 -- a variant is told by a number: 0 and zeros where nothing was found, else 1
 abbrev pub matchFor : Match → CueMatch
 matchFor m =
-    elim (m .found) [
+    elim (m .rule) [
       | Nothing ↦ record { found = 0; number = 0; rhs = 0; size = 0; starts = m .starts; lengths = m .lengths }
       | First k at n ↦ record { found = 1; number = k; rhs = at; size = n; starts = m .starts; lengths = m .lengths }
     ]

@@ -5,12 +5,12 @@ ghost use Rattle.system.specs.Answers.{answerOf, shapeOf, termAnswer, signature
 ghost use Rattle.system.specs.Parser.{read};
 ghost use Rattle.system.specs.Signature.{span};
 ghost use Rattle.system.specs.Book.{systemOf};
-ghost use Rattle.matching.specs.Stretches.{matchOf};
+ghost use Rattle.matching.specs.Bindings.{matchOf};
 ghost use Rattle.matching.specs.StrategyTest.{TestedBook};
 ghost use Rattle.evaluation.specs.Expansion.{result, expansion, secondly};
 ghost use Rattle.evaluation.specs.Demand3.{IsDone, IsHandedBack, IsFound, RestsAgain};
 ghost use Rattle.cue.specs.Exports.{answerFor, asAnswer, shapeFor, partFor, matchFor};
-use matching::Found;
+use matching::FirstRule;
 use system::Answer;
 
 // Three numbers: one of 01's table, a place, and steps.
@@ -140,9 +140,9 @@ pub extern "C" fn cue_first_match(book: &[u16], ws: &[u16]) -> CueMatch
     let m = matching::first_match(book, ws);
     let starts = m.starts;
     let lengths = m.lengths;
-    let found = m.found;
+    let found = m.rule;
     match found {
-        Found::Nothing => CueMatch {
+        FirstRule::Nothing => CueMatch {
             found: 0,
             number: 0,
             rhs: 0,
@@ -150,7 +150,7 @@ pub extern "C" fn cue_first_match(book: &[u16], ws: &[u16]) -> CueMatch
             starts: starts,
             lengths: lengths,
         },
-        Found::First { number, rhs, size } => CueMatch {
+        FirstRule::First { number, rhs, size } => CueMatch {
             found: 1,
             number: number,
             rhs: rhs,
@@ -201,7 +201,7 @@ pub extern "C" fn cue_expand_checked(
         (result (asAnswer (r .answer)) (now (out .exit)) (now (work .exit))) ⌝ }
     ensures found { λ r. ⌜ IsFound (now (book .entry)) (asAnswer (r .test)) (result (asAnswer (r .answer)) (now (out .exit)) (now (work .exit))) ⌝ }
 {
-    let c = evaluation::demands::expand_checked(book, term, limit, out, work);
+    let c = evaluation::checked::expand_checked(book, term, limit, out, work);
     CueChecked {
         test: answer_for(c.test),
         answer: answer_for(c.answer),
@@ -230,7 +230,7 @@ pub extern "C" fn cue_expand_twice(
     ensures rests { λ r. ⌜ RestsAgain (asAnswer (r .test)) (result (asAnswer (r .first)) (now (out .exit)) (now (work .exit)))
         (now (again .entry)) (now (spare .entry)) (result (asAnswer (r .second)) (now (again .exit)) (now (spare .exit))) ⌝ }
 {
-    let c = evaluation::demands::expand_twice(book, term, limit, out, work, again, spare);
+    let c = evaluation::checked::expand_twice(book, term, limit, out, work, again, spare);
     CueTwice {
         test: answer_for(c.test),
         first: answer_for(c.first),

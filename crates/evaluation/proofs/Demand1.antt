@@ -11,8 +11,8 @@ use Rattle.system.specs.Parser.{Parsed, ok, fault, read}
 use Rattle.system.specs.TermCheck.{termFault}
 use Rattle.system.specs.Answers.{answerOf, wholeAnswer, termAnswer}
 use Rattle.system.specs.Book.{systemOf}
-use Rattle.rewriting.specs.Evaluation.{Outcome, settled, stopped, evaluation}
-use Rattle.evaluation.specs.Expansion.{ended, expansion}
+use Rattle.rewriting.specs.Evaluation.{Outcome, finished, stopped, evaluation}
+use Rattle.evaluation.specs.Expansion.{expansionOf, expansion}
 use Rattle.evaluation.specs.Demand1.{Refused, untouched, cleared}
 use Rattle.evaluation.proofs.Expanding.{Course, narrow, wrong, runs, course}
 
@@ -47,8 +47,8 @@ module _ (book term : List ℕ) (limit : ℕ) (out work : List ℕ) where
   pub refused : (expansion book term limit out work .numbers .number ≡ 0 → ⊥) → Refused out work (expansion book term limit out work)
   refused d = by (course book term limit out work)
     where
-      stops : (o : Outcome) → expansion book term limit out work ≡ ended out work o → Refused out work (expansion book term limit out work)
-      stops (settled r) e = absurd (d (ap (λ y. y .numbers .number) e))
+      stops : (o : Outcome) → expansion book term limit out work ≡ expansionOf out work o → Refused out work (expansion book term limit out work)
+      stops (finished r) e = absurd (d (ap (λ y. y .numbers .number) e))
       stops (stopped l m) e = subst (Refused out work) (sym e) (cleared l)
 
       by : Course book term limit out work → Refused out work (expansion book term limit out work)

@@ -13,10 +13,10 @@ use Rattle.system.specs.Answers.{termAnswer}
 use Rattle.system.proofs.TermChecks.{whole-fault}
 use Rattle.system.specs.Book.{systemOf}
 use Rattle.matching.specs.StrategyTest.{Safe, Tested, passed, failed, TestedBook}
-use Rattle.rewriting.specs.Evaluation.{Run, Outcome, settled, stopped, evaluation}
+use Rattle.rewriting.specs.Evaluation.{Config, Outcome, finished, stopped, evaluation}
 use Rattle.system.specs.Numbers.{Limit, spent, overlong, nested, limitNumber}
 use Rattle.rewriting.specs.Outcomes.{Done}
-use Rattle.evaluation.specs.Expansion.{Expansion, result, ended, expansion, handedBack, secondly}
+use Rattle.evaluation.specs.Expansion.{Expansion, result, expansionOf, expansion, handedBack, secondly}
 use Rattle.evaluation.specs.Demand3.{IsDone, IsHandedBack, Rests, Found, IsFound, RestsAgain}
 use Rattle.rewriting.proofs.Done.{theorem-done, steps-last}
 use Rattle.rewriting.proofs.Found.{theorem-found}
@@ -40,9 +40,9 @@ module _ (book term : List ℕ) (limit : ℕ) (out work : List ℕ) where
     pub room-answer : 4096 ≤ length out
     pub room-work : 8192 ≤ length work
     pub good : termAnswer book term .number ≡ 0
-    pub run : Run
-    pub evaluated : evaluation (systemOf book) limit term ≡ settled run
-    pub equal : expansion book term limit out work ≡ ended out work (settled run)
+    pub run : Config
+    pub evaluated : evaluation (systemOf book) limit term ≡ finished run
+    pub equal : expansion book term limit out work ≡ expansionOf out work (finished run)
 
   pub handed : expansion book term limit out work .numbers .number ≡ 0 → Handed
   handed z = by (course book term limit out work)
@@ -51,8 +51,8 @@ module _ (book term : List ℕ) (limit : ℕ) (out work : List ℕ) where
       number e = sym (ap (λ y. y .numbers .number) e) ∙ z
 
       ends : 4096 ≤ length out → 8192 ≤ length work → termAnswer book term .number ≡ 0 → (o : Outcome) → evaluation (systemOf book) limit term ≡ o →
-          expansion book term limit out work ≡ ended out work o → Handed
-      ends h k g (settled r) q e = record { room-answer = h; room-work = k; good = g; run = r; evaluated = q; equal = e }
+          expansion book term limit out work ≡ expansionOf out work o → Handed
+      ends h k g (finished r) q e = record { room-answer = h; room-work = k; good = g; run = r; evaluated = q; equal = e }
       ends h k g (stopped l m) q e = absurd (let y = number e in omega (arith, limit-number l))
 
       by : Course book term limit out work → Handed
@@ -61,7 +61,7 @@ module _ (book term : List ℕ) (limit : ℕ) (out work : List ℕ) where
       by (runs h k g e) = ends h k g (evaluation (systemOf book) limit term) refl e
 
   module _ (h : Handed) where
-    abbrev r : Run
+    abbrev r : Config
     r = h .run
 
     what : Checks book term
@@ -95,7 +95,7 @@ module _ (book term : List ℕ) (limit : ℕ) (out work : List ℕ) where
   -- and where the checks pass and the evaluation ends within its limits, that is what is handed back
   pub is-handed-back : IsHandedBack book term limit out work (expansion book term limit out work)
   is-handed-back a b g e q =
-      let x = evaluates book term limit out work a b g ∙ ap (ended out work) q in
+      let x = evaluates book term limit out work a b g ∙ ap (expansionOf out work) q in
       let h : Handed = record { room-answer = a; room-work = b; good = g; run = e; evaluated = q; equal = x } in
       (handed-numbers h, handed-words h)
 

@@ -19,10 +19,10 @@ use Rattle.system.proofs.Answering.{checked}
 use Rattle.system.proofs.TermChecks.{fault-whole}
 use Rattle.system.specs.Book.{systemOf}
 use Rattle.system.specs.layout.Accepted.{Accepted}
-use Rattle.evaluation.specs.declared.run.Ended.{Ended}
-use Rattle.rewriting.specs.Evaluation.{Run, Outcome, settled, stopped, evaluation}
-use Rattle.evaluation.specs.run.Ended.{Ends}
-use Rattle.evaluation.specs.Expansion.{result, ended, expansion}
+use Rattle.evaluation.specs.declared.run.RunResult.{RunResult}
+use Rattle.rewriting.specs.Evaluation.{Config, Outcome, finished, stopped, evaluation}
+use Rattle.evaluation.specs.run.RunResult.{Ran}
+use Rattle.evaluation.specs.Expansion.{result, expansionOf, expansion}
 use Rattle.rewriting.proofs.Done.{theorem-done, steps-last}
 
 -- ---- what the check of a term tells
@@ -73,7 +73,7 @@ module _ (book term : List ℕ) (limit : ℕ) (out work : List ℕ) where
         go (suc n) e = rw (le-leb 4096 (length out) room-answer, le-leb 8192 (length work) room-work, e, expansion)
             (λ i. result (record { number = e i; place = termAnswer book term .place; steps = termAnswer book term .steps }) out work)
 
-    pub evaluates : termAnswer book term .number ≡ 0 → expansion book term limit out work ≡ ended out work (evaluation (systemOf book) limit term)
+    pub evaluates : termAnswer book term .number ≡ 0 → expansion book term limit out work ≡ expansionOf out work (evaluation (systemOf book) limit term)
     unfolding expansion
     evaluates e = rw (le-leb 4096 (length out) room-answer, le-leb 8192 (length work) room-work, e, expansion)
 
@@ -82,7 +82,7 @@ module _ (book term : List ℕ) (limit : ℕ) (out work : List ℕ) where
     narrow : expansion book term limit out work ≡ result cramped out work → Course
     wrong : (termAnswer book term .number ≡ 0 → ⊥) → expansion book term limit out work ≡ result (termAnswer book term) out work → Course
     runs : 4096 ≤ length out → 8192 ≤ length work → termAnswer book term .number ≡ 0 →
-        expansion book term limit out work ≡ ended out work (evaluation (systemOf book) limit term) → Course
+        expansion book term limit out work ≡ expansionOf out work (evaluation (systemOf book) limit term) → Course
 
   pub course : Course
   course =
@@ -103,22 +103,22 @@ pub same-result : {r r′ : Answer} {out out′ work work′ : List ℕ} → r �
 same-result p q s i = result (p i) (q i) (s i)
 
 -- what is handed back is no longer than a term may be
-pub size-bounded : (book term : List ℕ) (limit : ℕ) → Checks book term → (e : Ended) (ws : List ℕ) → Ends (evaluation (systemOf book) limit term) e ws → e .size ≤ 4096
+pub size-bounded : (book term : List ℕ) (limit : ℕ) → Checks book term → (e : RunResult) (ws : List ℕ) → Ran (evaluation (systemOf book) limit term) e ws → e .size ≤ 4096
 size-bounded book term limit c e ws = go (evaluation (systemOf book) limit term) refl
   where
-    go : (o : Outcome) → evaluation (systemOf book) limit term ≡ o → Ends o e ws → e .size ≤ 4096
-    go (settled r) q h = let d = theorem-done (systemOf book) (checks-well book term c) limit term r (c .whole) (c .bounded) q in
+    go : (o : Outcome) → evaluation (systemOf book) limit term ≡ o → Ran o e ws → e .size ≤ 4096
+    go (finished r) q h = let d = theorem-done (systemOf book) (checks-well book term c) limit term r (c .whole) (c .bounded) q in
         let z = ap (λ y. y .size) (h .0) in
         omega (arith, steps-last (systemOf book) (d .path))
     go (stopped n k) q h = let z = ap (λ y. y .size) (h .0) in omega arith
 
 -- the words that are handed back stand at the area's front, whatever comes after it
-ends-words : (r : Run) (e : Ended) (ws rest : List ℕ) → Ends (settled r) e ws → take (e .size) (ws ++ rest) ≡ r .term
+ends-words : (r : Config) (e : RunResult) (ws rest : List ℕ) → Ran (finished r) e ws → take (e .size) (ws ++ rest) ≡ r .term
 ends-words r e ws rest h = (λ i. take (h .0 i .size) (h .1 i ++ rest)) ∙ take-pad 8192 (r .term) rest (length (r .term)) refl
 
 -- and only zeros behind them
-ends-front : (o : Outcome) (e : Ended) (ws rest : List ℕ) → Ends o e ws → ws ≡ pad 8192 (take (e .size) (ws ++ rest))
-ends-front (settled r) e ws rest h = h .1 ∙ ap (pad 8192) (sym (ends-words r e ws rest h))
+ends-front : (o : Outcome) (e : RunResult) (ws rest : List ℕ) → Ran o e ws → ws ≡ pad 8192 (take (e .size) (ws ++ rest))
+ends-front (finished r) e ws rest h = h .1 ∙ ap (pad 8192) (sym (ends-words r e ws rest h))
 ends-front (stopped n k) e ws rest h = h .1 ∙ pad-empty ∙ ap (λ y. pad 8192 (take (y .size) (ws ++ rest))) (sym (h .0))
   where
     pad-empty : zeros 8192 ≡ pad 8192 []
@@ -129,7 +129,7 @@ module _ (work ws : List ℕ) (room : 8192 ≤ length work) (size : length ws �
   pub whole-length : length (ws ++ drop 8192 work) ≡ length work
   whole-length = rw (length-append, length-drop, size) (omega arith)
 
-  pub whole-front : (o : Outcome) (e : Ended) → Ends o e ws → take 8192 (ws ++ drop 8192 work) ≡ pad 8192 (take (e .size) (ws ++ drop 8192 work))
+  pub whole-front : (o : Outcome) (e : RunResult) → Ran o e ws → take 8192 (ws ++ drop 8192 work) ≡ pad 8192 (take (e .size) (ws ++ drop 8192 work))
   whole-front o e h = take-at ws (drop 8192 work) 8192 size ∙ ends-front o e ws (drop 8192 work) h
 
   zeroed : over (ws ++ drop 8192 work) 0 (zeros 8192) ≡ over work 0 (zeros 8192)
@@ -141,8 +141,8 @@ module _ (work ws : List ℕ) (room : 8192 ≤ length work) (size : length ws �
       (sym (sets-eq (zeros 8192) work 0 (omega arith) ∙ rw k))
 
   -- the end: the numbers, the answer buffer and the work buffer
-  pub finishes : (o : Outcome) (e : Ended) (out : List ℕ) → Ends o e ws →
+  pub finishes : (o : Outcome) (e : RunResult) (out : List ℕ) → Ran o e ws →
       result (record { number = e .number; place = e .size; steps = e .steps }) (over out 0 (take (e .size) (ws ++ drop 8192 work)))
-      (over (ws ++ drop 8192 work) 0 (zeros 8192)) ≡ ended out work o
-  finishes (settled r) e out h = same-result (rw (h .0)) (ap (over out 0) (ends-words r e ws (drop 8192 work) h)) zeroed
+      (over (ws ++ drop 8192 work) 0 (zeros 8192)) ≡ expansionOf out work o
+  finishes (finished r) e out h = same-result (rw (h .0)) (ap (over out 0) (ends-words r e ws (drop 8192 work) h)) zeroed
   finishes (stopped n k) e out h = same-result (rw (h .0)) (ap (λ y. over out 0 (take (y .size) (ws ++ drop 8192 work))) (h .0)) zeroed

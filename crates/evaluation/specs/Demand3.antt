@@ -6,7 +6,7 @@ use lib.ListN.{length}
 use Rattle.system.specs.declared.Answer.{Answer}
 use Rattle.system.specs.Answers.{termAnswer}
 use Rattle.system.specs.Book.{systemOf}
-use Rattle.rewriting.specs.Evaluation.{Run, settled, evaluation}
+use Rattle.rewriting.specs.Evaluation.{Config, finished, evaluation}
 use Rattle.rewriting.specs.Outcomes.{Done, Stable}
 use Rattle.evaluation.specs.Expansion.{Expansion, expansion, handedBack}
 use Rattle.system.specs.Limits.{areaWords, termWords}
@@ -21,7 +21,7 @@ IsDone book term limit x =
 abbrev pub IsHandedBack : List ℕ → List ℕ → ℕ → List ℕ → List ℕ → Expansion → Type 0
 IsHandedBack book term limit out work x =
     termWords ≤ length out → areaWords ≤ length work → termAnswer book term .number ≡ 0 →
-    (e : Run) → evaluation (systemOf book) limit term ≡ settled e →
+    (e : Config) → evaluation (systemOf book) limit term ≡ finished e →
     (x .numbers ≡ record { number = 0; place = length (e .term); steps = e .steps }) × (handedBack x ≡ e .term)
 
 -- an expansion that takes no step and hands back the words t

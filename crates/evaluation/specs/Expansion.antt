@@ -9,7 +9,7 @@ use Rattle.system.specs.declared.Answer.{Answer}
 use Rattle.system.specs.Numbers.{taken, cramped, numberOf, limitNumber}
 use Rattle.system.specs.Answers.{termAnswer}
 use Rattle.system.specs.Book.{systemOf}
-use Rattle.rewriting.specs.Evaluation.{Outcome, settled, stopped, evaluation}
+use Rattle.rewriting.specs.Evaluation.{Outcome, finished, stopped, evaluation}
 use Rattle.system.specs.Limits.{areaWords, termWords}
 
 -- the three numbers, the answer buffer and the work buffer
@@ -24,10 +24,10 @@ result r out work = record { numbers = r; answer = out; work = work }
 
 -- "On 0 the answer stands in the first words of the answer buffer and the rest is unchanged; otherwise that buffer is unchanged."
 -- "On 11 to 13 and on 0 the first 8,192 words of the expander's work buffer are zero and the rest unchanged"
-abbrev pub ended : List ℕ → List ℕ → Outcome → Expansion
-ended out work (settled r) =
+abbrev pub expansionOf : List ℕ → List ℕ → Outcome → Expansion
+expansionOf out work (finished r) =
     result (record { number = numberOf taken; place = length (r .term); steps = r .steps }) (over out 0 (r .term)) (over work 0 (zeros areaWords))
-ended out work (stopped n k) = result (record { number = limitNumber n; place = 0; steps = k }) out (over work 0 (zeros areaWords))
+expansionOf out work (stopped n k) = result (record { number = limitNumber n; place = 0; steps = k }) out (over work 0 (zeros areaWords))
 
 -- "The expander checks 10, then the book, then the cue"; "every other number touches no buffer"
 unfoldable pub expansion : List ℕ → List ℕ → ℕ → List ℕ → List ℕ → Expansion
@@ -35,7 +35,7 @@ expansion book term limit out work =
     elim (leb termWords (length out) && leb areaWords (length work)) [
       | false ↦ result (record { number = numberOf cramped; place = 0; steps = 0 }) out work
       | true ↦ elim (termAnswer book term .number) [
-        | zero ↦ ended out work (evaluation (systemOf book) limit term)
+        | zero ↦ expansionOf out work (evaluation (systemOf book) limit term)
         | suc _ ↦ result (termAnswer book term) out work
       ]
     ]

@@ -1,2 +1,2 @@
 -- A run in an area of words: what the contracts of `run` cite. Inner: no public contract rests on it.
-pub mod Ended
+pub mod RunResult

@@ -7,10 +7,10 @@ ghost use Rattle.system.specs.Parser.{read};
 ghost use Rattle.system.specs.reader.Sections.{scanOf};
 ghost use Rattle.evaluation.specs.Expansion.{result, expansion};
 
-pub mod demands;
+pub mod checked;
 mod run;
 
-use crate::run::Ended;
+use crate::run::RunResult;
 use system::Answer;
 use system::limits::AREA_WORDS;
 use system::limits::TERM_WORDS;
@@ -61,7 +61,7 @@ fn expand_scanned(
 }
 
 // Hands the first words of the area to the caller, none where the run was stopped, and clears them; all other words of it are zero already.
-fn finish(out: &mut [u16], work: &mut [u16], e: Ended) -> Answer
+fn finish(out: &mut [u16], work: &mut [u16], e: RunResult) -> Answer
     requires { ⌜ (8192 ≤ length (now work)) × (e .size ≤ 4096) × (4096 ≤ length (now out)) × (take 8192 (now work) ≡ pad 8192 (take (e .size) (now work))) ⌝ }
     ensures numbers { λ r. ⌜ r ≡ record { number = e .number; place = e .size; steps = e .steps } ⌝ }
     ensures answer { λ _. ⌜ now (out .exit) ≡ over (now (out .entry)) 0 (take (e .size) (now (work .entry))) ⌝ }

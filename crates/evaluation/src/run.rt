@@ -6,8 +6,8 @@ ghost use Rattle.buffers.specs.Words.{zeros, pad};
 ghost use Rattle.system.specs.Book.{systemOf};
 ghost use Rattle.rewriting.specs.Evaluation.{evaluation};
 ghost use Rattle.system.specs.Limits.{areaWords};
-ghost use Rattle.machine.specs.advance.Area.{Laid};
-ghost use Rattle.evaluation.specs.run.Ended.{Runnable, Ends};
+ghost use Rattle.machine.specs.advance.Area.{Layout};
+ghost use Rattle.evaluation.specs.run.RunResult.{Runnable, Ran};
 use machine::advance::State;
 use machine::advance::Stop;
 use machine::advance::advance;
@@ -15,22 +15,22 @@ use machine::reducts::Reduced;
 use machine::reducts::Subterm;
 use machine::reducts::rewrite;
 use system::Shape;
-use system::layout::index::mark;
+use system::layout::index::build_index;
 use system::limits::AREA_WORDS;
 use system::limits::LEVELS;
 use system::limits::TERM_WORDS;
 
 // How a run ended: 0, 11, 12 or 13; how many words the term has, on 0; and the steps taken.
-pub struct Ended {
+pub struct RunResult {
     pub number: u32,
     pub size: usize,
     pub steps: u32,
 }
 
-fn outcome(number: u32, size: usize, steps: u32) -> Ended
+fn outcome(number: u32, size: usize, steps: u32) -> RunResult
     ensures { λ r. ⌜ r ≡ record { number = number; size = size; steps = steps } ⌝ }
 {
-    Ended {
+    RunResult {
         number,
         size,
         steps,
@@ -49,7 +49,7 @@ fn start(area: &mut [u16], term: &[u16])
 
 // Clears the term's words and the counts; all other words are zero already.
 fn clear_state(area: &mut [u16], n: usize, level: usize)
-    requires { ⌜ Laid (now area) n level ⌝ }
+    requires { ⌜ Layout (now area) n level ⌝ }
     ensures { λ _. ⌜ now (area .exit) ≡ zeros areaWords ⌝ }
 {
     buffers::clear(area, 0, n);
@@ -57,23 +57,23 @@ fn clear_state(area: &mut [u16], n: usize, level: usize)
 }
 
 // Evaluates a term in an area of 8,192 words.
-pub fn run(book: &[u16], shape: Shape, term: &[u16], limit: u32, area: &mut [u16]) -> Ended
+pub fn run(book: &[u16], shape: Shape, term: &[u16], limit: u32, area: &mut [u16]) -> RunResult
     requires { ⌜ Runnable (now book) shape (now term) (now area) ⌝ }
-    ensures { λ r. ⌜ Ends (evaluation (systemOf (now (book .entry))) limit (now (term .entry))) r (now (area .exit)) ⌝ }
+    ensures { λ r. ⌜ Ran (evaluation (systemOf (now (book .entry))) limit (now (term .entry))) r (now (area .exit)) ⌝ }
 {
     start(area, term);
-    let mut marks = [0usize; 64];
-    mark(book, shape, &mut marks);
+    let mut index = [0usize; 64];
+    build_index(book, shape, &mut index);
     let mut positions = [0usize; LEVELS];
     let mut n = term.len();
     let mut level = 0;
     let mut steps: u32 = 0;
     loop {
         let state = State { n, level };
-        let a = advance(book, shape, &marks, area, &mut positions, state);
+        let a = advance(book, shape, &index, area, &mut positions, state);
         let stop = a.stop;
         match stop {
-            Stop::Finished => {
+            Stop::Final => {
                 return outcome(0, n, steps);
             }
             Stop::Deep => {
@@ -86,7 +86,7 @@ pub fn run(book: &[u16], shape: Shape, term: &[u16], limit: u32, area: &mut [u16
                     clear_state(area, n, a.level);
                     return outcome(11, 0, steps);
                 }
-                let m = a.found;
+                let m = a.matched;
                 let position = positions[level];
                 let u = Subterm {
                     level,

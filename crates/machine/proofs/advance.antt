@@ -1,6 +1,6 @@
 -- The machine's states and transitions, and the measure of a loop that runs it
-pub mod Goings
-pub mod Passing
+pub mod States
+pub mod Skipping
 pub mod Levels
 pub mod Measure
 pub mod Advances

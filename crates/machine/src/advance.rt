@@ -3,13 +3,13 @@ ghost use mathlib.Core.Path.{_≡_};
 ghost use Rattle.system.specs.Book.{systemOf};
 ghost use Rattle.system.specs.layout.Accepted.{Accepted};
 ghost use Rattle.machine.specs.declared.advance.Stop.the-variants.{Ready};
-ghost use Rattle.machine.specs.advance.Area.{Holds};
+ghost use Rattle.machine.specs.advance.Area.{Tracks};
 ghost use Rattle.machine.specs.advance.Transition.{sinceAt, Performed};
-ghost use Rattle.machine.specs.advance.Arrival.{Advances};
-ghost use Rattle.system.specs.layout.Index.{Marked};
-use matching::Found;
+ghost use Rattle.machine.specs.advance.Arrivals.{Advances};
+ghost use Rattle.system.specs.layout.Index.{Indexed};
+use matching::FirstRule;
 use matching::Match;
-use matching::rules::Fit;
+use matching::rules::Search;
 use matching::rules::first_rule;
 use system::Shape;
 use system::layout::entries::Entry;
@@ -26,7 +26,7 @@ pub struct State {
 
 // Where the machine came to: its end, an argument that would be opened from level 64, or a rewrite.
 pub enum Stop {
-    Finished,
+    Final,
     Deep,
     Ready,
 }
@@ -36,7 +36,7 @@ pub enum Stop {
 pub struct Advanced {
     pub stop: Stop,
     pub level: usize,
-    pub found: Match,
+    pub matched: Match,
     pub width: usize,
 }
 
@@ -76,13 +76,13 @@ fn at_level(n: usize, level: usize, floor: usize, since: usize) -> Innermost
 fn take_transition(
     book: &[u16],
     shape: Shape,
-    marks: &[usize],
+    index: &[usize],
     area: &mut [u16],
     positions: &mut [usize],
     at: Innermost,
 ) -> Event
-    requires { ⌜ Accepted (now book) shape × Marked (now book) shape (now marks)
-        × Holds (systemOf (now book)) (now area) (now positions) (at .n) (at .level) ⌝ }
+    requires { ⌜ Accepted (now book) shape × Indexed (now book) shape (now index)
+        × Tracks (systemOf (now book)) (now area) (now positions) (at .n) (at .level) ⌝ }
     ensures { λ r. ⌜ Performed (systemOf (now (book .entry))) at (now (area .entry)) (now (positions .entry)) r
         (now (area .exit)) (now (positions .exit)) ⌝ }
 {
@@ -92,13 +92,13 @@ fn take_transition(
     let p = positions[level];
     let c = area[TERM_WORDS + level];
     let begun = c + 1;
-    let e = entry_of(book, shape, marks, area[p], since, wide(c));
+    let e = entry_of(book, shape, index, area[p], since, wide(c));
     match e {
         Entry::End => {
             area[TERM_WORDS + level] = 0;
             return Event::End;
         }
-        Entry::Again => {
+        Entry::Repeated => {
             area[TERM_WORDS + level] = begun;
             return Event::Repeated;
         }
@@ -126,13 +126,13 @@ fn take_transition(
 pub fn advance(
     book: &[u16],
     shape: Shape,
-    marks: &[usize],
+    index: &[usize],
     area: &mut [u16],
     positions: &mut [usize],
     state: State,
 ) -> Advanced
-    requires { ⌜ Accepted (now book) shape × Marked (now book) shape (now marks)
-        × Holds (systemOf (now book)) (now area) (now positions) (state .n) (state .level) ⌝ }
+    requires { ⌜ Accepted (now book) shape × Indexed (now book) shape (now index)
+        × Tracks (systemOf (now book)) (now area) (now positions) (state .n) (state .level) ⌝ }
     ensures { λ r. ⌜ Advances (systemOf (now (book .entry))) state (now (area .entry)) r (now (area .exit)) (now (positions .exit)) ⌝ }
 {
     let n = state.n;
@@ -141,16 +141,16 @@ pub fn advance(
     let mut since = wide(area[TERM_WORDS + level]);
     loop {
         let at = at_level(n, level, floor, since);
-        let event = take_transition(book, shape, marks, area, positions, at);
+        let event = take_transition(book, shape, index, area, positions, at);
         match event {
             Event::Repeated => {}
             Event::Rules => {
                 let p = positions[level];
                 let fit = first_rule(book, shape, &area[p..n]);
-                let m = fit.found;
-                let found = m.found;
+                let m = fit.matched;
+                let found = m.rule;
                 match found {
-                    Found::Nothing => {}
+                    FirstRule::Nothing => {}
                     _ => {
                         return ready(level, fit);
                     }
@@ -161,7 +161,7 @@ pub fn advance(
             }
             Event::End => {
                 if level == 0 {
-                    return stopped(Stop::Finished, level);
+                    return stopped(Stop::Final, level);
                 }
                 level -= 1;
                 if level < floor {
@@ -176,15 +176,15 @@ pub fn advance(
     }
 }
 
-fn ready(level: usize, fit: Fit) -> Advanced
-    ensures { λ r. ⌜ r ≡ record { stop = Ready; level = level; found = fit .found; width = fit .width } ⌝ }
+fn ready(level: usize, fit: Search) -> Advanced
+    ensures { λ r. ⌜ r ≡ record { stop = Ready; level = level; matched = fit .matched; width = fit .width } ⌝ }
 {
-    let found = fit.found;
+    let matched = fit.matched;
     let width = fit.width;
     Advanced {
         stop: Stop::Ready,
         level,
-        found,
+        matched,
         width,
     }
 }
@@ -195,8 +195,8 @@ fn stopped(stop: Stop, level: usize) -> Advanced
     Advanced {
         stop,
         level,
-        found: Match {
-            found: Found::Nothing,
+        matched: Match {
+            rule: FirstRule::Nothing,
             starts: [0; 16],
             lengths: [0; 16],
         },

@@ -8,7 +8,7 @@ ghost use Rattle.machine.specs.reducts.Replaced.{Replaceable, Replaced};
 ghost use Rattle.machine.specs.reducts.Rewritten.{Reducible, Rewrites};
 use buffers::clear;
 use buffers::move_words;
-use matching::Found;
+use matching::FirstRule;
 use matching::Match;
 use matching::rules::reduct_length;
 use system::limits::TERM_WORDS;
@@ -24,7 +24,7 @@ pub struct Subterm {
 
 // What comes in the place of a redex: the right side of the rule that matches, as an index of the book and a number of words, and the
 // bindings of its variables, as stretches of the redex.
-struct Contraction {
+struct Instance {
     rhs: usize,
     size: usize,
     starts: [usize; 16],
@@ -58,7 +58,7 @@ fn clear_between(area: &mut [u16], a: usize, b: usize)
 }
 
 // Writes the reduct of c over the area from `at` on, each variable filled with its stretch of the words from `base` on.
-fn write_reduct(book: &[u16], area: &mut [u16], c: Contraction, at: usize, base: usize)
+fn write_reduct(book: &[u16], area: &mut [u16], c: Instance, at: usize, base: usize)
     requires { ⌜ Writable (now book) (now area) c at base ⌝ }
     ensures { λ _. ⌜ now (area .exit) ≡ over (now (area .entry)) at (reduct (now (book .entry)) c (drop base (now (area .entry)))) ⌝ }
 {
@@ -88,7 +88,7 @@ fn write_reduct(book: &[u16], area: &mut [u16], c: Contraction, at: usize, base:
 // While it is written the subterm's words, but for its first, stand behind the counts: at `level` levels around the innermost one the term
 // has at least as many words before the subterm, so there is always room. Then they are cleared again, and with them the count of the
 // innermost level, which so starts anew.
-fn replace_subterm(book: &[u16], area: &mut [u16], n: usize, u: Subterm, c: Contraction, k: usize)
+fn replace_subterm(book: &[u16], area: &mut [u16], n: usize, u: Subterm, c: Instance, k: usize)
     requires { ⌜ Replaceable (now book) (now area) n u c k ⌝ }
     ensures { λ _. ⌜ Replaced (now (book .entry)) (now (area .entry)) n u c (now (area .exit)) ⌝ }
 {
@@ -109,13 +109,13 @@ pub fn rewrite(book: &[u16], area: &mut [u16], n: usize, u: Subterm, m: Match) -
     requires { ⌜ Reducible (now book) (now area) n u m ⌝ }
     ensures { λ r. ⌜ Rewrites (now (book .entry)) (now (area .entry)) n u r (now (area .exit)) ⌝ }
 {
-    let found = m.found;
+    let found = m.rule;
     match found {
         // It never is: the caller found a rule.
-        Found::Nothing => {
+        FirstRule::Nothing => {
             return Reduced::TooLong;
         }
-        Found::First {
+        FirstRule::First {
             number: _,
             rhs,
             size,
@@ -127,7 +127,7 @@ pub fn rewrite(book: &[u16], area: &mut [u16], n: usize, u: Subterm, m: Match) -
             if TERM_WORDS < after {
                 return Reduced::TooLong;
             }
-            let c = Contraction {
+            let c = Instance {
                 rhs,
                 size,
                 starts,

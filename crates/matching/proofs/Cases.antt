@@ -10,14 +10,14 @@ use borrow.Author.Tests.{ltb-true}
 use Rattle.system.specs.declared.Answer.{Answer}
 use Rattle.system.specs.Signature.{Symbol, isSymbol, arity, span, argument}
 use Rattle.system.specs.System.{System, strategy}
-use Rattle.system.specs.Terms.{Stands, first, later}
+use Rattle.system.specs.Terms.{Member, first, later}
 use Rattle.system.specs.Parser.{read, readSystem, readRules, readEnd, readRule, readSide, readWords, readStrategy, number, word, learn, sideFault, variableFault, outside, each, times}
 use Rattle.system.specs.Cases.{Hold, bookB, earlyB}
 use Rattle.system.specs.Book.{systemOf}
 use Rattle.matching.specs.StrategyTest.{Passes, Tested, passed, failed, TestedBook}
 use Rattle.matching.specs.safety.Computed.{passes, every, closes, idles, idleTest, isVariable, constructs}
 use Rattle.matching.specs.Cases.{failing, testing, strategyCases}
-use Rattle.system.proofs.Members.{stands-nil, stands-front, stands-back}
+use Rattle.system.proofs.Members.{member-nil, member-front, member-back}
 use Rattle.matching.proofs.SafetyTest.{passes-sound, passes-complete}
 
 pub strategy-cases : Hold strategyCases
@@ -29,17 +29,17 @@ strategy-cases = refl
 -- ---- the symbols that fail are those that the table's computation lists
 
 module _ (s : System) where
-  listed : (n f : ℕ) → f < n → passes s f ≡ false → Stands f (failing s n)
+  listed : (n f : ℕ) → f < n → passes s f ≡ false → Member f (failing s n)
   unfolding failing
   listed zero f l e = absurd (omega arith)
   listed (suc n) f l e =
       elim (ℕ-discrete f n) [
-        | yes q ↦ stands-back (failing s n) (rw (← q, e) first)
-        | no d ↦ stands-front (cond (passes s n) [] (n ∷ [])) (listed n f (omega arith) e)
+        | yes q ↦ member-back (failing s n) (rw (← q, e) first)
+        | no d ↦ member-front (cond (passes s n) [] (n ∷ [])) (listed n f (omega arith) e)
       ]
 
   -- one that fails the test is listed
-  fails : {f : ℕ} → Symbol (s .arities) f → (Passes s f → ⊥) → Stands f (failing s (length (s .arities)))
+  fails : {f : ℕ} → Symbol (s .arities) f → (Passes s f → ⊥) → Member f (failing s (length (s .arities)))
   unfolding isSymbol
   fails {f} k h = listed (length (s .arities)) f (ltb-true f (length (s .arities)) k) (go (passes s f) refl)
     where
@@ -50,7 +50,7 @@ module _ (s : System) where
   -- where none is listed, all pass
   pub tested-none : {r : Answer} → failing s (length (s .arities)) ≡ [] → Tested s r → r ≡ record { number = 0; place = 0; steps = 0 }
   tested-none e (passed h) = refl
-  tested-none e (failed f k h) = stands-nil (rw e at (fails k h))
+  tested-none e (failed f k h) = member-nil (rw e at (fails k h))
 
   -- where one is listed and fails, it is told
   pub tested-one : {r : Answer} (g : ℕ) → failing s (length (s .arities)) ≡ g ∷ [] → Symbol (s .arities) g → passes s g ≡ false → Tested s r →
@@ -58,9 +58,9 @@ module _ (s : System) where
   tested-one g e m q (passed h) = absurd (let z = passes-complete s g (h g m) in let y : _≡_ {A = ℕ} 0 1 = cc in omega arith)
   tested-one g e m q (failed f k h) = only (rw e at (fails k h))
     where
-      only : {d : ℕ} → Stands d (g ∷ []) → _≡_ {A = Answer} (record { number = 14; place = d; steps = 0 }) (record { number = 14; place = g; steps = 0 })
+      only : {d : ℕ} → Member d (g ∷ []) → _≡_ {A = Answer} (record { number = 14; place = d; steps = 0 }) (record { number = 14; place = g; steps = 0 })
       only first = refl
-      only (later h) = stands-nil h
+      only (later h) = member-nil h
 
 -- ---- the contract's answer
 

@@ -1,4 +1,4 @@
--- `firstMatch` finds the first rule that is bound, and `redex` the lowest rule that matches, or none.
+-- `firstMatch` finds the first rule that is bound, and `contraction` the lowest rule that matches, or none.
 use Prim.Native.Nat.{ℕ, zero, suc, _+_, _≤_, _<_}
 use native.Mathlib.Nat.{add-zero, le-of-suc-le-suc, not-suc-le-zero}
 use native.Mathlib.Omega.{arith}
@@ -10,8 +10,8 @@ use lib.Seq.{drop-append-seam}
 use Rattle.system.specs.Limits.{variable}
 use Rattle.system.specs.Signature.{Signature}
 use Rattle.system.specs.System.{System, Rule, rule, noRule, instance}
-use Rattle.system.specs.Terms.{more, Whole, Side, Lawful, WellFormed}
-use Rattle.matching.specs.Matching.{Matches, bind, Redex, firstMatch, redex}
+use Rattle.system.specs.Terms.{more, Whole, Side, WellFormedRule, WellFormed}
+use Rattle.matching.specs.Matching.{Matches, bind, Contraction, firstMatch, contraction}
 use Rattle.system.proofs.Signatures.{few-symbols}
 use Rattle.matching.proofs.Matched.{matched, unmatched, bind-append, bind-nil, chain, instance-forest}
 
@@ -33,7 +33,7 @@ module _ (g : Signature) where
   abbrev pub Unbound : List Rule → List ℕ → Type 0
   Unbound rs ws = (j : ℕ) → j < length rs → bind g (getD rs j noRule .lhs) ws [] ≡ none
 
-  pub record Lowest (rs : List Rule) (k : ℕ) (ws : List ℕ) (x : Redex) : Type 0 where
+  pub record Lowest (rs : List Rule) (k : ℕ) (ws : List ℕ) (x : Contraction) : Type 0 where
     pub index : ℕ
     pub number : x .number ≡ k + index
     pub within : index < length rs
@@ -42,7 +42,7 @@ module _ (g : Signature) where
     pub reduct : x .reduct ≡ instance (λ v. getD σ v []) (getD rs index noRule .rhs)
     pub earlier : (j : ℕ) → j < index → bind g (getD rs j noRule .lhs) ws [] ≡ none
 
-  pub first-some : (rs : List Rule) (k : ℕ) (ws : List ℕ) (x : Redex) → firstMatch g rs k ws ≡ some x → Lowest rs k ws x
+  pub first-some : (rs : List Rule) (k : ℕ) (ws : List ℕ) (x : Contraction) → firstMatch g rs k ws ≡ some x → Lowest rs k ws x
   first-some [] k ws x e = absurd (let z : _≡_ {A = ℕ} 0 1 = cc (first-nil k ws) in omega arith)
   first-some (r ∷ rs) k ws x e = go (bind g (r .lhs) ws []) refl (first-some rs (suc k) ws x)
     where
@@ -89,11 +89,11 @@ module _ (g : Signature) where
     chain-end b none = refl
     chain-end b (some σ) = bind-nil g b σ
 
-    pub bind-rest : (b : List ℕ) {r : Rule} → Lawful g r → bind g (r .lhs) (u ++ b) [] ≡ bind g (r .lhs) u []
+    pub bind-rest : (b : List ℕ) {r : Rule} → WellFormedRule g r → bind g (r .lhs) (u ++ b) [] ≡ bind g (r .lhs) u []
     bind-rest b {r} law = rw (append-nil (r .lhs)) at (bind-append g few [] b [] (law .left) whole) ∙ chain-end b (bind g (r .lhs) u [])
 
     -- what follows the subterm does not count
-    pub first-rest : (b : List ℕ) (rs : List Rule) (k : ℕ) → ((j : ℕ) → j < length rs → Lawful g (getD rs j noRule)) →
+    pub first-rest : (b : List ℕ) (rs : List Rule) (k : ℕ) → ((j : ℕ) → j < length rs → WellFormedRule g (getD rs j noRule)) →
         firstMatch g rs k (u ++ b) ≡ firstMatch g rs k u
     first-rest b [] k law = first-nil k (u ++ b) ∙ sym (first-nil k u)
     first-rest b (r ∷ rs) k law = go (bind g (r .lhs) u []) refl (first-rest b rs (suc k) (λ j l. law (suc j) (omega arith)))
@@ -111,36 +111,36 @@ module _ (s : System) where
   g = s .arities
 
   -- how it is found
-  pub redex-first : (ws : List ℕ) → redex s ws ≡ firstMatch g (s .rules) 0 ws
-  unfolding redex
-  redex-first ws = refl
+  pub contraction-first : (ws : List ℕ) → contraction s ws ≡ firstMatch g (s .rules) 0 ws
+  unfolding contraction
+  contraction-first ws = refl
 
   -- none is found exactly where no rule is bound
-  pub redex-unbound : (ws : List ℕ) → redex s ws ≡ none → (k : ℕ) → k < length (s .rules) → bind g (rule s k .lhs) ws [] ≡ none
-  redex-unbound ws e = first-none g (s .rules) 0 ws (sym (redex-first ws) ∙ e)
+  pub contraction-unbound : (ws : List ℕ) → contraction s ws ≡ none → (k : ℕ) → k < length (s .rules) → bind g (rule s k .lhs) ws [] ≡ none
+  contraction-unbound ws e = first-none g (s .rules) 0 ws (sym (contraction-first ws) ∙ e)
 
-  pub unbound-redex : (ws : List ℕ) → ((k : ℕ) → k < length (s .rules) → bind g (rule s k .lhs) ws [] ≡ none) → redex s ws ≡ none
-  unbound-redex ws h = redex-first ws ∙ none-first g (s .rules) 0 ws h
+  pub unbound-contraction : (ws : List ℕ) → ((k : ℕ) → k < length (s .rules) → bind g (rule s k .lhs) ws [] ≡ none) → contraction s ws ≡ none
+  unbound-contraction ws h = contraction-first ws ∙ none-first g (s .rules) 0 ws h
 
   module _ (wf : WellFormed s) where
     -- no rule matches where no word stands
-    pub redex-empty : redex s [] ≡ none
-    redex-empty = unbound-redex [] (λ k l. unbound (wf .lawful k l .left))
+    pub contraction-empty : contraction s [] ≡ none
+    contraction-empty = unbound-contraction [] (λ k l. unbound (wf .wellFormedRules k l .left))
       where
         unbound : {lhs : List ℕ} → Side g lhs → bind g lhs [] [] ≡ none
         unbound (more h f) = unfold bind in refl
 
     module _ {u : List ℕ} (whole : Whole g u) where
       -- what follows the subterm does not count
-      pub redex-rest : (b : List ℕ) → redex s (u ++ b) ≡ redex s u
-      redex-rest b = redex-first (u ++ b) ∙ first-rest g (few-symbols s wf) whole b (s .rules) 0 (wf .lawful) ∙ sym (redex-first u)
+      pub contraction-rest : (b : List ℕ) → contraction s (u ++ b) ≡ contraction s u
+      contraction-rest b = contraction-first (u ++ b) ∙ first-rest g (few-symbols s wf) whole b (s .rules) 0 (wf .wellFormedRules) ∙ sym (contraction-first u)
 
       -- the first rule at a position is that of the subterm there
-      pub redex-at : (a b : List ℕ) → redex s (drop (length a) (a ++ (u ++ b))) ≡ redex s u
-      redex-at a b = rw (drop-append-seam a (u ++ b)) (redex-rest b)
+      pub contraction-at : (a b : List ℕ) → contraction s (drop (length a) (a ++ (u ++ b))) ≡ contraction s u
+      contraction-at a b = rw (drop-append-seam a (u ++ b)) (contraction-rest b)
 
       -- rule number `x .number` matches the subterm u and no lower one does; it is replaced by the instance of the right side
-      pub record Fired (a b : List ℕ) (x : Redex) : Type 0 where
+      pub record Fired (a b : List ℕ) (x : Contraction) : Type 0 where
         pub known : x .number < length (s .rules)
         pub match : Matches g (a ++ (u ++ b)) (length a) (rule s (x .number))
         pub lowest : (k : ℕ) → k < x .number → Matches g (a ++ (u ++ b)) (length a) (rule s k) → ⊥
@@ -148,13 +148,13 @@ module _ (s : System) where
         pub left : Whole g (x .reduct)
 
       -- the first rule that matches, and what it leaves
-      pub fired : (a b : List ℕ) (x : Redex) → redex s u ≡ some x → Fired a b x
+      pub fired : (a b : List ℕ) (x : Contraction) → contraction s u ≡ some x → Fired a b x
       fired a b x e =
           let few = few-symbols s wf in
-          let c = first-some g (s .rules) 0 u x (sym (redex-first u) ∙ e) in
+          let c = first-some g (s .rules) 0 u x (sym (contraction-first u) ∙ e) in
           let q : c .index ≡ x .number = (let n = c .number in omega arith) in
           let k : x .number < length (s .rules) = (let l = c .within in omega arith) in
-          let law = wf .lawful (x .number) k in
+          let law = wf .wellFormedRules (x .number) k in
           let m = matched g few a b whole law (c .σ) (bind-rest g few whole b law ∙ subst (λ n. bind g (rule s n .lhs) u [] ≡ some (c .σ)) q (c .bound)) in
           let d : x .reduct ≡ instance (m .0 .σ) (rule s (x .number) .rhs) =
           subst (λ n. x .reduct ≡ instance (λ v. getD (c .σ) v []) (rule s n .rhs)) q (c .reduct) ∙ sym (m .1) in
@@ -164,11 +164,11 @@ module _ (s : System) where
             reduct = d;
             left = rw d (instance-forest g few (m .0 .σ) (m .0 .whole) (law .right));
             lowest = λ j l. let l′ : j < length (s .rules) = omega arith in
-                unmatched g few a b whole (wf .lawful j l′) (bind-rest g few whole b (wf .lawful j l′) ∙ c .earlier j (omega arith));
+                unmatched g few a b whole (wf .wellFormedRules j l′) (bind-rest g few whole b (wf .wellFormedRules j l′) ∙ c .earlier j (omega arith));
           }
 
       -- no rule matches
-      pub unfired : (a b : List ℕ) → redex s u ≡ none → (k : ℕ) → k < length (s .rules) → Matches g (a ++ (u ++ b)) (length a) (rule s k) → ⊥
+      pub unfired : (a b : List ℕ) → contraction s u ≡ none → (k : ℕ) → k < length (s .rules) → Matches g (a ++ (u ++ b)) (length a) (rule s k) → ⊥
       unfired a b e k l =
           let few = few-symbols s wf in
-          unmatched g few a b whole (wf .lawful k l) (bind-rest g few whole b (wf .lawful k l) ∙ redex-unbound u e k l)
+          unmatched g few a b whole (wf .wellFormedRules k l) (bind-rest g few whole b (wf .wellFormedRules k l) ∙ contraction-unbound u e k l)

@@ -11,13 +11,13 @@ use Rattle.system.specs.Limits.{variable}
 use Rattle.system.specs.Signature.{Signature, Symbol, arity, argument}
 use Rattle.system.specs.System.{System, rule, head}
 use Rattle.system.specs.Terms.{Forest, empty, more, Word, Whole, Side, WellFormed}
-use Rattle.matching.specs.Matching.{bind, redex}
+use Rattle.matching.specs.Matching.{bind, contraction}
 use Rattle.matching.specs.StrategyTest.{Idle, Constructor}
 use Rattle.system.proofs.Signatures.{arity-variable, symbol-below, few-symbols}
 use Rattle.system.proofs.Forests.{Wholes, parts-of, forest-take, flatten-set, focus-here, Node, node-whole, node-set}
 use Rattle.system.proofs.Places.{root-argument, at-head}
 use Rattle.matching.proofs.Matched.{bind-append, bind-symbol, bind-differ, bind-variable, bind-any, chain}
-use Rattle.matching.proofs.Firsts.{redex-unbound, unbound-redex}
+use Rattle.matching.proofs.Firsts.{contraction-unbound, unbound-contraction}
 
 chain-cong : (o : Option (List (List ℕ))) (f f′ : List (List ℕ) → Option (List (List ℕ))) → ((σ : List (List ℕ)) → f σ ≡ f′ σ) → chain o f ≡ chain o f′
 chain-cong none f f′ h = refl
@@ -80,16 +80,16 @@ module _ (s : System) (wf : WellFormed s) where
   unheaded (more {w = l} {ws = ls} _ _) h (more {w} {ws} _ _) d = bind-differ g l w ls ws [] (symbol-below g l (few-symbols s wf) h) d
 
   unheaded-rule : (k : ℕ) → k < length (s .rules) → {u : List ℕ} → Whole g u → (head (rule s k .lhs) ≡ head u → ⊥) → bind g (rule s k .lhs) u [] ≡ none
-  unheaded-rule k m h d = let law = wf .lawful k m in unheaded (law .left) (law .headed) h d
+  unheaded-rule k m h d = let law = wf .wellFormedRules k m in unheaded (law .left) (law .headed) h d
 
   -- no rule matches at a constructor
-  pub constructor-redex : {u : List ℕ} → Whole g u → Constructor s (head u) → redex s u ≡ none
-  constructor-redex {u} h c = unbound-redex s u (λ k m. unheaded-rule k m h (c k m))
+  pub constructor-contraction : {u : List ℕ} → Whole g u → Constructor s (head u) → contraction s u ≡ none
+  constructor-contraction {u} h c = unbound-contraction s u (λ k m. unheaded-rule k m h (c k m))
 
   -- where none matched, none matches after a change of an idle argument
-  pub idle-redex : (w : ℕ) (us : List (List ℕ)) (i : ℕ) (v : List ℕ) → Node g w us → i < length us → Whole g v → Idle s w i →
-      redex s (w ∷ flatten us) ≡ none → redex s (w ∷ flatten (set us i v)) ≡ none
-  idle-redex w us i v d l h z e = unbound-redex s (w ∷ flatten (set us i v)) (λ k m. elim (ℕ-discrete (head (rule s k .lhs)) w) [
+  pub idle-contraction : (w : ℕ) (us : List (List ℕ)) (i : ℕ) (v : List ℕ) → Node g w us → i < length us → Whole g v → Idle s w i →
+      contraction s (w ∷ flatten us) ≡ none → contraction s (w ∷ flatten (set us i v)) ≡ none
+  idle-contraction w us i v d l h z e = unbound-contraction s (w ∷ flatten (set us i v)) (λ k m. elim (ℕ-discrete (head (rule s k .lhs)) w) [
     | yes q ↦ keep k m q
     | no n ↦ unheaded-rule k m (node-whole g w (set us i v) (node-set g w us i v d h)) n
   ])
@@ -97,4 +97,4 @@ module _ (s : System) (wf : WellFormed s) where
       keep : (k : ℕ) → k < length (s .rules) → head (rule s k .lhs) ≡ w → bind g (rule s k .lhs) (w ∷ flatten (set us i v)) [] ≡ none
       keep k m q =
           subst (λ f. Symbol g f → Node g f us → bind g (rule s k .lhs) (f ∷ flatten us) [] ≡ none → bind g (rule s k .lhs) (f ∷ flatten (set us i v)) [] ≡ none) q
-          (λ n d. idle-keeps g (few-symbols s wf) us i v (wf .lawful k m .left) n d l h (z k m q)) (d .known) d (redex-unbound s (w ∷ flatten us) e k m)
+          (λ n d. idle-keeps g (few-symbols s wf) us i v (wf .wellFormedRules k m .left) n d l h (z k m q)) (d .known) d (contraction-unbound s (w ∷ flatten us) e k m)

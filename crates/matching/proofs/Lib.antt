@@ -3,7 +3,7 @@ pub mod Matched
 pub mod Firsts
 -- The stretches are what `bind` finds; the reduct
 pub mod Words
-pub mod Stretched
+pub mod BindingsAgree
 pub mod Reducts
 -- The strategy test
 pub mod Idle

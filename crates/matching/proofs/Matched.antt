@@ -13,7 +13,7 @@ use borrow.Author.Tests.{lt-ltb, le-ltb, eq-eqb, ne-eqb}
 use Rattle.system.specs.Limits.{variable}
 use Rattle.system.specs.Signature.{Signature, Symbol, span, arity}
 use Rattle.system.specs.System.{Rule, instance}
-use Rattle.system.specs.Terms.{Forest, empty, more, Word, Whole, Stands, first, later, Numbered, end, name, next, Lawful}
+use Rattle.system.specs.Terms.{Forest, empty, more, Word, Whole, Member, first, later, Numbered, end, symbol, next, WellFormedRule}
 use Rattle.matching.specs.Matching.{Matches, bind}
 use Rattle.system.proofs.Signatures.{arity-variable, symbol-below}
 use Rattle.system.proofs.Forests.{span-forest, join, split, Split, Wholes, wholes-cons, wholes-getD, getD-any}
@@ -33,7 +33,7 @@ pub instance-variable : (σ : ℕ → List ℕ) (l n : ℕ) (ls : List ℕ) → 
 unfolding instance
 instance-variable σ l n ls e = rw (e, le-ltb (variable + n) variable (omega arith), add-sub-cancel-left variable n)
 
-pub instance-cong : (σ τ : ℕ → List ℕ) (ls : List ℕ) → ((w n : ℕ) → Stands w ls → w ≡ variable + n → σ n ≡ τ n) → instance σ ls ≡ instance τ ls
+pub instance-cong : (σ τ : ℕ → List ℕ) (ls : List ℕ) → ((w n : ℕ) → Member w ls → w ≡ variable + n → σ n ≡ τ n) → instance σ ls ≡ instance τ ls
 instance-cong σ τ [] h = rw (instance-nil σ, instance-nil τ)
 instance-cong σ τ (w ∷ ws) h =
     let ih = instance-cong σ τ ws (λ w n st e. h w n (later st) e) in
@@ -119,7 +119,7 @@ module _ (g : Signature) where
     bind-sound b σ σ′ empty end empty c e =
         let q : σ′ ≡ σ = cc (bind-nil b σ) in
         record { added = []; equal = q ∙ sym (append-nil σ); count = ap length q ∙ c; wholes = λ i l. absurd (not-suc-le-zero l); filled = instance-nil _ }
-    bind-sound b σ σ′ (more _ f) (name {w = l} {ws = ls} h nb) (more {w} {ws} _ fu) c e =
+    bind-sound b σ σ′ (more _ f) (symbol {w = l} {ws = ls} h nb) (more {w} {ws} _ fu) c e =
         elim (ℕ-discrete l w) [
           | yes q ↦
               let d = bind-sound b σ σ′ f nb (rw (← q) at fu) c (rw (← q, bind-symbol l ls (ws ++ b) σ h) at e) in
@@ -151,7 +151,7 @@ module _ (g : Signature) where
     pub bind-complete : {n m : ℕ} {ls : List ℕ} (b : List ℕ) (σ : List (List ℕ)) (τ : ℕ → List ℕ) → ((v : ℕ) → Whole g (τ v)) → Numbered n m ls →
         (σ′ : List (List ℕ)) × (bind g ls (instance τ ls ++ b) σ ≡ some σ′)
     bind-complete b σ τ h end = (σ, bind-nil _ σ)
-    bind-complete b σ τ h (name {w} {ws} l nb) =
+    bind-complete b σ τ h (symbol {w} {ws} l nb) =
         rw (instance-symbol τ w ws l, bind-symbol w ws (instance τ ws ++ b) σ l) (bind-complete b σ τ h nb)
     bind-complete b σ τ h (next {n} {w} {ws} e nb) =
         rw (instance-variable τ w n ws e, append-assoc (τ n) (instance τ ws) b, bind-variable w ws (instance τ ws ++ b) σ (omega arith) (h n))
@@ -166,13 +166,13 @@ module _ (g : Signature) where
         (subst (λ n. Forest g (Symbol g) n (τ (w - variable) ++ instance τ ws)) (omega (arith, arity-variable g w few l))
         (join g (Symbol g) (h (w - variable)) (instance-forest τ h f)))
 
-    module _ (a b : List ℕ) {u : List ℕ} (whole : Whole g u) {r : Rule} (law : Lawful g r) where
+    module _ (a b : List ℕ) {u : List ℕ} (whole : Whole g u) {r : Rule} (law : WellFormedRule g r) where
       -- bound: the rule matches, by the values that bind found; its right side is filled with them
       pub matched : (σ : List (List ℕ)) → bind g (r .lhs) (u ++ b) [] ≡ some σ →
           (m : Matches g (a ++ (u ++ b)) (length a) r) × (instance (m .σ) (r .rhs) ≡ instance (λ v. getD σ v []) (r .rhs))
       matched σ e =
           let c = bind-sound b [] σ (law .left) (law .numbered) whole refl e in
-          let same : (ls : List ℕ) → ((w : ℕ) → Stands w ls → w < variable + law .count) → instance (λ v. getD σ v u) ls ≡ instance (λ v. getD σ v []) ls
+          let same : (ls : List ℕ) → ((w : ℕ) → Member w ls → w < variable + law .count) → instance (λ v. getD σ v u) ls ≡ instance (λ v. getD σ v []) ls
           = λ ls h. instance-cong (λ v. getD σ v u) (λ v. getD σ v []) ls
           (λ w n st q. getD-any σ u [] n (let h′ = h w st in let k = c .count in omega arith)) in (
             record {

@@ -14,23 +14,23 @@ use Rattle.system.specs.declared.Shape.{Shape}
 use Rattle.system.specs.Limits.{variable}
 use Rattle.system.specs.Signature.{Symbol, span}
 use Rattle.system.specs.System.{System, rule, instance}
-use Rattle.system.specs.Terms.{Whole, Lawful}
+use Rattle.system.specs.Terms.{Whole, WellFormedRule}
 use Rattle.system.specs.Answers.{signatureOf}
 use Rattle.system.proofs.Signatures.{few-symbols}
 use Rattle.system.proofs.Forests.{span-forest}
 use Rattle.matching.specs.declared.Match.{Match}
-use Rattle.matching.specs.declared.Found.{Found}
-use Rattle.matching.specs.declared.Found.the-variants.{Nothing, First}
+use Rattle.matching.specs.declared.FirstRule.{FirstRule}
+use Rattle.matching.specs.declared.FirstRule.the-variants.{Nothing, First}
 use Rattle.system.specs.Book.{systemOf}
 use Rattle.system.specs.layout.Accepted.{Accepted}
-use Rattle.matching.specs.Matching.{Matches, bind, redex}
-use Rattle.matching.specs.Stretches.{Stretches, matchOf}
-use Rattle.matching.specs.rules.Fits.{ends, value, stretchesOf, redexOf, reductLength, RightSide, Within}
+use Rattle.matching.specs.Matching.{Matches, bind, contraction}
+use Rattle.matching.specs.Bindings.{Bindings, matchOf}
+use Rattle.matching.specs.rules.Searches.{lhsEnd, value, bindingsOf, contractionOf, reductLength, RightSide, Within}
 use Rattle.matching.proofs.Matched.{instance-nil, instance-symbol, instance-variable, instance-cong, bind-sound}
-use Rattle.matching.proofs.Firsts.{redex-first, redex-rest, Fired, fired, unfired}
-use Rattle.matching.proofs.Stretched.{Chosen, Answers, answers}
-use Rattle.matching.proofs.rules.Widths.{ends-bound}
-use Rattle.system.proofs.layout.Books.{well, signature, first-rest, lawful, rule-count}
+use Rattle.matching.proofs.Firsts.{contraction-first, contraction-rest, Fired, fired, unfired}
+use Rattle.matching.proofs.BindingsAgree.{Chosen, Answers, answers}
+use Rattle.matching.proofs.rules.Widths.{lhsEnd-bound}
+use Rattle.system.proofs.layout.Books.{well, signature, first-rest, wellFormedRules, rule-count}
 use Rattle.matching.proofs.rules.Searches.{match-start}
 
 -- ---- lengths
@@ -84,12 +84,12 @@ module _ (lengths : List ℕ) where
       length-variable h = ap (reductLength lengths) split ∙ length-cons-variable w (words (j + 1)) h
 
 -- what a variable stands for is as long as its stretch
-pub value-length : (ws : List ℕ) (a : Stretches) → Within ws (a .starts) (a .lengths) → (v : ℕ) → length (value ws a v) ≡ getD (a .lengths) v 0
+pub value-length : (ws : List ℕ) (a : Bindings) → Within ws (a .starts) (a .lengths) → (v : ℕ) → length (value ws a v) ≡ getD (a .lengths) v 0
 unfolding value
 value-length ws a h v = let i = h .inside v in length-take-le (getD (a .lengths) v 0) (drop (getD (a .starts) v 0) ws) (rw (length-drop (getD (a .starts) v 0) ws) (omega arith))
 
 -- so the reduct is as long as the lengths say
-pub reduct-length : (ws : List ℕ) (a : Stretches) → Within ws (a .starts) (a .lengths) → (ls : List ℕ) → length (instance (value ws a) ls) ≡ reductLength (a .lengths) ls
+pub reduct-length : (ws : List ℕ) (a : Bindings) → Within ws (a .starts) (a .lengths) → (ls : List ℕ) → length (instance (value ws a) ls) ≡ reductLength (a .lengths) ls
 reduct-length ws a h ls = instance-length (a .lengths) (value ws a) (value-length ws a h) ls
 
 -- ---- the answer over an accepted book
@@ -102,53 +102,53 @@ module _ (b : List ℕ) (sh : Shape) (acc : Accepted b sh) where
     found : Answers b ws (signatureOf b) (s .rules) 0 (matchOf s ws)
     found =
         rw (← match-start acc ws)
-        (answers b ws (signatureOf b) (s .rules) 0 (sh .«first_rule») (first-rest b sh acc .words) (λ j h. lawful b sh acc j (rw (rule-count b sh acc) h)))
+        (answers b ws (signatureOf b) (s .rules) 0 (sh .«first_rule») (first-rest b sh acc .words) (λ j h. wellFormedRules b sh acc j (rw (rule-count b sh acc) h)))
 
     -- the search finds the first redex
-    pub match-redex : redexOf b ws (matchOf s ws) ≡ redex s ws
-    match-redex = found .redex ∙ rw (← signature b sh acc) (sym (redex-first s ws))
+    pub match-contraction : contractionOf b ws (matchOf s ws) ≡ contraction s ws
+    match-contraction = found .contraction ∙ rw (← signature b sh acc) (sym (contraction-first s ws))
 
     -- its right side, and the stretches of its variables
-    pub match-right : (m : Match) → m ≡ matchOf s ws → {n rhs size : ℕ} → m .found ≡ First n rhs size → RightSide b rhs size
-    match-right m e {n} {rhs} {size} f = found .right n rhs size (ap (λ y. y .found) (sym e) ∙ f)
+    pub match-right : (m : Match) → m ≡ matchOf s ws → {n rhs size : ℕ} → m .rule ≡ First n rhs size → RightSide b rhs size
+    match-right m e {n} {rhs} {size} f = found .right n rhs size (ap (λ y. y .rule) (sym e) ∙ f)
 
     pub match-within : (m : Match) → m ≡ matchOf s ws → Within ws (m .starts) (m .lengths)
     match-within m e = rw e (found .within)
 
     -- the redex, by what was found
-    pub match-none : (m : Match) → m ≡ matchOf s ws → m .found ≡ Nothing → redex s ws ≡ none
-    unfolding redexOf
-    match-none m e f = sym (match-redex) ∙ ap (redexOf b ws) (sym e) ∙ rw (f, redexOf)
+    pub match-none : (m : Match) → m ≡ matchOf s ws → m .rule ≡ Nothing → contraction s ws ≡ none
+    unfolding contractionOf
+    match-none m e f = sym (match-contraction) ∙ ap (contractionOf b ws) (sym e) ∙ rw (f, contractionOf)
 
-    pub match-some : (m : Match) → m ≡ matchOf s ws → {n rhs size : ℕ} → m .found ≡ First n rhs size →
-        redex s ws ≡ some (record { number = n; reduct = instance (value ws (stretchesOf m)) (take size (drop rhs b)) })
-    unfolding redexOf
-    match-some m e f = sym (match-redex) ∙ ap (redexOf b ws) (sym e) ∙ rw (f, redexOf)
+    pub match-some : (m : Match) → m ≡ matchOf s ws → {n rhs size : ℕ} → m .rule ≡ First n rhs size →
+        contraction s ws ≡ some (record { number = n; reduct = instance (value ws (bindingsOf m)) (take size (drop rhs b)) })
+    unfolding contractionOf
+    match-some m e f = sym (match-contraction) ∙ ap (contractionOf b ws) (sym e) ∙ rw (f, contractionOf)
 
     -- the reduct's length, from the lengths that were found
     pub match-length : (m : Match) → m ≡ matchOf s ws → (rhs size : ℕ) →
-        length (instance (value ws (stretchesOf m)) (take size (drop rhs b))) ≡ reductLength (m .lengths) (take size (drop rhs b))
-    match-length m e rhs size = reduct-length ws (stretchesOf m) (match-within m e) (take size (drop rhs b))
+        length (instance (value ws (bindingsOf m)) (take size (drop rhs b))) ≡ reductLength (m .lengths) (take size (drop rhs b))
+    match-length m e rhs size = reduct-length ws (bindingsOf m) (match-within m e) (take size (drop rhs b))
 
   -- ---- over a whole subterm u, wherever it stands: a ++ (u ++ d), and ws the words from it on
 
   module _ (a d : List ℕ) {u : List ℕ} (whole : Whole (s .arities) u) (m : Match) (e : m ≡ matchOf s (u ++ d)) where
     -- nothing is found: no rule matches
-    pub nothing-matches : m .found ≡ Nothing → (k : ℕ) → k < length (s .rules) → Matches (s .arities) (a ++ (u ++ d)) (length a) (rule s k) → ⊥
-    nothing-matches f = unfired s (well b sh acc) whole a d (sym (redex-rest s (well b sh acc) whole d) ∙ match-none (u ++ d) m e f)
+    pub nothing-matches : m .rule ≡ Nothing → (k : ℕ) → k < length (s .rules) → Matches (s .arities) (a ++ (u ++ d)) (length a) (rule s k) → ⊥
+    nothing-matches f = unfired s (well b sh acc) whole a d (sym (contraction-rest s (well b sh acc) whole d) ∙ match-none (u ++ d) m e f)
 
     -- a rule is found: it matches, no lower one does, and the substitution makes the instance, which is whole
-    pub first-matches : {n rhs size : ℕ} → m .found ≡ First n rhs size →
-        Fired s (well b sh acc) whole a d (record { number = n; reduct = instance (value (u ++ d) (stretchesOf m)) (take size (drop rhs b)) })
-    first-matches f = fired s (well b sh acc) whole a d _ (sym (redex-rest s (well b sh acc) whole d) ∙ match-some (u ++ d) m e f)
+    pub first-matches : {n rhs size : ℕ} → m .rule ≡ First n rhs size →
+        Fired s (well b sh acc) whole a d (record { number = n; reduct = instance (value (u ++ d) (bindingsOf m)) (take size (drop rhs b)) })
+    first-matches f = fired s (well b sh acc) whole a d _ (sym (contraction-rest s (well b sh acc) whole d) ∙ match-some (u ++ d) m e f)
 
     -- what its left side is bound to
-    module _ {n rhs size : ℕ} (f : m .found ≡ First n rhs size) where
-      abbrev c : Chosen b (u ++ d) (signatureOf b) (s .rules) 0 n (stretchesOf (matchOf s (u ++ d)))
-      c = found (u ++ d) .chosen n rhs size (ap (λ y. y .found) (sym e) ∙ f)
+    module _ {n rhs size : ℕ} (f : m .rule ≡ First n rhs size) where
+      abbrev c : Chosen b (u ++ d) (signatureOf b) (s .rules) 0 n (bindingsOf (matchOf s (u ++ d)))
+      c = found (u ++ d) .chosen n rhs size (ap (λ y. y .rule) (sym e) ∙ f)
 
-      law : Lawful (s .arities) (rule s n)
-      law = well b sh acc .lawful n (first-matches f .known)
+      law : WellFormedRule (s .arities) (rule s n)
+      law = well b sh acc .wellFormedRules n (first-matches f .known)
 
       bound : bind (s .arities) (rule s n .lhs) (u ++ d) [] ≡ some (c .σ)
       bound =
@@ -156,21 +156,21 @@ module _ (b : List ℕ) (sh : Shape) (acc : Accepted b sh) where
           ap (λ y. bind y (rule s n .lhs) (u ++ d) []) (signature b sh acc) ∙ subst (λ y. bind (signatureOf b) (rule s y .lhs) (u ++ d) [] ≡ some (c .σ)) i (c .bound)
 
     -- its left side takes the subterm's words, all of them
-    pub found-ends : {n rhs size : ℕ} → m .found ≡ First n rhs size → ends (s .arities) (rule s n .lhs) (u ++ d) 0 ≡ span (s .arities) (u ++ d) 1
-    found-ends f =
-        let z = ends-bound (s .arities) (few-symbols s (well b sh acc)) d 0 [] (c f .σ) (law f .left) whole (bound f) in
+    pub found-lhsEnd : {n rhs size : ℕ} → m .rule ≡ First n rhs size → lhsEnd (s .arities) (rule s n .lhs) (u ++ d) 0 ≡ span (s .arities) (u ++ d) 1
+    found-lhsEnd f =
+        let z = lhsEnd-bound (s .arities) (few-symbols s (well b sh acc)) d 0 [] (c f .σ) (law f .left) whole (bound f) in
         omega (arith, span-forest (s .arities) (Symbol (s .arities)) d whole)
 
     -- the words of the stretches fill its left side to the subterm
-    pub found-instance : {n rhs size : ℕ} → m .found ≡ First n rhs size → instance (value (u ++ d) (stretchesOf m)) (rule s n .lhs) ≡ u
+    pub found-instance : {n rhs size : ℕ} → m .rule ≡ First n rhs size → instance (value (u ++ d) (bindingsOf m)) (rule s n .lhs) ≡ u
     found-instance {n} f =
-        instance-cong (value (u ++ d) (stretchesOf m)) (λ v. getD (c f .σ) v []) (rule s n .lhs) (λ v k st y. ap (λ x. value (u ++ d) (stretchesOf x) k) e ∙ sym (c f .reads .values k))
+        instance-cong (value (u ++ d) (bindingsOf m)) (λ v. getD (c f .σ) v []) (rule s n .lhs) (λ v k st y. ap (λ x. value (u ++ d) (bindingsOf x) k) e ∙ sym (c f .reads .values k))
         ∙ bind-sound (s .arities) (few-symbols s (well b sh acc)) d [] (c f .σ) (law f .left) (law f .numbered) whole refl (bound f) .filled
 
     -- so a rule is found exactly if some rule matches
-    pub found-exactly : (m .found ≡ Nothing) ↔ ((k : ℕ) → k < length (s .rules) → Matches (s .arities) (a ++ (u ++ d)) (length a) (rule s k) → ⊥)
-    found-exactly = (nothing-matches, λ h. go (m .found) refl h)
+    pub found-exactly : (m .rule ≡ Nothing) ↔ ((k : ℕ) → k < length (s .rules) → Matches (s .arities) (a ++ (u ++ d)) (length a) (rule s k) → ⊥)
+    found-exactly = (nothing-matches, λ h. go (m .rule) refl h)
       where
-        go : (o : Found) → m .found ≡ o → ((k : ℕ) → k < length (s .rules) → Matches (s .arities) (a ++ (u ++ d)) (length a) (rule s k) → ⊥) → m .found ≡ Nothing
+        go : (o : FirstRule) → m .rule ≡ o → ((k : ℕ) → k < length (s .rules) → Matches (s .arities) (a ++ (u ++ d)) (length a) (rule s k) → ⊥) → m .rule ≡ Nothing
         go Nothing f h = f
         go (First n rhs size) f h = let c = first-matches f in absurd (h n (c .known) (c .match))

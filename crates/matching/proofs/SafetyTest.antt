@@ -13,7 +13,7 @@ use borrow.Author.Tests.{leb-true, le-leb, eq-eqb, ne-eqb}
 use Rattle.system.specs.Limits.{variable}
 use Rattle.system.specs.Signature.{Symbol}
 use Rattle.system.specs.System.{System, Rule, strategy, rule, noRule, head}
-use Rattle.system.specs.Terms.{Stands, first, later}
+use Rattle.system.specs.Terms.{Member, first, later}
 use Rattle.matching.specs.StrategyTest.{Idle, IdleEntry, idle, Constructor, Passes, Safe}
 use Rattle.matching.specs.safety.Computed.{every, isVariable, idleTest, idles, closes, constructs, passes}
 
@@ -47,13 +47,13 @@ module _ (s : System) (f : ℕ) where
     | no d ↦ rw (ne-eqb (head (rule s k .lhs)) f d)
   ])
 
-  pub idles-sound : (es : List ℕ) → idles (idleTest s f) es ≡ true → (e : ℕ) → Stands e es → IdleEntry s f e
+  pub idles-sound : (es : List ℕ) → idles (idleTest s f) es ≡ true → (e : ℕ) → Member e es → IdleEntry s f e
   unfolding idles
   idles-sound (zero ∷ es) q e st = absurd (let z : _≡_ {A = ℕ} 0 1 = cc in omega arith)
   idles-sound (suc i ∷ es) q e first = idle (idle-sound i (both (idleTest s f i) _ q .0))
   idles-sound (suc i ∷ es) q e (later st) = idles-sound es (both (idleTest s f i) _ q .1) e st
 
-  pub idles-complete : (es : List ℕ) → ((e : ℕ) → Stands e es → IdleEntry s f e) → idles (idleTest s f) es ≡ true
+  pub idles-complete : (es : List ℕ) → ((e : ℕ) → Member e es → IdleEntry s f e) → idles (idleTest s f) es ≡ true
   unfolding idles
   idles-complete [] h = refl
   idles-complete (zero ∷ es) h = elim (h 0 first) [ ]
@@ -66,7 +66,7 @@ module _ (s : System) (f : ℕ) where
     pub before : List ℕ
     pub after : List ℕ
     pub split : es ≡ before ++ 0 ∷ after
-    pub last : (e : ℕ) → Stands e after → IdleEntry s f e
+    pub last : (e : ℕ) → Member e after → IdleEntry s f e
 
   pub closes-sound : (es : List ℕ) → closes (idleTest s f) es ≡ true → Closed es
   unfolding closes
@@ -78,7 +78,7 @@ module _ (s : System) (f : ℕ) where
       go false e q ih = let c = ih q in record { before = 0 ∷ c .before; after = c .after; split = ap (λ r. 0 ∷ r) (c .split); last = c .last }
   closes-sound (suc i ∷ es) q = let c = closes-sound es q in record { before = suc i ∷ c .before; after = c .after; split = ap (λ r. suc i ∷ r) (c .split); last = c .last }
 
-  pub closes-complete : (before after : List ℕ) → ((e : ℕ) → Stands e after → IdleEntry s f e) → closes (idleTest s f) (before ++ 0 ∷ after) ≡ true
+  pub closes-complete : (before after : List ℕ) → ((e : ℕ) → Member e after → IdleEntry s f e) → closes (idleTest s f) (before ++ 0 ∷ after) ≡ true
   unfolding closes
   closes-complete [] after h = rw (idles-complete after h)
   closes-complete (zero ∷ before) after h = rw (closes-complete before after h) (or-true (idles (idleTest s f) (before ++ 0 ∷ after)))

@@ -1,5 +1,5 @@
 pub mod Matching
-pub mod Stretches
+pub mod Bindings
 pub mod StrategyTest
 pub mod Cases
 -- Inner: the search over the rules; the strategy test, symbol by symbol

@@ -33,13 +33,13 @@ bind g (l ∷ ls) (w ∷ ws) σ =
     ]
 
 -- a rule that matches, by its number, and its reduct: "the right side, so filled"
-pub record Redex : Type 0 where
+pub record Contraction : Type 0 where
   pub number : ℕ
   pub reduct : List ℕ
 
 -- "The search tries rules in book order and gives up a rule at its first unequal word": the first of the rules, numbered from k on, that
 -- matches the front of ws
-unfoldable pub firstMatch : Signature → List Rule → ℕ → List ℕ → Option Redex
+unfoldable pub firstMatch : Signature → List Rule → ℕ → List ℕ → Option Contraction
 firstMatch g [] k ws = none
 firstMatch g (r ∷ rs) k ws =
     elim (bind g (r .lhs) ws []) [
@@ -48,5 +48,5 @@ firstMatch g (r ∷ rs) k ws =
     ]
 
 -- "the lowest-numbered rule that fits here", at the front of ws
-unfoldable pub redex : System → List ℕ → Option Redex
-redex s ws = firstMatch (s .arities) (s .rules) 0 ws
+unfoldable pub contraction : System → List ℕ → Option Contraction
+contraction s ws = firstMatch (s .arities) (s .rules) 0 ws

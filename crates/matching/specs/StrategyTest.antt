@@ -9,7 +9,7 @@ use Rattle.system.specs.Numbers.{taken, unsettled, numberOf}
 use Rattle.system.specs.Limits.{variable}
 use Rattle.system.specs.Signature.{Symbol, argument}
 use Rattle.system.specs.System.{System, strategy, rule, head}
-use Rattle.system.specs.Terms.{Stands}
+use Rattle.system.specs.Terms.{Member}
 use Rattle.system.specs.Parser.{Parsed, ok, fault}
 use Rattle.system.specs.Answers.{answerOf}
 
@@ -27,7 +27,7 @@ pub record Guarded (s : System) (f : ℕ) : Type 0 where
   pub before : List ℕ
   pub after : List ℕ
   pub split : strategy s f ≡ before ++ 0 ∷ after
-  pub last : (e : ℕ) → Stands e after → IdleEntry s f e
+  pub last : (e : ℕ) → Member e after → IdleEntry s f e
 
 -- a constructor: "no left side starts with it"
 abbrev pub Constructor : System → ℕ → Type 0

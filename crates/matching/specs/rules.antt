@@ -1,2 +1,2 @@
 -- The search over the rules, and the reduct: inner.
-pub mod Fits
+pub mod Searches

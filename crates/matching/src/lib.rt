@@ -4,7 +4,7 @@
 ghost use mathlib.Core.Path.{_≡_};
 ghost use Rattle.system.specs.Parser.{read};
 ghost use Rattle.system.specs.Book.{systemOf};
-ghost use Rattle.matching.specs.Stretches.{matchOf};
+ghost use Rattle.matching.specs.Bindings.{matchOf};
 ghost use Rattle.matching.specs.StrategyTest.{TestedBook};
 use system::Answer;
 use system::limits::VARIABLES;
@@ -15,7 +15,7 @@ pub mod rules;
 pub mod safety;
 
 // The first rule that matches: its number, the index in the book of the first word of its right side, and how many words that has.
-pub enum Found {
+pub enum FirstRule {
     Nothing,
     First {
         number: usize,
@@ -26,7 +26,7 @@ pub enum Found {
 
 // What was found, and for each variable where its stretch of the subterm starts and how many words it has; 0 and 0 of the others.
 pub struct Match {
-    pub found: Found,
+    pub rule: FirstRule,
     pub starts: [usize; VARIABLES],
     pub lengths: [usize; VARIABLES],
 }
@@ -38,13 +38,13 @@ pub fn first_match(book: &[u16], ws: &[u16]) -> Match
     let s = scan_book(book);
     if s.answer.number != TAKEN {
         return Match {
-            found: Found::Nothing,
+            rule: FirstRule::Nothing,
             starts: [0; VARIABLES],
             lengths: [0; VARIABLES],
         };
     }
     let fit = rules::first_rule(book, s.shape, ws);
-    fit.found
+    fit.matched
 }
 
 // The strategy test: the reader's answer where it refuses the book, else 0 0 0 where every symbol passes, and otherwise 14 with a

@@ -5,9 +5,9 @@ ghost use lib.ListN.{length, getD, take, drop};
 ghost use Rattle.system.specs.Answers.{signatureOf};
 ghost use Rattle.system.specs.Book.{systemOf};
 ghost use Rattle.system.specs.layout.Accepted.{Accepted};
-ghost use Rattle.matching.specs.Stretches.{takes};
-ghost use Rattle.matching.specs.rules.Fits.{fitOf, RightSide, reductLength};
-use crate::Found;
+ghost use Rattle.matching.specs.Bindings.{consumed};
+ghost use Rattle.matching.specs.rules.Searches.{searchOf, RightSide, reductLength};
+use crate::FirstRule;
 use crate::Match;
 use system::Shape;
 use system::layout::rules::rule_at;
@@ -17,14 +17,14 @@ use system::words::span;
 use system::words::wide;
 
 // What was found, and how many words the left side that matched took: all those of the subterm.
-pub struct Fit {
-    pub found: Match,
+pub struct Search {
+    pub matched: Match,
     pub width: usize,
 }
 
 // How many words at the front of ws a word of a left side takes; 0 where the words are unequal.
-fn takes(book: &[u16], l: u16, ws: &[u16]) -> usize
-    ensures { λ r. ⌜ (r ≡ takes (signatureOf (now (book .entry))) l (now (ws .entry))) × (r ≤ length (now (ws .entry))) ⌝ }
+fn consumed(book: &[u16], l: u16, ws: &[u16]) -> usize
+    ensures { λ r. ⌜ (r ≡ consumed (signatureOf (now (book .entry))) l (now (ws .entry))) × (r ≤ length (now (ws .entry))) ⌝ }
 {
     if ws.len() == 0 {
         return 0;
@@ -40,11 +40,11 @@ fn takes(book: &[u16], l: u16, ws: &[u16]) -> usize
 
 // The first rule that matches the subterm at the front of ws; what follows the subterm does not count. Most rules start with another
 // symbol: they are given up before the stretches are cleared.
-pub fn first_rule(book: &[u16], shape: Shape, ws: &[u16]) -> Fit
+pub fn first_rule(book: &[u16], shape: Shape, ws: &[u16]) -> Search
     requires { ⌜ Accepted (now book) shape ⌝ }
-    ensures { λ r. ⌜ r ≡ fitOf (systemOf (now (book .entry))) (now (ws .entry)) ⌝ }
+    ensures { λ r. ⌜ r ≡ searchOf (systemOf (now (book .entry))) (now (ws .entry)) ⌝ }
 {
-    let mut found = Found::Nothing;
+    let mut found = FirstRule::Nothing;
     let mut starts = [0usize; VARIABLES];
     let mut lengths = [0usize; VARIABLES];
     let mut end = 0;
@@ -57,7 +57,7 @@ pub fn first_rule(book: &[u16], shape: Shape, ws: &[u16]) -> Fit
         let width = r.width;
         at = r.next;
         k += 1;
-        if takes(book, book[lhs], ws) == 0 {
+        if consumed(book, book[lhs], ws) == 0 {
             continue 'rules;
         }
         let mut s = [0usize; VARIABLES];
@@ -66,7 +66,7 @@ pub fn first_rule(book: &[u16], shape: Shape, ws: &[u16]) -> Fit
         let mut q = 0;
         'words: while j < width {
             let w = book[lhs + j];
-            let n = takes(book, w, &ws[q..]);
+            let n = consumed(book, w, &ws[q..]);
             if n == 0 {
                 continue 'rules;
             }
@@ -78,7 +78,7 @@ pub fn first_rule(book: &[u16], shape: Shape, ws: &[u16]) -> Fit
             q += n;
             j += 1;
         }
-        found = Found::First {
+        found = FirstRule::First {
             number: this,
             rhs: r.rhs,
             size: r.size,
@@ -88,9 +88,9 @@ pub fn first_rule(book: &[u16], shape: Shape, ws: &[u16]) -> Fit
         end = q;
         break 'rules;
     }
-    Fit {
-        found: Match {
-            found: found,
+    Search {
+        matched: Match {
+            rule: found,
             starts: starts,
             lengths: lengths,
         },

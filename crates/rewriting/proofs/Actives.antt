@@ -7,17 +7,17 @@ use lib.ListN.{length, getD, take, drop, List·getD-append}
 use lib.Seq.{drop-at}
 use Rattle.system.specs.Signature.{Signature, Symbol, argument, subterm}
 use Rattle.system.specs.System.{System, strategy, head}
-use Rattle.system.specs.Terms.{Whole, Stands, WellFormed}
+use Rattle.system.specs.Terms.{Whole, Member, WellFormed}
 use Rattle.rewriting.specs.Rewriting.{Active, root, below}
 use Rattle.system.proofs.Forests.{Wholes, focus-here, Node, as-node}
 use Rattle.system.proofs.Places.{argument-front, at-head, at-argument, at-subterm, root-argument}
 
 -- the argument of u with i others before it
-abbrev pub part : Signature → List ℕ → ℕ → List ℕ
-part g u i = subterm g u (argument g u 0 i)
+abbrev pub argumentOf : Signature → List ℕ → ℕ → List ℕ
+argumentOf g u i = subterm g u (argument g u 0 i)
 
-pub part-at : (g : Signature) (w : ℕ) (us : List (List ℕ)) (i : ℕ) → i < length us → Wholes g (Symbol g) us → part g (w ∷ flatten us) i ≡ getD us i []
-part-at g w us i m h =
+pub argumentOf-at : (g : Signature) (w : ℕ) (us : List (List ℕ)) (i : ℕ) → i < length us → Wholes g (Symbol g) us → argumentOf g (w ∷ flatten us) i ≡ getD us i []
+argumentOf-at g w us i m h =
     let a = w ∷ flatten (take i us) in
     let b = flatten (drop (suc i) us) ++ [] in
     let q : w ∷ flatten us ≡ a ++ (getD us i [] ++ b) = rw (append-nil (w ∷ flatten us)) at (focus-here [] [] w us i m) in
@@ -51,13 +51,13 @@ module _ (s : System) where
 
   -- Q goes down to each argument that stands in the strategy
   abbrev pub Inherited : (List ℕ → Type 0) → Type 0
-  Inherited Q = (u : List ℕ) (i : ℕ) → Whole g u → Q u → Stands (suc i) (strategy s (head u)) → Q (part g u i)
+  Inherited Q = (u : List ℕ) (i : ℕ) → Whole g u → Q u → Member (suc i) (strategy s (head u)) → Q (argumentOf g u i)
 
   module _ (wf : WellFormed s) (Q : List ℕ → Type 0) (down : Inherited Q) where
-    lower : (a b : List ℕ) (w : ℕ) (us : List (List ℕ)) (i : ℕ) → Node g w us → Whole g (w ∷ flatten us) → Q (w ∷ flatten us) → Stands (suc i) (strategy s w) →
+    lower : (a b : List ℕ) (w : ℕ) (us : List (List ℕ)) (i : ℕ) → Node g w us → Whole g (w ∷ flatten us) → Q (w ∷ flatten us) → Member (suc i) (strategy s w) →
         At Q (a ++ ((w ∷ flatten us) ++ b)) (argument g (a ++ ((w ∷ flatten us) ++ b)) (length a) i)
     lower a b w us i d h c st =
-        let m : i < length us = (let z = wf .entries w (suc i) st in let z′ = d .count in omega arith) in
+        let m : i < length us = (let z = wf .entryBound w (suc i) st in let z′ = d .count in omega arith) in
         record {
           before = a ++ w ∷ flatten (take i us);
           here = getD us i [];
@@ -65,10 +65,10 @@ module _ (s : System) where
           equal = focus-here a b w us i m;
           position = at-argument g (Symbol g) a b w us i m (d .wholes);
           whole = d .wholes i m;
-          has = subst Q (part-at g w us i m (d .wholes)) (down (w ∷ flatten us) i h c st);
+          has = subst Q (argumentOf-at g w us i m (d .wholes)) (down (w ∷ flatten us) i h c st);
         }
 
-    lower-at : (t : List ℕ) (p i : ℕ) (a u b : List ℕ) → t ≡ a ++ (u ++ b) → p ≡ length a → Whole g u → Q u → Stands (suc i) (strategy s (getD t p 0)) →
+    lower-at : (t : List ℕ) (p i : ℕ) (a u b : List ℕ) → t ≡ a ++ (u ++ b) → p ≡ length a → Whole g u → Q u → Member (suc i) (strategy s (getD t p 0)) →
         At Q t (argument g t p i)
     lower-at t p i a u b e q h c st =
         let k = as-node g h in

@@ -7,8 +7,8 @@ use mathlib.Core.List.{List, [], _∷_, _++_, append-nil, flatten}
 use lib.ListN.{length, getD, set, take, drop, length-append}
 use Rattle.system.specs.Signature.{Signature, Symbol}
 use Rattle.system.specs.System.{System, strategy, head}
-use Rattle.system.specs.Terms.{more, Whole, Stands, first, later, WellFormed}
-use Rattle.rewriting.specs.Evaluation.{Run, settled, evaluation}
+use Rattle.system.specs.Terms.{more, Whole, Member, first, later, WellFormed}
+use Rattle.rewriting.specs.Evaluation.{Config, finished, evaluation}
 use Rattle.rewriting.specs.Rewriting.{Active, root, below, Steps, done, step}
 use Rattle.rewriting.specs.Outcomes.{Done}
 use Rattle.system.proofs.Forests.{focus, focus-here, node-whole, node-set}
@@ -51,7 +51,7 @@ module _ (s : System) where
     -- a walk on the subterm at an active position is a list of steps of the whole term
     pub walk-steps : {l n : ℕ} {es u v : List ℕ} (k : Walk s l es u v n) (a b : List ℕ) → Bounded s k a b → length (a ++ (u ++ b)) ≤ 4096 →
         Whole g (a ++ (u ++ b)) → Whole g u → Active s (a ++ (u ++ b)) (length a) →
-        ((e : ℕ) → Stands e es → Stands e (strategy s (head u))) → Steps s 4096 n (a ++ (u ++ b)) (a ++ (v ++ b))
+        ((e : ℕ) → Member e es → Member e (strategy s (head u))) → Steps s 4096 n (a ++ (u ++ b)) (a ++ (v ++ b))
     walk-steps end a b fit l ht h act st = done l
     walk-steps (pass q k) a b fit l ht h act st = walk-steps k a b fit l ht h act (λ e z. st e (later z))
     walk-steps (fire {x} q k) a b fit l ht h act st =
@@ -85,13 +85,13 @@ module _ (s : System) where
         (node-whole g w (set us i v) (node-set g w us i v d hv)) (active-change a b _ h act) (λ e z. st e (later z)))
 
     -- whatever the limit: what an evaluation hands back
-    pub theorem-done : (limit : ℕ) (t : List ℕ) (r : Run) → Whole g t → length t ≤ 4096 → evaluation s limit t ≡ settled r → Done s limit t (r .term) (r .steps)
+    pub theorem-done : (limit : ℕ) (t : List ℕ) (r : Config) → Whole g t → length t ≤ 4096 → evaluation s limit t ≡ finished r → Done s limit t (r .term) (r .steps)
     unfolding evaluation
     theorem-done limit t r h l e =
         let c = evaluate-local s limit wf 64 [] [] t 0 r h (rw (append-nil t) e) in
-        let q : r .term ≡ c .part = c .term ∙ append-nil (c .part) in
+        let q : r .term ≡ c .outcome = c .term ∙ append-nil (c .outcome) in
         let n : r .steps ≡ c .taken = c .steps ∙ zero-add (c .taken) in
-        let path : Steps s 4096 (r .steps) t (r .term) = subst₂ (λ k v. Steps s 4096 k t v) (sym n) (sym q) (rw (append-nil t, append-nil (c .part)) at
+        let path : Steps s 4096 (r .steps) t (r .term) = subst₂ (λ k v. Steps s 4096 k t v) (sym n) (sym q) (rw (append-nil t, append-nil (c .outcome)) at
         (walk-steps (c .walk) [] [] (c .bounded) (rw (append-nil t) l) (rw (append-nil t) h) h root (λ e z. z))) in
         record {
           path = path;

@@ -11,56 +11,56 @@ use lib.ListN.{length, getD, set, length-set}
 use lib.Seq.{getD-set-same, getD-set-other}
 use Rattle.system.specs.Signature.{Signature, Symbol}
 use Rattle.system.specs.System.{System, strategy, head}
-use Rattle.system.specs.Terms.{more, Whole, Stands, first, later, WellFormed}
-use Rattle.matching.specs.Matching.{redex}
-use Rattle.rewriting.specs.Evaluation.{Run, settled, evaluation}
+use Rattle.system.specs.Terms.{more, Whole, Member, first, later, WellFormed}
+use Rattle.matching.specs.Matching.{contraction}
+use Rattle.rewriting.specs.Evaluation.{Config, finished, evaluation}
 use Rattle.rewriting.specs.Outcomes.{Stable}
 use Rattle.matching.specs.StrategyTest.{IdleEntry, idle, Guarded, Constructor, Safe}
 use Rattle.matching.proofs.Firsts.{fired, unfired}
 use Rattle.rewriting.proofs.Walks.{Walk, end, pass, fire, open′, evaluate-local}
 use Rattle.rewriting.proofs.Done.{walk-whole}
-use Rattle.rewriting.proofs.Actives.{part, part-at, Inherited, active-at}
-use Rattle.rewriting.proofs.Quiet.{Still, stands-cases, stands-nil, still-rests}
-use Rattle.matching.proofs.Idle.{constructor-redex, idle-redex}
+use Rattle.rewriting.proofs.Actives.{argumentOf, argumentOf-at, Inherited, active-at}
+use Rattle.rewriting.proofs.Inert.{Inert, member-cases, member-nil, inert-rests}
+use Rattle.matching.proofs.Idle.{constructor-contraction, idle-contraction}
 use Rattle.system.proofs.Forests.{Node, node-whole, node-set}
 
 -- a 0 is still to come, and only idle arguments after the last one
 data Closing (s : System) (f : ℕ) : List ℕ → Type 0 where
-  here : {es : List ℕ} → ((e : ℕ) → Stands e es → IdleEntry s f e) → Closing s f (0 ∷ es)
+  here : {es : List ℕ} → ((e : ℕ) → Member e es → IdleEntry s f e) → Closing s f (0 ∷ es)
   there : {e : ℕ} {es : List ℕ} → Closing s f es → Closing s f (e ∷ es)
 
 -- at the root of u, with the entries es to come: the rules will be tried; none matches and that stays so; or no rule begins with its symbol
 data Guard (s : System) (u : List ℕ) (es : List ℕ) : Type 0 where
   ahead : Closing s (head u) es → Guard s u es
-  clear : ((e : ℕ) → Stands e es → IdleEntry s (head u) e) → redex s u ≡ none → Guard s u es
+  clear : ((e : ℕ) → Member e es → IdleEntry s (head u) e) → contraction s u ≡ none → Guard s u es
   free : Constructor s (head u) → Guard s u es
 
 -- still, one level further down
 abbrev Lower : System → ℕ → List ℕ → Type 0
 Lower s zero u = ⊥
-Lower s (suc l) u = Still s l u
+Lower s (suc l) u = Inert s l u
 
 -- each argument in the strategy is still to come, or still
 abbrev Evaluated : System → ℕ → List ℕ → List ℕ → Type 0
-Evaluated s l u es = (i : ℕ) → Stands (suc i) (strategy s (head u)) → Stands (suc i) es ⊎ Lower s l (part (s .arities) u i)
+Evaluated s l u es = (i : ℕ) → Member (suc i) (strategy s (head u)) → Member (suc i) es ⊎ Lower s l (argumentOf (s .arities) u i)
 
 module _ (s : System) where
   abbrev g : Signature
   g = s .arities
 
-  closing-append : (f : ℕ) (b a : List ℕ) → ((e : ℕ) → Stands e a → IdleEntry s f e) → Closing s f (b ++ 0 ∷ a)
+  closing-append : (f : ℕ) (b a : List ℕ) → ((e : ℕ) → Member e a → IdleEntry s f e) → Closing s f (b ++ 0 ∷ a)
   closing-append f [] a h = here h
   closing-append f (x ∷ b) a h = there (closing-append f b a h)
 
   closing : (f : ℕ) → Guarded s f → Closing s f (strategy s f)
   closing f gd = subst (Closing s f) (sym (gd .split)) (closing-append f (gd .before) (gd .after) (gd .last))
 
-  closing-zero : {f : ℕ} {es : List ℕ} → Closing s f es → Stands 0 es
+  closing-zero : {f : ℕ} {es : List ℕ} → Closing s f es → Member 0 es
   closing-zero (here h) = first
   closing-zero (there c) = later (closing-zero c)
 
   -- no rule matched
-  guard-pass : (u es : List ℕ) → redex s u ≡ none → Guard s u (0 ∷ es) → Guard s u es
+  guard-pass : (u es : List ℕ) → contraction s u ≡ none → Guard s u (0 ∷ es) → Guard s u es
   guard-pass u es b (ahead (here h)) = clear h b
   guard-pass u es b (ahead (there c)) = ahead c
   guard-pass u es b (clear h b′) = clear (λ e st. h e (later st)) b
@@ -74,9 +74,9 @@ module _ (s : System) where
     start {u} h = elim (safe (head u) (head-symbol h)) [ inl c ↦ free c | inr gd ↦ ahead (closing (head u) gd) ]
 
     -- no entry is left: no rule matches
-    ended : {u : List ℕ} → Whole g u → Guard s u [] → redex s u ≡ none
-    ended h (clear q b) = b
-    ended h (free c) = constructor-redex s wf h c
+    expansionOf : {u : List ℕ} → Whole g u → Guard s u [] → contraction s u ≡ none
+    expansionOf h (clear q b) = b
+    expansionOf h (free c) = constructor-contraction s wf h c
 
     -- an argument was evaluated
     guard-open : (w : ℕ) (us : List (List ℕ)) (i : ℕ) (v es : List ℕ) → Node g w us → i < length us → Whole g v →
@@ -85,30 +85,30 @@ module _ (s : System) where
     guard-open w us i v es d l h (free c) = free c
     guard-open w us i v es d l h (clear q b) = clear (λ e st. q e (later st)) (go (q (suc i) first))
       where
-        go : IdleEntry s w (suc i) → redex s (w ∷ flatten (set us i v)) ≡ none
-        go (idle z) = idle-redex s wf w us i v d l h z b
+        go : IdleEntry s w (suc i) → contraction s (w ∷ flatten (set us i v)) ≡ none
+        go (idle z) = idle-contraction s wf w us i v d l h z b
 
-    evaluated-open : (l : ℕ) (w : ℕ) (us : List (List ℕ)) (i : ℕ) (v es : List ℕ) → Node g w us → i < length us → Whole g v → Still s l v →
+    evaluated-open : (l : ℕ) (w : ℕ) (us : List (List ℕ)) (i : ℕ) (v es : List ℕ) → Node g w us → i < length us → Whole g v → Inert s l v →
         Evaluated s (suc l) (w ∷ flatten us) (suc i ∷ es) → Evaluated s (suc l) (w ∷ flatten (set us i v)) es
     evaluated-open l w us i v es d m h c x j st =
         let us′ = set us i v in
-        let n : j < length us = (let z = wf .entries w (suc j) st in let z′ = d .count in omega arith) in
-        let p : part g (w ∷ flatten us′) j ≡ getD us′ j [] = part-at g w us′ j (rw (length-set us i v) n) (node-set g w us i v d h .wholes) in
+        let n : j < length us = (let z = wf .entryBound w (suc j) st in let z′ = d .count in omega arith) in
+        let p : argumentOf g (w ∷ flatten us′) j ≡ getD us′ j [] = argumentOf-at g w us′ j (rw (length-set us i v) n) (node-set g w us i v d h .wholes) in
         elim (ℕ-discrete j i) [
-          | yes e ↦ inr (subst (Still s l) (sym (p ∙ ap (λ k. getD us′ k []) e ∙ getD-set-same us i v [] m)) c)
-          | no e ↦ go (p ∙ getD-set-other us i j v [] e ∙ sym (part-at g w us j n (d .wholes))) e (x j st)
+          | yes e ↦ inr (subst (Inert s l) (sym (p ∙ ap (λ k. getD us′ k []) e ∙ getD-set-same us i v [] m)) c)
+          | no e ↦ go (p ∙ getD-set-other us i j v [] e ∙ sym (argumentOf-at g w us j n (d .wholes))) e (x j st)
         ]
       where
-        go : part g (w ∷ flatten (set us i v)) j ≡ part g (w ∷ flatten us) j → (j ≡ i → ⊥) → Stands (suc j) (suc i ∷ es) ⊎ Still s l (part g (w ∷ flatten us) j) →
-            Stands (suc j) es ⊎ Still s l (part g (w ∷ flatten (set us i v)) j)
-        go q e (inl z) = elim (stands-cases z) [ inl y ↦ absurd (e (suc-inj y)) | inr st ↦ inl st ]
-        go q e (inr c) = inr (subst (Still s l) (sym q) c)
+        go : argumentOf g (w ∷ flatten (set us i v)) j ≡ argumentOf g (w ∷ flatten us) j → (j ≡ i → ⊥) → Member (suc j) (suc i ∷ es) ⊎ Inert s l (argumentOf g (w ∷ flatten us) j) →
+            Member (suc j) es ⊎ Inert s l (argumentOf g (w ∷ flatten (set us i v)) j)
+        go q e (inl z) = elim (member-cases z) [ inl y ↦ absurd (e (suc-inj y)) | inr st ↦ inl st ]
+        go q e (inr c) = inr (subst (Inert s l) (sym q) c)
 
-    walk-found : {l n : ℕ} {es u v : List ℕ} → Walk s l es u v n → Whole g u → Guard s u es → Evaluated s l u es → Still s l v
-    walk-found (end {l} {u}) h gd x = (λ _. ended h gd, λ i st. elim (x i st) [ inl z ↦ stands-nil z | inr c ↦ c ])
+    walk-found : {l n : ℕ} {es u v : List ℕ} → Walk s l es u v n → Whole g u → Guard s u es → Evaluated s l u es → Inert s l v
+    walk-found (end {l} {u}) h gd x = (λ _. expansionOf h gd, λ i st. elim (x i st) [ inl z ↦ member-nil z | inr c ↦ c ])
     walk-found (pass {l} {es} {u} q k) h gd x = walk-found k h (guard-pass u es q gd) (λ i st. go i (x i st))
       where
-        go : (i : ℕ) → Stands (suc i) (0 ∷ es) ⊎ Lower s (suc l) (part g u i) → Stands (suc i) es ⊎ Lower s (suc l) (part g u i)
+        go : (i : ℕ) → Member (suc i) (0 ∷ es) ⊎ Lower s (suc l) (argumentOf g u i) → Member (suc i) es ⊎ Lower s (suc l) (argumentOf g u i)
         go i (inl (later st)) = inl st
         go i (inr c) = inr c
     walk-found (fire {x} q k) h gd y = let h′ = fired s wf h [] [] x q .left in walk-found k h′ (start h′) (λ i st. inl st)
@@ -118,32 +118,32 @@ module _ (s : System) where
         walk-found f (node-whole g w (set us i v) (node-set g w us i v d hv)) (guard-open w us i v es d m hv gd) (evaluated-open l w us i v es d m hv c x)
 
     -- a still term has no active position at which a rule matches
-    still-inherited : Inherited s (λ u. (l : ℕ) × Still s l u)
-    still-inherited u i h c st = go (c .0) (c .1)
+    inert-inherited : Inherited s (λ u. (l : ℕ) × Inert s l u)
+    inert-inherited u i h c st = go (c .0) (c .1)
       where
-        go : (l : ℕ) → Still s l u → (l : ℕ) × Still s l (part g u i)
+        go : (l : ℕ) → Inert s l u → (l : ℕ) × Inert s l (argumentOf g u i)
         go zero c = absurd c
         go (suc l) c = (l, c .1 i st)
 
-    still-redex : {u : List ℕ} (l : ℕ) → Whole g u → Still s l u → redex s u ≡ none
-    still-redex zero h c = absurd c
-    still-redex {u} (suc l) h c = elim (safe (head u) (head-symbol h)) [
-      | inl z ↦ constructor-redex s wf h z
+    inert-contraction : {u : List ℕ} (l : ℕ) → Whole g u → Inert s l u → contraction s u ≡ none
+    inert-contraction zero h c = absurd c
+    inert-contraction {u} (suc l) h c = elim (safe (head u) (head-symbol h)) [
+      | inl z ↦ constructor-contraction s wf h z
       | inr gd ↦ c .0 (closing-zero (closing (head u) gd))
     ]
 
     -- whatever the limit: what an evaluation hands back over a safe system
-    pub theorem-found : (limit : ℕ) (t : List ℕ) (r : Run) → Whole g t → evaluation s limit t ≡ settled r → Stable s (r .term)
+    pub theorem-found : (limit : ℕ) (t : List ℕ) (r : Config) → Whole g t → evaluation s limit t ≡ finished r → Stable s (r .term)
     unfolding evaluation
     theorem-found limit t r h e =
         let c = evaluate-local s limit wf 64 [] [] t 0 r h (rw (append-nil t) e) in
-        let k : Still s 64 (c .part) = walk-found (c .walk) h (start h) (λ i st. inl st) in
-        subst (Stable s) (sym (c .term ∙ append-nil (c .part))) (go (c .part) (c .whole) k)
+        let k : Inert s 64 (c .outcome) = walk-found (c .walk) h (start h) (λ i st. inl st) in
+        subst (Stable s) (sym (c .term ∙ append-nil (c .outcome))) (go (c .outcome) (c .whole) k)
       where
-        go : (v : List ℕ) → Whole g v → Still s 64 v → Stable s v
+        go : (v : List ℕ) → Whole g v → Inert s 64 v → Stable s v
         go v h c = record {
           whole = h;
-          normal = λ p act k m x. let y = active-at s wf (λ u. (l : ℕ) × Still s l u) still-inherited h (64, c) act in
-              unfired s wf (y .whole) (y .before) (y .behind) (still-redex (y .has .0) (y .whole) (y .has .1)) k m (rw (← y .equal, ← y .position) x);
-          again = λ limit. rw (append-nil v) at (still-rests s wf limit 64 [] [] v 0 h c);
+          normal = λ p act k m x. let y = active-at s wf (λ u. (l : ℕ) × Inert s l u) inert-inherited h (64, c) act in
+              unfired s wf (y .whole) (y .before) (y .behind) (inert-contraction (y .has .0) (y .whole) (y .has .1)) k m (rw (← y .equal, ← y .position) x);
+          again = λ limit. rw (append-nil v) at (inert-rests s wf limit 64 [] [] v 0 h c);
         }

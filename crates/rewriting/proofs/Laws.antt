@@ -8,13 +8,13 @@ use lib.ListN.{length, getD, drop}
 use lib.Seq.{drop-cons}
 use Rattle.system.specs.Signature.{argument, replace}
 use Rattle.system.specs.System.{System, strategy}
-use Rattle.matching.specs.Matching.{Redex, redex}
-use Rattle.rewriting.specs.Evaluation.{Run, Outcome, settled, stopped, after, rewrite, follow, evaluate, evaluation}
+use Rattle.matching.specs.Matching.{Contraction, contraction}
+use Rattle.rewriting.specs.Evaluation.{Config, Outcome, finished, stopped, andThen, rewrite, follow, evaluate, evaluation}
 use Rattle.system.specs.Numbers.{nested}
 use Rattle.rewriting.specs.Machine.{others, last, strategyAt, down, position}
 use Rattle.system.proofs.Places.{replace-word, replace-argument}
 use Rattle.rewriting.proofs.Walks.{rewrite-same, after-rewrite, follow-pass, follow-fire, follow-open}
-use Rattle.rewriting.proofs.Again.{evaluate-again}
+use Rattle.rewriting.proofs.Fuel.{evaluate-again}
 
 -- the next entry, where c are begun
 pub next-entry : (es : List ℕ) (c e : ℕ) (es′ : List ℕ) → drop c es ≡ e ∷ es′ → (getD es c 0 ≡ e) × (drop (suc c) es ≡ es′)
@@ -53,37 +53,37 @@ module _ (s : System) where
     replace-down = rw replace-strategy (replace-argument (s .arities) t u p q (others (last (strategyAt s t p) c)) h m)
 
 -- what is left to do from a state: at the innermost level, then at each level around it
-unfoldable pub resume : System → ℕ → ℕ → List ℕ → ℕ → Run → Outcome
-resume s limit l [] p r = settled r
+unfoldable pub resume : System → ℕ → ℕ → List ℕ → ℕ → Config → Outcome
+resume s limit l [] p r = finished r
 resume s limit zero (c ∷ cs) p r = stopped nested (r .steps)
 resume s limit (suc l) (c ∷ cs) p r =
-    after (resume s limit l cs (down s (r .term) p c) r)
+    andThen (resume s limit l cs (down s (r .term) p c) r)
     (λ r′. follow s limit (evaluate s limit l) (evaluate s limit (suc l)) (drop c (strategyAt s (r .term) p)) p r′)
 
 module _ (s : System) (limit : ℕ) where
   -- the clauses of resume
-  abbrev pub rest : ℕ → List ℕ → ℕ → Run → Outcome
+  abbrev pub rest : ℕ → List ℕ → ℕ → Config → Outcome
   rest l es p r = follow s limit (evaluate s limit l) (evaluate s limit (suc l)) es p r
 
-  pub resume-top : (l c p : ℕ) (r : Run) → resume s limit (suc l) (c ∷ []) p r ≡ rest l (drop c (strategyAt s (r .term) p)) p r
+  pub resume-top : (l c p : ℕ) (r : Config) → resume s limit (suc l) (c ∷ []) p r ≡ rest l (drop c (strategyAt s (r .term) p)) p r
   unfolding resume
   resume-top l c p r = refl
 
-  pub resume-under : (l c : ℕ) (cs : List ℕ) (p : ℕ) (r : Run) →
-      resume s limit (suc l) (c ∷ cs) p r ≡ after (resume s limit l cs (down s (r .term) p c) r) (λ r′. rest l (drop c (strategyAt s (r .term) p)) p r′)
+  pub resume-under : (l c : ℕ) (cs : List ℕ) (p : ℕ) (r : Config) →
+      resume s limit (suc l) (c ∷ cs) p r ≡ andThen (resume s limit l cs (down s (r .term) p c) r) (λ r′. rest l (drop c (strategyAt s (r .term) p)) p r′)
   unfolding resume
   resume-under l c cs p r = refl
 
-  pub resume-end : (l p : ℕ) (r : Run) → resume s limit l [] p r ≡ settled r
+  pub resume-end : (l p : ℕ) (r : Config) → resume s limit l [] p r ≡ finished r
   unfolding resume
   resume-end l p r = refl
 
-  pub resume-deep : (c : ℕ) (cs : List ℕ) (p : ℕ) (r : Run) → resume s limit zero (c ∷ cs) p r ≡ stopped nested (r .steps)
+  pub resume-deep : (c : ℕ) (cs : List ℕ) (p : ℕ) (r : Config) → resume s limit zero (c ∷ cs) p r ≡ stopped nested (r .steps)
   unfolding resume
   resume-deep c cs p r = refl
 
   -- the initial state
-  pub resume-start : (l p : ℕ) (r : Run) → resume s limit l (0 ∷ []) p r ≡ evaluate s limit l p r
+  pub resume-start : (l p : ℕ) (r : Config) → resume s limit l (0 ∷ []) p r ≡ evaluate s limit l p r
   unfolding evaluate
   resume-start zero p r = resume-deep 0 [] p r
   resume-start (suc l) p r = resume-top l 0 p r ∙ sym (evaluate-again s limit l p r)
@@ -93,9 +93,9 @@ module _ (s : System) (limit : ℕ) where
   resume-evaluation t = resume-start 64 0 (record { term = t; steps = 0 })
 
   -- the laws at the innermost level
-  module _ (l c p : ℕ) (r : Run) where
+  module _ (l c p : ℕ) (r : Config) where
     module _ (es : List ℕ) where
-      pub top-pass : drop c (strategyAt s (r .term) p) ≡ 0 ∷ es → redex s (drop p (r .term)) ≡ none →
+      pub top-pass : drop c (strategyAt s (r .term) p) ≡ 0 ∷ es → contraction s (drop p (r .term)) ≡ none →
           resume s limit (suc l) (c ∷ []) p r ≡ resume s limit (suc l) (suc c ∷ []) p r
       top-pass q f =
           resume-top l c p r ∙ ap (λ e. rest l e p r) q ∙ follow-pass s limit (evaluate s limit l) (evaluate s limit (suc l)) es p r f
@@ -108,20 +108,20 @@ module _ (s : System) (limit : ℕ) where
           resume-top l c p r ∙ ap (λ e. rest l e p r) q ∙ follow-open s limit (evaluate s limit l) (evaluate s limit (suc l)) i es p r
           ∙ sym (rw (n .0, n .1, resume-start l (argument (s .arities) (r .term) p i) r) at (resume-under l (suc c) (0 ∷ []) p r))
 
-      pub top-fire : (x : Redex) → drop c (strategyAt s (r .term) p) ≡ 0 ∷ es → redex s (drop p (r .term)) ≡ some x →
+      pub top-fire : (x : Contraction) → drop c (strategyAt s (r .term) p) ≡ 0 ∷ es → contraction s (drop p (r .term)) ≡ some x →
           resume s limit (suc l) (c ∷ []) p r ≡ rewrite s limit p r x (λ r′. resume s limit (suc l) (0 ∷ []) p r′)
       top-fire x q f =
           resume-top l c p r ∙ ap (λ e. rest l e p r) q ∙ follow-fire s limit (evaluate s limit l) (evaluate s limit (suc l)) es p r x f
           ∙ rewrite-same s limit p r x (evaluate s limit (suc l) p) (λ r′. resume s limit (suc l) (0 ∷ []) p r′) (λ _. sym (resume-start (suc l) p _))
 
   -- a rewrite further down, seen from one level above it
-  pub level-rewrite : (l c p : ℕ) (r : Run) (x : Redex) (q : ℕ) (xs ys : List ℕ) → q < length (r .term) → down s (r .term) p c ≤ q →
+  pub level-rewrite : (l c p : ℕ) (r : Config) (x : Contraction) (q : ℕ) (xs ys : List ℕ) → q < length (r .term) → down s (r .term) p c ≤ q →
       resume s limit l xs (down s (r .term) p c) r ≡ rewrite s limit q r x (λ r′. resume s limit l ys (down s (r .term) p c) r′) →
       resume s limit (suc l) (c ∷ xs) p r ≡ rewrite s limit q r x (λ r′. resume s limit (suc l) (c ∷ ys) p r′)
   level-rewrite l c p r x q xs ys h m e =
       let t = r .term in
       let t′ = replace (s .arities) t q (x .reduct) in
-      let k : Run → Outcome = λ r′. rest l (drop c (strategyAt s t p)) p r′ in
-      resume-under l c xs p r ∙ ap (λ o. after o k) e ∙ after-rewrite s limit q r x (λ r′. resume s limit l ys (down s t p c) r′) k
-      ∙ rewrite-same s limit q r x (λ r′. after (resume s limit l ys (down s t p c) r′) k) (λ r′. resume s limit (suc l) (c ∷ ys) p r′)
+      let k : Config → Outcome = λ r′. rest l (drop c (strategyAt s t p)) p r′ in
+      resume-under l c xs p r ∙ ap (λ o. andThen o k) e ∙ after-rewrite s limit q r x (λ r′. resume s limit l ys (down s t p c) r′) k
+      ∙ rewrite-same s limit q r x (λ r′. andThen (resume s limit l ys (down s t p c) r′) k) (λ r′. resume s limit (suc l) (c ∷ ys) p r′)
       (λ _. sym (rw (replace-down s t (x .reduct) p q c h m, replace-strategy s t (x .reduct) p q c h m) at (resume-under l c ys p (record { term = t′; steps = suc (r .steps) }))))

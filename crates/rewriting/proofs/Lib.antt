@@ -2,10 +2,10 @@
 pub mod Actives
 pub mod Walks
 pub mod Done
-pub mod Quiet
+pub mod Inert
 pub mod Found
 -- The machine: its laws, and its theorem
-pub mod Again
+pub mod Fuel
 pub mod Laws
 pub mod Iterate
 pub mod MachineTheorem

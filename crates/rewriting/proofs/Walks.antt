@@ -9,19 +9,19 @@ use native.Mathlib.Decide.{decLt, decLe}
 use borrow.Author.Tests.{lt-ltb, le-ltb, le-leb, lt-leb}
 use Rattle.system.specs.Signature.{Signature, Symbol, arity, argument, replace}
 use Rattle.system.specs.System.{System, strategy, head}
-use Rattle.system.specs.Terms.{Whole, Stands, first, later, WellFormed}
-use Rattle.matching.specs.Matching.{Redex, redex}
-use Rattle.rewriting.specs.Evaluation.{Run, Outcome, settled, stopped, after, rewrite, follow, atRoot, evaluate}
+use Rattle.system.specs.Terms.{Whole, Member, first, later, WellFormed}
+use Rattle.matching.specs.Matching.{Contraction, contraction}
+use Rattle.rewriting.specs.Evaluation.{Config, Outcome, finished, stopped, andThen, rewrite, follow, atRoot, evaluate}
 use Rattle.system.specs.Numbers.{Limit, spent, overlong, nested}
 use Rattle.system.proofs.Forests.{Node, node-whole, node-set, as-node, focus, focus-here}
 use Rattle.system.proofs.Places.{at-word, at-argument, at-replace}
-use Rattle.matching.proofs.Firsts.{redex-at, fired}
+use Rattle.matching.proofs.Firsts.{contraction-at, fired}
 
 -- `Walk s levels es u v n`: following the entries es on the term u takes n steps and leaves v
 pub data Walk (s : System) : ℕ → List ℕ → List ℕ → List ℕ → ℕ → Type 0 where
   end : {l : ℕ} {u : List ℕ} → Walk s (suc l) [] u u 0
-  pass : {l n : ℕ} {es u v : List ℕ} → redex s u ≡ none → Walk s (suc l) es u v n → Walk s (suc l) (0 ∷ es) u v n
-  fire : {l n : ℕ} {es u v : List ℕ} {x : Redex} → redex s u ≡ some x →
+  pass : {l n : ℕ} {es u v : List ℕ} → contraction s u ≡ none → Walk s (suc l) es u v n → Walk s (suc l) (0 ∷ es) u v n
+  fire : {l n : ℕ} {es u v : List ℕ} {x : Contraction} → contraction s u ≡ some x →
       Walk s (suc l) (strategy s (head (x .reduct))) (x .reduct) v n → Walk s (suc l) (0 ∷ es) u v (suc n)
   open′ : {l m n w i : ℕ} {us : List (List ℕ)} {es v v′ : List ℕ} → Node (s .arities) w us → i < length us →
       Walk s l (strategy s (head (getD us i []))) (getD us i []) v m → Walk s (suc l) es (w ∷ flatten (set us i v)) v′ n →
@@ -34,15 +34,15 @@ Bounded s (pass q k) a b = Bounded s k a b
 Bounded s (fire {x} q k) a b = (length (a ++ (x .reduct ++ b)) ≤ 4096) × Bounded s k a b
 Bounded s (open′ {w} {i} {us} d m k f) a b = Bounded s k (a ++ w ∷ flatten (take i us)) (flatten (drop (suc i) us) ++ b) × Bounded s f a b
 
-pub run-path : (r : Run) (t : List ℕ) (n : ℕ) → r .term ≡ t → r .steps ≡ n → r ≡ record { term = t; steps = n }
+pub run-path : (r : Config) (t : List ℕ) (n : ℕ) → r .term ≡ t → r .steps ≡ n → r ≡ record { term = t; steps = n }
 run-path r t n p q = λ i. record { term = p i; steps = q i }
 
-pub never : {X : Type 0} (n : Limit) (k : ℕ) (r : Run) → stopped n k ≡ settled r → X
+pub never : {X : Type 0} (n : Limit) (k : ℕ) (r : Config) → stopped n k ≡ finished r → X
 never n k r e = absurd (let z : _≡_ {A = ℕ} 0 1 = cc in omega arith)
 
-pub after-settled : (o : Outcome) (on : Run → Outcome) (r : Run) → after o on ≡ settled r → (r₁ : Run) × (o ≡ settled r₁) × (on r₁ ≡ settled r)
-after-settled (settled r₁) on r e = (r₁, refl, e)
-after-settled (stopped n k) on r e = never n k r e
+pub after-finished : (o : Outcome) (on : Config → Outcome) (r : Config) → andThen o on ≡ finished r → (r₁ : Config) × (o ≡ finished r₁) × (on r₁ ≡ finished r)
+after-finished (finished r₁) on r e = (r₁, refl, e)
+after-finished (stopped n k) on r e = never n k r e
 
 module _ (s : System) where
   abbrev g : Signature
@@ -50,27 +50,27 @@ module _ (s : System) where
 
   module _ (limit : ℕ) where
     -- the limits of a rewrite
-    module _ (p : ℕ) (r : Run) (x : Redex) where
-      pub rewrite-spent : limit ≤ r .steps → (on : Run → Outcome) → rewrite s limit p r x on ≡ stopped spent (r .steps)
+    module _ (p : ℕ) (r : Config) (x : Contraction) where
+      pub rewrite-spent : limit ≤ r .steps → (on : Config → Outcome) → rewrite s limit p r x on ≡ stopped spent (r .steps)
       unfolding rewrite
       rewrite-spent h on = rw (le-ltb (r .steps) limit h, rewrite)
 
-      pub rewrite-long : r .steps < limit → 4096 < length (replace g (r .term) p (x .reduct)) → (on : Run → Outcome) → rewrite s limit p r x on ≡ stopped overlong (r .steps)
+      pub rewrite-long : r .steps < limit → 4096 < length (replace g (r .term) p (x .reduct)) → (on : Config → Outcome) → rewrite s limit p r x on ≡ stopped overlong (r .steps)
       unfolding rewrite
       rewrite-long h m on = rw (lt-ltb (r .steps) limit h, rewrite) (rw (lt-leb _ 4096 m))
 
-      pub rewrite-goes : r .steps < limit → length (replace g (r .term) p (x .reduct)) ≤ 4096 → (on : Run → Outcome) →
+      pub rewrite-goes : r .steps < limit → length (replace g (r .term) p (x .reduct)) ≤ 4096 → (on : Config → Outcome) →
           rewrite s limit p r x on ≡ on (record { term = replace g (r .term) p (x .reduct); steps = suc (r .steps) })
       unfolding rewrite
       rewrite-goes h m on = rw (lt-ltb (r .steps) limit h, rewrite) (rw (le-leb _ 4096 m))
 
       -- a rewrite stops at a limit, or goes on with the changed term, whatever comes after
-      pub data Rewritten : Type 0 where
-        halts : (n : Limit) (k : ℕ) → ((on : Run → Outcome) → rewrite s limit p r x on ≡ stopped n k) → Rewritten
+      pub data RewriteCase : Type 0 where
+        halts : (n : Limit) (k : ℕ) → ((on : Config → Outcome) → rewrite s limit p r x on ≡ stopped n k) → RewriteCase
         goes : r .steps < limit → length (replace g (r .term) p (x .reduct)) ≤ 4096 →
-            ((on : Run → Outcome) → rewrite s limit p r x on ≡ on (record { term = replace g (r .term) p (x .reduct); steps = suc (r .steps) })) → Rewritten
+            ((on : Config → Outcome) → rewrite s limit p r x on ≡ on (record { term = replace g (r .term) p (x .reduct); steps = suc (r .steps) })) → RewriteCase
 
-      pub rewritten : Rewritten
+      pub rewritten : RewriteCase
       rewritten = elim (decLt (r .steps) limit) [
         | no h ↦ halts spent (r .steps) (rewrite-spent (omega arith))
         | yes h ↦ elim (decLe (length (replace g (r .term) p (x .reduct))) 4096) [
@@ -79,71 +79,71 @@ module _ (s : System) where
         ]
       ]
 
-    pub rewrite-settled : (p : ℕ) (r : Run) (x : Redex) (on : Run → Outcome) (r′ : Run) → rewrite s limit p r x on ≡ settled r′ →
+    pub rewrite-finished : (p : ℕ) (r : Config) (x : Contraction) (on : Config → Outcome) (r′ : Config) → rewrite s limit p r x on ≡ finished r′ →
         (r .steps < limit) × (length (replace g (r .term) p (x .reduct)) ≤ 4096) ×
-        (on (record { term = replace g (r .term) p (x .reduct); steps = suc (r .steps) }) ≡ settled r′)
-    rewrite-settled p r x on r′ e = elim (rewritten p r x) [ halts n k h ↦ never n k r′ (sym (h on) ∙ e) | goes l m h ↦ (l, m, sym (h on) ∙ e) ]
+        (on (record { term = replace g (r .term) p (x .reduct); steps = suc (r .steps) }) ≡ finished r′)
+    rewrite-finished p r x on r′ e = elim (rewritten p r x) [ halts n k h ↦ never n k r′ (sym (h on) ∙ e) | goes l m h ↦ (l, m, sym (h on) ∙ e) ]
 
     -- what comes after a rewrite matters only at the changed term
-    pub rewrite-same : (p : ℕ) (r : Run) (x : Redex) (on on′ : Run → Outcome) →
+    pub rewrite-same : (p : ℕ) (r : Config) (x : Contraction) (on on′ : Config → Outcome) →
         (r .steps < limit → on (record { term = replace g (r .term) p (x .reduct); steps = suc (r .steps) })
         ≡ on′ (record { term = replace g (r .term) p (x .reduct); steps = suc (r .steps) })) →
         rewrite s limit p r x on ≡ rewrite s limit p r x on′
     rewrite-same p r x on on′ q = elim (rewritten p r x) [ halts n k h ↦ h on ∙ sym (h on′) | goes l m h ↦ h on ∙ q l ∙ sym (h on′) ]
 
-    pub after-rewrite : (p : ℕ) (r : Run) (x : Redex) (on then : Run → Outcome) →
-        after (rewrite s limit p r x on) then ≡ rewrite s limit p r x (λ r′. after (on r′) then)
+    pub after-rewrite : (p : ℕ) (r : Config) (x : Contraction) (on then : Config → Outcome) →
+        andThen (rewrite s limit p r x on) then ≡ rewrite s limit p r x (λ r′. andThen (on r′) then)
     after-rewrite p r x on then = elim (rewritten p r x) [
-      | halts n k h ↦ ap (λ o. after o then) (h on) ∙ sym (h (λ r′. after (on r′) then))
-      | goes l m h ↦ ap (λ o. after o then) (h on) ∙ sym (h (λ r′. after (on r′) then))
+      | halts n k h ↦ ap (λ o. andThen o then) (h on) ∙ sym (h (λ r′. andThen (on r′) then))
+      | goes l m h ↦ ap (λ o. andThen o then) (h on) ∙ sym (h (λ r′. andThen (on r′) then))
     ]
 
     -- one entry of `follow`
-    module _ (inner again : ℕ → Run → Outcome) where
-      pub follow-end : (p : ℕ) (r : Run) → follow s limit inner again [] p r ≡ settled r
+    module _ (inner again : ℕ → Config → Outcome) where
+      pub follow-end : (p : ℕ) (r : Config) → follow s limit inner again [] p r ≡ finished r
       unfolding follow
       follow-end p r = refl
 
-      pub follow-pass : (es : List ℕ) (p : ℕ) (r : Run) → redex s (drop p (r .term)) ≡ none →
+      pub follow-pass : (es : List ℕ) (p : ℕ) (r : Config) → contraction s (drop p (r .term)) ≡ none →
           follow s limit inner again (0 ∷ es) p r ≡ follow s limit inner again es p r
       unfolding follow
       follow-pass es p r e = rw (e, follow)
 
-      pub follow-fire : (es : List ℕ) (p : ℕ) (r : Run) (x : Redex) → redex s (drop p (r .term)) ≡ some x →
+      pub follow-fire : (es : List ℕ) (p : ℕ) (r : Config) (x : Contraction) → contraction s (drop p (r .term)) ≡ some x →
           follow s limit inner again (0 ∷ es) p r ≡ rewrite s limit p r x (again p)
       unfolding follow
       follow-fire es p r x e = rw (e, follow)
 
-      pub follow-open : (i : ℕ) (es : List ℕ) (p : ℕ) (r : Run) →
-          follow s limit inner again (suc i ∷ es) p r ≡ after (inner (argument g (r .term) p i) r) (λ r′. follow s limit inner again es p r′)
+      pub follow-open : (i : ℕ) (es : List ℕ) (p : ℕ) (r : Config) →
+          follow s limit inner again (suc i ∷ es) p r ≡ andThen (inner (argument g (r .term) p i) r) (λ r′. follow s limit inner again es p r′)
       unfolding follow
       follow-open i es p r = refl
 
     module _ (wf : WellFormed s) where
       -- a walk on the subterm, seen in the whole run
-      pub record Local (levels : ℕ) (es u a b : List ℕ) (n : ℕ) (r : Run) : Type 0 where
-        pub part : List ℕ
+      pub record Local (levels : ℕ) (es u a b : List ℕ) (n : ℕ) (r : Config) : Type 0 where
+        pub outcome : List ℕ
         pub taken : ℕ
-        pub walk : Walk s levels es u part taken
-        pub whole : Whole g part
-        pub term : r .term ≡ a ++ (part ++ b)
+        pub walk : Walk s levels es u outcome taken
+        pub whole : Whole g outcome
+        pub term : r .term ≡ a ++ (outcome ++ b)
         pub steps : r .steps ≡ n + taken
         pub bounded : Bounded s walk a b
         pub afford : n ≤ limit → r .steps ≤ limit
 
-      abbrev at : List ℕ → List ℕ → List ℕ → ℕ → Run
+      abbrev at : List ℕ → List ℕ → List ℕ → ℕ → Config
       at a u b n = record { term = a ++ (u ++ b); steps = n }
 
-      abbrev pub Locally : ℕ → (ℕ → Run → Outcome) → Type 0
-      Locally levels ev = (a b u : List ℕ) (n : ℕ) (r : Run) → Whole g u → ev (length a) (record { term = a ++ (u ++ b); steps = n }) ≡ settled r →
+      abbrev pub Locally : ℕ → (ℕ → Config → Outcome) → Type 0
+      Locally levels ev = (a b u : List ℕ) (n : ℕ) (r : Config) → Whole g u → ev (length a) (record { term = a ++ (u ++ b); steps = n }) ≡ finished r →
           Local levels (strategy s (head u)) u a b n r
 
       -- a walk on an argument, and one over the entries after it
-      open-local : (l i n w : ℕ) (us : List (List ℕ)) (es a b : List ℕ) (r₁ r : Run) → Node g w us → i < length us →
+      open-local : (l i n w : ℕ) (us : List (List ℕ)) (es a b : List ℕ) (r₁ r : Config) → Node g w us → i < length us →
           (k : Local l (strategy s (head (getD us i []))) (getD us i []) (a ++ w ∷ flatten (take i us)) (flatten (drop (suc i) us) ++ b) n r₁) →
-          Local (suc l) es (w ∷ flatten (set us i (k .part))) a b (n + k .taken) r → Local (suc l) (suc i ∷ es) (w ∷ flatten us) a b n r
+          Local (suc l) es (w ∷ flatten (set us i (k .outcome))) a b (n + k .taken) r → Local (suc l) (suc i ∷ es) (w ∷ flatten us) a b n r
       open-local l i n w us es a b r₁ r d m k f = record {
-        part = f .part;
+        outcome = f .outcome;
         taken = k .taken + f .taken;
         walk = open′ d m (k .walk) (f .walk);
         whole = f .whole;
@@ -153,14 +153,14 @@ module _ (s : System) where
         afford = λ h. f .afford (let z = k .steps in let z′ = k .afford h in omega arith);
       }
 
-      follow-local : (l : ℕ) (inner again : ℕ → Run → Outcome) → Locally l inner → Locally (suc l) again →
-          (es : List ℕ) (w : ℕ) (us : List (List ℕ)) (a b : List ℕ) (n : ℕ) (r : Run) → Node g w us → ((e : ℕ) → Stands e es → e ≤ arity g w) →
-          follow s limit inner again es (length a) (at a (w ∷ flatten us) b n) ≡ settled r → Local (suc l) es (w ∷ flatten us) a b n r
+      follow-local : (l : ℕ) (inner again : ℕ → Config → Outcome) → Locally l inner → Locally (suc l) again →
+          (es : List ℕ) (w : ℕ) (us : List (List ℕ)) (a b : List ℕ) (n : ℕ) (r : Config) → Node g w us → ((e : ℕ) → Member e es → e ≤ arity g w) →
+          follow s limit inner again es (length a) (at a (w ∷ flatten us) b n) ≡ finished r → Local (suc l) es (w ∷ flatten us) a b n r
       follow-local l inner again hi ha [] w us a b n r d st e =
           let q : at a (w ∷ flatten us) b n ≡ r = cc (follow-end inner again (length a) (at a (w ∷ flatten us) b n)) in
           let q′ : n ≡ r .steps = ap (λ y. y .steps) q in
           record {
-            part = w ∷ flatten us;
+            outcome = w ∷ flatten us;
             taken = 0;
             walk = end;
             whole = node-whole g w us d;
@@ -170,24 +170,24 @@ module _ (s : System) where
             afford = λ h. omega arith;
           }
       follow-local l inner again hi ha (zero ∷ es) w us a b n r d st e =
-          go (redex s (w ∷ flatten us)) refl (follow-local l inner again hi ha es w us a b n r d (λ e h. st e (later h)))
+          go (contraction s (w ∷ flatten us)) refl (follow-local l inner again hi ha es w us a b n r d (λ e h. st e (later h)))
         where
           u : List ℕ
           u = w ∷ flatten us
 
-          go : (o : Option Redex) → redex s u ≡ o →
-              (follow s limit inner again es (length a) (at a u b n) ≡ settled r → Local (suc l) es u a b n r) → Local (suc l) (0 ∷ es) u a b n r
+          go : (o : Option Contraction) → contraction s u ≡ o →
+              (follow s limit inner again es (length a) (at a u b n) ≡ finished r → Local (suc l) es u a b n r) → Local (suc l) (0 ∷ es) u a b n r
           go none q ih =
-              let c = ih (sym (follow-pass inner again es (length a) (at a u b n) (redex-at s wf (node-whole g w us d) a b ∙ q)) ∙ e) in
-              record { part = c .part; taken = c .taken; walk = pass q (c .walk); whole = c .whole; term = c .term; steps = c .steps; bounded = c .bounded; afford = c .afford }
+              let c = ih (sym (follow-pass inner again es (length a) (at a u b n) (contraction-at s wf (node-whole g w us d) a b ∙ q)) ∙ e) in
+              record { outcome = c .outcome; taken = c .taken; walk = pass q (c .walk); whole = c .whole; term = c .term; steps = c .steps; bounded = c .bounded; afford = c .afford }
           go (some x) q ih =
               let h = node-whole g w us d in
-              let c = rewrite-settled (length a) (at a u b n) x (again (length a)) r
-              (sym (follow-fire inner again es (length a) (at a u b n) x (redex-at s wf h a b ∙ q)) ∙ e) in
+              let c = rewrite-finished (length a) (at a u b n) x (again (length a)) r
+              (sym (follow-fire inner again es (length a) (at a u b n) x (contraction-at s wf h a b ∙ q)) ∙ e) in
               let rep = at-replace g (Symbol g) a b (x .reduct) h in
               let k = ha a b (x .reduct) (suc n) r (fired s wf h a b x q .left) (rw rep at (c .2)) in
               record {
-                part = k .part;
+                outcome = k .outcome;
                 taken = suc (k .taken);
                 walk = fire q (k .walk);
                 whole = k .whole;
@@ -200,23 +200,23 @@ module _ (s : System) where
           let m : i < length us = (let z = st (suc i) first in let z′ = d .count in omega arith) in
           let a′ = a ++ w ∷ flatten (take i us) in
           let b′ = flatten (drop (suc i) us) ++ b in
-          let c = after-settled (inner (length a′) (at a′ (getD us i []) b′ n)) _ r
+          let c = after-finished (inner (length a′) (at a′ (getD us i []) b′ n)) _ r
           (rw (at-argument g (Symbol g) a b w us i m (d .wholes), focus-here a b w us i m) at
           (sym (follow-open inner again i es (length a) (at a (w ∷ flatten us) b n)) ∙ e)) in
           let k = hi a′ b′ (getD us i []) n (c .0) (d .wholes i m) (c .1) in
-          open-local l i n w us es a b (c .0) r d m k (follow-local l inner again hi ha es w (set us i (k .part)) a b (n + k .taken) r
-          (node-set g w us i (k .part) d (k .whole)) (λ e h. st e (later h))
-          (rw (run-path (c .0) (a ++ ((w ∷ flatten (set us i (k .part))) ++ b)) (n + k .taken) (k .term ∙ sym (focus a b w us i (k .part) m)) (k .steps)) at (c .2)))
+          open-local l i n w us es a b (c .0) r d m k (follow-local l inner again hi ha es w (set us i (k .outcome)) a b (n + k .taken) r
+          (node-set g w us i (k .outcome) d (k .whole)) (λ e h. st e (later h))
+          (rw (run-path (c .0) (a ++ ((w ∷ flatten (set us i (k .outcome))) ++ b)) (n + k .taken) (k .term ∙ sym (focus a b w us i (k .outcome) m)) (k .steps)) at (c .2)))
 
-      start-local : (l : ℕ) (inner again : ℕ → Run → Outcome) → Locally l inner → Locally (suc l) again →
+      start-local : (l : ℕ) (inner again : ℕ → Config → Outcome) → Locally l inner → Locally (suc l) again →
           Locally (suc l) (λ p r. follow s limit inner again (strategy s (getD (r .term) p 0)) p r)
       start-local l inner again hi ha a b u n r h e =
           let c = as-node g h in
           let w = c .symbol in
-          rw (c .equal) (follow-local l inner again hi ha (strategy s w) w (c .parts) a b n r (c .node) (wf .entries w)
+          rw (c .equal) (follow-local l inner again hi ha (strategy s w) w (c .parts) a b n r (c .node) (wf .entryBound w)
           (rw (c .equal, at-word g a b w (flatten (c .parts))) at e))
 
-      atRoot-local : (l : ℕ) (inner : ℕ → Run → Outcome) → Locally l inner → (left : ℕ) → Locally (suc l) (atRoot s limit inner left)
+      atRoot-local : (l : ℕ) (inner : ℕ → Config → Outcome) → Locally l inner → (left : ℕ) → Locally (suc l) (atRoot s limit inner left)
       unfolding atRoot
       atRoot-local l inner hi zero = start-local l inner (λ p r. stopped spent (r .steps)) hi (λ a b u n r h e. never spent n r e)
       atRoot-local l inner hi (suc left) = start-local l inner (atRoot s limit inner left) hi (atRoot-local l inner hi left)

@@ -7,8 +7,8 @@ use mathlib.Core.Option.{none, some}
 use lib.ListN.{length, getD, drop}
 use Rattle.system.specs.Signature.{argument}
 use Rattle.system.specs.System.{System, strategy}
-use Rattle.matching.specs.Matching.{Redex, redex}
-use Rattle.rewriting.specs.Evaluation.{Run, Outcome, settled, stopped, rewrite}
+use Rattle.matching.specs.Matching.{Contraction, contraction}
+use Rattle.rewriting.specs.Evaluation.{Config, Outcome, finished, stopped, rewrite}
 use Rattle.system.specs.Numbers.{spent, nested}
 use Rattle.system.specs.Limits.{levels}
 
@@ -44,21 +44,21 @@ pub data Opened (s : System) (t : List ℕ) : ℕ → List ℕ → Type 0 where
 -- where a machine comes to without a rewrite: the end; an argument that would be opened too deep;
 -- or a rewrite at the position below the levels `outer`, where `begun` entries are begun, the 0 of this rewrite among them
 pub data Next : Type 0 where
-  finished : Next
+  final : Next
   deep : Next
-  ready : (outer : List ℕ) (begun : ℕ) (x : Redex) → Next
+  ready : (outer : List ℕ) (begun : ℕ) (x : Contraction) → Next
 
 -- one level more, with c entries begun, around what an inner level came to
 abbrev pub around : ℕ → Next → Next → Next
-around c finished on = on
+around c final on = on
 around c deep on = deep
 around c (ready cs d x) on = ready (c ∷ cs) d x
 
 -- at p, over the entries es, with c begun before them: on to the next rewrite, in an argument or here
 unfoldable pub scan : System → (ℕ → Next) → List ℕ → List ℕ → ℕ → ℕ → Next
-scan s inner t [] c p = finished
+scan s inner t [] c p = final
 scan s inner t (zero ∷ es) c p =
-    elim (redex s (drop p t)) [
+    elim (contraction s (drop p t)) [
       | none ↦ scan s inner t es (suc c) p
       | some x ↦ ready [] (suc c) x
     ]
@@ -71,18 +71,18 @@ enter s (suc l) t p = scan s (λ q. enter s l t q) t (strategyAt s t p) 0 p
 
 -- from a state: the innermost level first, then what is left at each level around it
 unfoldable pub advance : System → ℕ → List ℕ → List ℕ → ℕ → Next
-advance s l [] t p = finished
+advance s l [] t p = final
 advance s zero (c ∷ cs) t p = deep
 advance s (suc l) (c ∷ cs) t p =
     let on = scan s (enter s l t) t (drop c (strategyAt s t p)) c p in
     around c (advance s l cs t (down s t p c)) on
 
 -- advance to the next rewrite and rewrite, at most so many times: the whole evaluation is this (`evaluation-iterate`)
-unfoldable pub iterate : System → ℕ → ℕ → List ℕ → Run → Outcome
+unfoldable pub iterate : System → ℕ → ℕ → List ℕ → Config → Outcome
 iterate s limit zero cs r = stopped spent (r .steps)
 iterate s limit (suc k) cs r =
     elim (advance s levels cs (r .term) 0) [
-      | finished ↦ settled r
+      | final ↦ finished r
       | deep ↦ stopped nested (r .steps)
       | ready outer c x ↦ rewrite s limit (position s (r .term) outer 0) r x (λ r′. iterate s limit k (outer ++ 0 ∷ []) r′)
     ]

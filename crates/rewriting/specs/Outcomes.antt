@@ -6,7 +6,7 @@ use lib.ListN.{length}
 use Rattle.system.specs.System.{System, rule}
 use Rattle.system.specs.Terms.{Whole}
 use Rattle.matching.specs.Matching.{Matches}
-use Rattle.rewriting.specs.Evaluation.{settled, evaluation}
+use Rattle.rewriting.specs.Evaluation.{finished, evaluation}
 use Rattle.rewriting.specs.Rewriting.{Active, Steps}
 use Rattle.system.specs.Limits.{termWords}
 
@@ -28,4 +28,4 @@ Normal s t = (p : ℕ) → Active s t p → (k : ℕ) → k < length (s .rules) 
 pub record Stable (s : System) (t : List ℕ) : Type 0 where
   pub whole : Whole (s .arities) t
   pub normal : Normal s t
-  pub again : (limit : ℕ) → evaluation s limit t ≡ settled (record { term = t; steps = 0 })
+  pub again : (limit : ℕ) → evaluation s limit t ≡ finished (record { term = t; steps = 0 })

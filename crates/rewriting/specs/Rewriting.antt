@@ -6,13 +6,13 @@ use mathlib.Core.List.{List}
 use lib.ListN.{length, getD}
 use Rattle.system.specs.Signature.{argument, replace}
 use Rattle.system.specs.System.{System, instance, strategy, rule}
-use Rattle.system.specs.Terms.{Whole, Stands}
+use Rattle.system.specs.Terms.{Whole, Member}
 use Rattle.matching.specs.Matching.{Matches}
 
 -- "A place is active if every argument on the way to it stands in the order of the name holding it; index 0 always is"
 pub data Active (s : System) (t : List ℕ) : ℕ → Type 0 where
   root : Active s t 0
-  below : {p : ℕ} (i : ℕ) → Active s t p → Stands (suc i) (strategy s (getD t p 0)) → Active s t (argument (s .arities) t p i)
+  below : {p : ℕ} (i : ℕ) → Active s t p → Member (suc i) (strategy s (getD t p 0)) → Active s t (argument (s .arities) t p i)
 
 -- one step from t to t′
 pub record Step (s : System) (t t′ : List ℕ) : Type 0 where

@@ -15,16 +15,16 @@ use borrow.Author.Tests.{le-ltb, ltb-false}
 use Rattle.system.specs.Limits.{variable}
 use Rattle.system.specs.Signature.{Signature, arity}
 use Rattle.system.specs.System.{System, Rule, noRule, strategy}
-use Rattle.system.specs.Terms.{Forest, more, Stands, Lawful, WellFormed}
+use Rattle.system.specs.Terms.{Forest, more, Member, WellFormedRule, WellFormed}
 use Rattle.system.specs.Format.{encodeList, encodeStrategies, encodeRules, encode}
-use Rattle.system.specs.declared.reader.sides.Hand.{Hand}
-use Rattle.system.specs.declared.reader.sides.Hand.the-variants.{Left, Right}
+use Rattle.system.specs.declared.reader.sides.SideRole.{SideRole}
+use Rattle.system.specs.declared.reader.sides.SideRole.the-variants.{Left, Right}
 use Rattle.system.specs.Numbers.{range, entry}
 use Rattle.system.specs.Answers.{answerOf}
 use Rattle.system.specs.Parser.{Parsed, ok, fault, times, each, number, Reading, readWords, readStrategy, readSide, readRule, readRules, readEnd, readSystem, read}
 use Rattle.system.proofs.Signatures.{arity-getD, arity-none}
-use Rattle.system.proofs.Members.{stands-getD, stands-index}
-use Rattle.system.proofs.Parsed.{ok-value, ok-place, not-fault, after-ok, Between, between-join, between-split, between-ok}
+use Rattle.system.proofs.Members.{member-getD, member-index}
+use Rattle.system.proofs.Parsed.{ok-value, ok-place, not-fault, then-ok, Between, between-join, between-split, between-ok}
 use Rattle.system.proofs.Parses.{Reads, reads-iff, one, reads-number}
 use Rattle.system.proofs.ParsesMany.{Every, Pairwise, reads-numbers, reads-times, reads-each, reads-counted}
 use Rattle.system.proofs.FaultNumbers.{number-positive}
@@ -34,15 +34,15 @@ use Rattle.system.proofs.Sides.{Taken, reads-words, taken-forest, taken
 
 -- a strategy of a symbol that has arity a
 abbrev pub Strategy : ℕ → List ℕ → Type 0
-Strategy a es = (length es ≤ 16) × ((e : ℕ) → Stands e es → e ≤ a)
+Strategy a es = (length es ≤ 16) × ((e : ℕ) → Member e es → e ≤ a)
 
 module _ (ws : List ℕ) where
   pub reads-strategy : (a : ℕ) → Reads ws (readStrategy ws a) encodeList (Strategy a)
   unfolding readStrategy encodeList
   reads-strategy a =
       reads-iff
-      (λ es h. (h .1, stands-index (λ e. e ≤ a) es (λ k l. h .2 k l .1)))
-      (λ es h. (zero-le, h .0, λ k l. (zero-le, h .1 (getD es k 0) (stands-getD es k l))))
+      (λ es h. (h .1, member-index (λ e. e ≤ a) es (λ k l. h .2 k l .1)))
+      (λ es h. (zero-le, h .0, λ k l. (zero-le, h .1 (getD es k 0) (member-getD es k l))))
       (reads-counted length (λ n. times n (number ws entry 0 a)) (λ n. reads-numbers ws entry 0 a n) range 0 16)
 
   pub reads-strategies : (g : Signature) →
@@ -57,7 +57,7 @@ pub forest-some : {g : Signature} {P : ℕ → Type 0} {k : ℕ} {ws : List ℕ}
 forest-some (more p f) = omega arith
 
 -- a side that was read
-abbrev pub TakenSide : Signature → Hand → ℕ → Reading → Type 0
+abbrev pub TakenSide : Signature → SideRole → ℕ → Reading → Type 0
 TakenSide g h known r = (1 ≤ length (r .words)) × (length (r .words) ≤ 64) × Taken g h true 1 known (r .known) (r .words)
 
 abbrev pub encodeRule : Rule → List ℕ
@@ -75,35 +75,35 @@ encode-none = refl
 pub record Rules (ws : List ℕ) (g : Signature) (i j : ℕ) (rs : List Rule) : Type 0 where
   pub stand : Between ws i j (length rs ∷ encodeRules rs)
   pub few : length rs ≤ 128
-  pub lawful : Every noRule (Lawful g) rs
+  pub wellFormedRules : Every noRule (WellFormedRule g) rs
   pub ends : length ws ≤ j
 
 module _ (ws : List ℕ) (g : Signature) where
-  pub reads-side : (h : Hand) (known : ℕ) → Reads ws (readSide ws g h known) (λ r. encodeList (r .words)) (TakenSide g h known)
+  pub reads-side : (h : SideRole) (known : ℕ) → Reads ws (readSide ws g h known) (λ r. encodeList (r .words)) (TakenSide g h known)
   unfolding readSide encodeList
   reads-side h known =
       reads-counted (λ r. length (r .words)) (λ n. readWords ws g h true n 1 known) (λ n. reads-words ws g h true n 1 known) range 1 64
 
   module _ (below : length g ≤ variable) where
-    pub reads-rule : Reads ws (readRule ws g) encodeRule (Lawful g)
+    pub reads-rule : Reads ws (readRule ws g) encodeRule (WellFormedRule g)
     unfolding readRule
     reads-rule = record { sound = λ {i} e. between i e; good = λ {i} e. fine i e; complete = λ {i} {j} {x} b h. takes-rule i j x b h }
       where
         between : (i : ℕ) {j : ℕ} {x : Rule} → readRule ws g i ≡ ok x j → Between ws i j (encodeRule x)
         between i e =
-            let a = after-ok (readSide ws g Left 0 i) _ e in
-            let b = after-ok (readSide ws g Right (a .value .known) (a .place)) _ (a .goes) in
+            let a = then-ok (readSide ws g Left 0 i) _ e in
+            let b = then-ok (readSide ws g Right (a .value .known) (a .place)) _ (a .goes) in
             between-ok encodeRule (b .goes) (between-join (reads-side Left 0 .sound (a .reads)) (reads-side Right (a .value .known) .sound (b .reads)))
 
-        fine : (i : ℕ) {j : ℕ} {x : Rule} → readRule ws g i ≡ ok x j → Lawful g x
+        fine : (i : ℕ) {j : ℕ} {x : Rule} → readRule ws g i ≡ ok x j → WellFormedRule g x
         fine i e =
-            let a = after-ok (readSide ws g Left 0 i) _ e in
-            let b = after-ok (readSide ws g Right (a .value .known) (a .place)) _ (a .goes) in
+            let a = then-ok (readSide ws g Left 0 i) _ e in
+            let b = then-ok (readSide ws g Right (a .value .known) (a .place)) _ (a .goes) in
             let l = reads-side Left 0 .good (a .reads) in
             let r = reads-side Right (a .value .known) .good (b .reads) in
             rw (← ok-value (b .goes)) (record {
               count = a .value .known;
-              few = taken-few g below (l .2) zero-le;
+              variableBound = taken-few g below (l .2) zero-le;
               headed = taken-headed g below (l .2);
               left = taken-forest g Left (l .2);
               right = taken-forest g Right (r .2);
@@ -113,16 +113,16 @@ module _ (ws : List ℕ) (g : Signature) where
               known = taken-known g below (r .2);
             })
 
-        takes-rule : (i j : ℕ) (x : Rule) → Between ws i j (encodeRule x) → Lawful g x → readRule ws g i ≡ ok x j
+        takes-rule : (i j : ℕ) (x : Rule) → Between ws i j (encodeRule x) → WellFormedRule g x → readRule ws g i ≡ ok x j
         takes-rule i j x b h =
             let s = between-split (encodeList (x .lhs)) (encodeList (x .rhs)) b in
-            let l = left-taken g below (h .left) (h .numbered) (h .few) true (λ _. h .headed) in
-            let r = right-taken g below (h .right) (h .few) (h .known) true in
+            let l = left-taken g below (h .left) (h .numbered) (h .variableBound) true (λ _. h .headed) in
+            let r = right-taken g below (h .right) (h .variableBound) (h .known) true in
             let a = reads-side Left 0 .complete {x = record { words = x .lhs; known = h .count }} (s .0) (forest-some (h .left), h .shortLeft, l) in
             let c = reads-side Right (h .count) .complete {x = record { words = x .rhs; known = h .count }} (s .1) (forest-some (h .right), h .shortRight, r) in
             rw a (rw c)
 
-    reads-rules : (n : ℕ) → Reads ws (times n (readRule ws g)) encodeRules (λ rs. (length rs ≡ n) × Every noRule (Lawful g) rs)
+    reads-rules : (n : ℕ) → Reads ws (times n (readRule ws g)) encodeRules (λ rs. (length rs ≡ n) × Every noRule (WellFormedRule g) rs)
     reads-rules n = reads-times reads-rule encodeRules encode-none encode-rule noRule n
 
     ends-at : {i j : ℕ} {u : Unit {0}} → readEnd ws i ≡ ok u j → (length ws ≤ i) × (i ≡ j)
@@ -142,7 +142,7 @@ module _ (ws : List ℕ) (g : Signature) where
         let h = reads-rules n .good t in
         let b = reads-number ws range 0 128 .good c .1 in
         let e = h .0 in
-        record { stand = rw e (between-join (reads-number ws range 0 128 .sound c) (reads-rules n .sound t)); few = omega arith; lawful = h .1; ends = l }
+        record { stand = rw e (between-join (reads-number ws range 0 128 .sound c) (reads-rules n .sound t)); few = omega arith; wellFormedRules = h .1; ends = l }
 
     same-rules : {i k j : ℕ} {rs rs′ : List Rule} → ok rs k ≡ ok rs′ j → Rules ws g i k rs → Rules ws g i j rs′
     same-rules e h = rw (← ok-value e, ← ok-place e) h
@@ -150,9 +150,9 @@ module _ (ws : List ℕ) (g : Signature) where
     pub rules-read : (i : ℕ) {j : ℕ} {rs : List Rule} → readRules ws g i ≡ ok rs j → Rules ws g i j rs
     unfolding readRules
     rules-read i e =
-        let a = after-ok (number ws range 0 128 i) _ e in
-        let b = after-ok (times (a .value) (readRule ws g) (a .place)) _ (a .goes) in
-        let c = after-ok (readEnd ws (b .place)) _ (b .goes) in
+        let a = then-ok (number ws range 0 128 i) _ e in
+        let b = then-ok (times (a .value) (readRule ws g) (a .place)) _ (a .goes) in
+        let c = then-ok (readEnd ws (b .place)) _ (b .goes) in
         let d = ends-at (c .reads) in
         same-rules (ap (λ k. ok (b .value) k) (d .1) ∙ c .goes) (counted-rules (a .reads) (b .reads) (d .0))
 
@@ -161,13 +161,13 @@ module _ (ws : List ℕ) (g : Signature) where
     read-rules i j rs h =
         let s = between-split (one (length rs)) (encodeRules rs) (h .stand) in
         let c = reads-number ws range 0 128 .complete (s .0) (zero-le, h .few) in
-        let t = reads-rules (length rs) .complete (s .1) (refl, h .lawful) in
+        let t = reads-rules (length rs) .complete (s .1) (refl, h .wellFormedRules) in
         rw c (rw t (rw (at-end j (h .ends))))
 
 -- ---- the whole book
 
 -- the encoding of a well-formed system stands in ws, and nothing after it
-pub record Accepted (ws : List ℕ) (j : ℕ) (s : System) : Type 0 where
+pub record ReadAs (ws : List ℕ) (j : ℕ) (s : System) : Type 0 where
   pub well : WellFormed s
   pub stands : Between ws 0 j (encode s)
   pub ends : length ws ≤ j
@@ -182,22 +182,22 @@ unfolding strategy
 strategy-every s e h f = rw (arity-getD (s .arities) f) (elim (decLt f (length (s .arities))) [ yes l ↦ h f l | no l ↦ none (omega arith) ])
   where
     none : length (s .strategies) ≤ f → Strategy (getD (s .arities) f 0) (getD (s .strategies) f [])
-    none l = rw (List·getD-eq-default (s .strategies) [] {n = f} l) (zero-le, stands-index (λ e. e ≤ getD (s .arities) f 0) [] (λ k n. absurd (not-suc-le-zero n)))
+    none l = rw (List·getD-eq-default (s .strategies) [] {n = f} l) (zero-le, member-index (λ e. e ≤ getD (s .arities) f 0) [] (λ k n. absurd (not-suc-le-zero n)))
 
 pub every-strategy : (s : System) → WellFormed s → Pairwise 0 [] Strategy (s .arities) (s .strategies)
 unfolding strategy
-every-strategy s w k l = (w .short k, rw (arity-getD (s .arities) k) at (w .entries k))
+every-strategy s w k l = (w .strategyBound k, rw (arity-getD (s .arities) k) at (w .entryBound k))
 
 module _ (ws : List ℕ) where
   joined : {n a b m c d j : ℕ} {g : Signature} {ess : List (List ℕ)} {rs : List Rule} → number ws range 1 256 0 ≡ ok n a → times n (number ws range 0 8) a ≡ ok g b →
-      number ws range n n b ≡ ok m c → each (readStrategy ws) g c ≡ ok ess d → readRules ws g d ≡ ok rs j → Accepted ws j (record { arities = g; strategies = ess; rules = rs })
+      number ws range n n b ≡ ok m c → each (readStrategy ws) g c ≡ ok ess d → readRules ws g d ≡ ok rs j → ReadAs ws j (record { arities = g; strategies = ess; rules = rs })
   unfolding encode encodeList
-  joined {n} {a} {b} {m} {c} {d} {j} {g} {ess} {rs} count names again orders rules =
+  joined {n} {a} {b} {m} {c} {d} {j} {g} {ess} {rs} count symbolBound again strategyCount rules =
       let s : System = record { arities = g; strategies = ess; rules = rs } in
       let bn = reads-number ws range 1 256 .good count in
-      let bg = reads-numbers ws range 0 8 n .good names in
+      let bg = reads-numbers ws range 0 8 n .good symbolBound in
       let bm = reads-number ws range n n .good again in
-      let bs = reads-strategies ws g .good orders in
+      let bs = reads-strategies ws g .good strategyCount in
       let lg : length g ≡ n = bg .0 in
       let ls : length ess ≡ length g = bs .0 in
       let lm : m ≡ length ess = omega arith in
@@ -205,51 +205,51 @@ module _ (ws : List ℕ) where
       let rr = rules-read ws g (omega arith) d rules in
       record {
         well = record {
-          some = omega arith;
-          names = omega arith;
-          narrow = narrow-every g (bg .1);
-          orders = ls;
-          short = λ f. st f .0;
-          entries = λ f e. st f .1 e;
-          few = rr .few;
-          lawful = rr .lawful;
+          someSymbols = omega arith;
+          symbolBound = omega arith;
+          arityBound = narrow-every g (bg .1);
+          strategyCount = ls;
+          strategyBound = λ f. st f .0;
+          entryBound = λ f e. st f .1 e;
+          ruleBound = rr .few;
+          wellFormedRules = rr .wellFormedRules;
         };
-        stands = rw (← lm, lg) (between-join (reads-number ws range 1 256 .sound count) (between-join (reads-numbers ws range 0 8 n .sound names)
-            (between-join (reads-number ws range n n .sound again) (between-join (reads-strategies ws g .sound orders) (rr .stand)))));
+        stands = rw (← lm, lg) (between-join (reads-number ws range 1 256 .sound count) (between-join (reads-numbers ws range 0 8 n .sound symbolBound)
+            (between-join (reads-number ws range n n .sound again) (between-join (reads-strategies ws g .sound strategyCount) (rr .stand)))));
         ends = rr .ends;
       }
 
-  same-system : {k j : ℕ} {s s′ : System} → ok s k ≡ ok s′ j → Accepted ws k s → Accepted ws j s′
+  same-system : {k j : ℕ} {s s′ : System} → ok s k ≡ ok s′ j → ReadAs ws k s → ReadAs ws j s′
   same-system e h = rw (← ok-value e, ← ok-place e) h
 
-  pub system-read : {j : ℕ} {s : System} → read ws ≡ ok s j → Accepted ws j s
+  pub system-read : {j : ℕ} {s : System} → read ws ≡ ok s j → ReadAs ws j s
   unfolding read readSystem
   system-read e =
-      let a = after-ok (number ws range 1 256 0) _ e in
-      let b = after-ok (times (a .value) (number ws range 0 8) (a .place)) _ (a .goes) in
-      let c = after-ok (number ws range (a .value) (a .value) (b .place)) _ (b .goes) in
-      let d = after-ok (each (readStrategy ws) (b .value) (c .place)) _ (c .goes) in
-      let r = after-ok (readRules ws (b .value) (d .place)) _ (d .goes) in
+      let a = then-ok (number ws range 1 256 0) _ e in
+      let b = then-ok (times (a .value) (number ws range 0 8) (a .place)) _ (a .goes) in
+      let c = then-ok (number ws range (a .value) (a .value) (b .place)) _ (b .goes) in
+      let d = then-ok (each (readStrategy ws) (b .value) (c .place)) _ (c .goes) in
+      let r = then-ok (readRules ws (b .value) (d .place)) _ (d .goes) in
       same-system (r .goes) (joined (a .reads) (b .reads) (c .reads) (d .reads) (r .reads))
 
-  pub read-system : (j : ℕ) (s : System) → Accepted ws j s → read ws ≡ ok s j
+  pub read-system : (j : ℕ) (s : System) → ReadAs ws j s → read ws ≡ ok s j
   unfolding read readSystem encode encodeList
   read-system j s h =
       let g = s .arities in
       let w = h .well in
-      let names : length g ≤ 256 = w .names in
+      let symbolBound : length g ≤ 256 = w .symbolBound in
       let e₁ = between-split (one (length g)) _ (h .stands) in
       let e₂ = between-split g _ (e₁ .1) in
       let e₃ = between-split (one (length (s .strategies))) _ (e₂ .1) in
       let e₄ = between-split (encodeStrategies (s .strategies)) _ (e₃ .1) in
-      let a = reads-number ws range 1 256 .complete (e₁ .0) (w .some, names) in
-      let b = reads-numbers ws range 0 8 (length g) .complete (e₂ .0) (refl, λ k l. (zero-le, rw (arity-getD g k) at (w .narrow k))) in
-      let c = reads-number ws range (length g) (length g) .complete (e₃ .0) (let o = w .orders in omega arith) in
-      let d = reads-strategies ws g .complete (e₄ .0) (w .orders, every-strategy s w) in
-      let r = read-rules ws g (omega arith) _ j (s .rules) (record { stand = e₄ .1; few = w .few; lawful = w .lawful; ends = h .ends }) in
+      let a = reads-number ws range 1 256 .complete (e₁ .0) (w .someSymbols, symbolBound) in
+      let b = reads-numbers ws range 0 8 (length g) .complete (e₂ .0) (refl, λ k l. (zero-le, rw (arity-getD g k) at (w .arityBound k))) in
+      let c = reads-number ws range (length g) (length g) .complete (e₃ .0) (let o = w .strategyCount in omega arith) in
+      let d = reads-strategies ws g .complete (e₄ .0) (w .strategyCount, every-strategy s w) in
+      let r = read-rules ws g (omega arith) _ j (s .rules) (record { stand = e₄ .1; few = w .ruleBound; wellFormedRules = w .wellFormedRules; ends = h .ends }) in
       rw a (rw b (rw c (rw d (rw r))))
 
-  accepted-words : {j : ℕ} {s : System} → Accepted ws j s → (ws ≡ encode s) × (j ≡ length ws)
+  accepted-words : {j : ℕ} {s : System} → ReadAs ws j s → (ws ≡ encode s) × (j ≡ length ws)
   accepted-words {j} {s} h =
       let e : ws ≡ encode s = h .stands .words ∙ ap (λ r. encode s ++ r) (drop-of-length-le ws (h .ends)) ∙ append-nil (encode s) in
       let l : length ws ≡ length (encode s) = ap length e in

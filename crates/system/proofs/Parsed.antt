@@ -7,7 +7,7 @@ use mathlib.Core.List.{List, [], _∷_, _++_, append-assoc}
 use lib.ListN.{length, getD, drop, length-append, drop-of-length-le}
 use lib.Seq.{drop-cons, drop-drop, drop-append-seam}
 use Rattle.system.specs.Numbers.{Fault}
-use Rattle.system.specs.Parser.{Parsed, ok, fault, after}
+use Rattle.system.specs.Parser.{Parsed, ok, fault, andThen}
 
 -- ---- going on after a parser
 
@@ -29,15 +29,15 @@ pub record Then {A B : Type 0} (p : Parsed A) (on : A → ℕ → Parsed B) (y :
   pub goes : on value place ≡ ok y k
 
 module _ {A B : Type 0} where
-  pub after-ok : (p : Parsed A) (on : A → ℕ → Parsed B) {y : B} {k : ℕ} → after p on ≡ ok y k → Then p on y k
-  after-ok (ok x j) on e = record { value = x; place = j; reads = refl; goes = e }
-  after-ok (fault f i) on e = absurd (not-fault e)
+  pub then-ok : (p : Parsed A) (on : A → ℕ → Parsed B) {y : B} {k : ℕ} → andThen p on ≡ ok y k → Then p on y k
+  then-ok (ok x j) on e = record { value = x; place = j; reads = refl; goes = e }
+  then-ok (fault f i) on e = absurd (not-fault e)
 
-  pub ok-after : {p : Parsed A} {x : A} {j : ℕ} → p ≡ ok x j → (on : A → ℕ → Parsed B) → after p on ≡ on x j
-  ok-after e on = rw e
+  pub ok-then : {p : Parsed A} {x : A} {j : ℕ} → p ≡ ok x j → (on : A → ℕ → Parsed B) → andThen p on ≡ on x j
+  ok-then e on = rw e
 
-  pub fault-after : {p : Parsed A} {f : Fault} {j : ℕ} → p ≡ fault f j → (on : A → ℕ → Parsed B) → after p on ≡ fault f j
-  fault-after e on = rw e
+  pub fault-then : {p : Parsed A} {f : Fault} {j : ℕ} → p ≡ fault f j → (on : A → ℕ → Parsed B) → andThen p on ≡ fault f j
+  fault-then e on = rw e
 
 -- ---- words that stand in a book
 

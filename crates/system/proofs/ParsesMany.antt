@@ -6,8 +6,8 @@ use mathlib.Core.Path.{_≡_, refl, sym, ap, _∙_}
 use mathlib.Core.List.{List, [], _∷_, _++_}
 use lib.ListN.{length, getD}
 use Rattle.system.specs.Numbers.{Fault}
-use Rattle.system.specs.Parser.{ok, fault, Parser, _>>=_, after, times, each, number}
-use Rattle.system.proofs.Parsed.{Between, after-ok, between-end, between-join, between-none, between-split, fault-after, ok-after, ok-place, ok-value}
+use Rattle.system.specs.Parser.{ok, fault, Parser, _>>=_, andThen, times, each, number}
+use Rattle.system.proofs.Parsed.{Between, then-ok, between-end, between-join, between-none, between-split, fault-then, ok-then, ok-place, ok-value}
 use Rattle.system.proofs.Parses.{Reads, one, reads-number}
 
 -- ---- the same n times
@@ -41,21 +41,21 @@ module _ {A : Type 0} (p : Parser A) where
   pub times-some : (n : ℕ) {i j : ℕ} {xs : List A} → times (suc n) p i ≡ ok xs j → Times n p i j xs
   unfolding times
   times-some n {i} e =
-      let a = after-ok (p i) _ e in
-      let b = after-ok (times n p (a .place)) _ (a .goes) in
+      let a = then-ok (p i) _ e in
+      let b = then-ok (times n p (a .place)) _ (a .goes) in
       record { head = a .value; tail = b .value; place = a .place; equal = sym (ok-value (b .goes)); first = a .reads; others = b .reads ∙ ap (λ k. ok (b .value) k) (ok-place (b .goes)) }
 
   -- the first is read: the others decide; it is refused: so is all
-  pub times-step : (n : ℕ) {i j : ℕ} {x : A} → p i ≡ ok x j → times (suc n) p i ≡ after (times n p j) (λ xs k. ok (x ∷ xs) k)
+  pub times-step : (n : ℕ) {i j : ℕ} {x : A} → p i ≡ ok x j → times (suc n) p i ≡ andThen (times n p j) (λ xs k. ok (x ∷ xs) k)
   unfolding times
-  times-step n a = ok-after a _
+  times-step n a = ok-then a _
 
   pub times-fault : (n : ℕ) {i j : ℕ} {f : Fault} → p i ≡ fault f j → times (suc n) p i ≡ fault f j
   unfolding times
-  times-fault n a = fault-after a _
+  times-fault n a = fault-then a _
 
   pub times-cons : (n : ℕ) {i j k : ℕ} {x : A} {xs : List A} → p i ≡ ok x j → times n p j ≡ ok xs k → times (suc n) p i ≡ ok (x ∷ xs) k
-  times-cons n a b = times-step n a ∙ ok-after b _
+  times-cons n a b = times-step n a ∙ ok-then b _
 
 -- what a parser of a list reads, from what the parser of its elements reads
 module _ {A : Type 0} {ws : List ℕ} {p : Parser A} {enc : A → List ℕ} {Good : A → Type 0} (r : Reads ws p enc Good)
@@ -111,8 +111,8 @@ module _ {A B : Type 0} (p : A → Parser B) where
   pub each-some : (a : A) (more : List A) {i j : ℕ} {xs : List B} → each p (a ∷ more) i ≡ ok xs j → Each p a more i j xs
   unfolding each
   each-some a more {i} e =
-      let t = after-ok (p a i) _ e in
-      let u = after-ok (each p more (t .place)) _ (t .goes) in
+      let t = then-ok (p a i) _ e in
+      let u = then-ok (each p more (t .place)) _ (t .goes) in
       record {
         head = t .value;
         tail = u .value;
@@ -122,16 +122,16 @@ module _ {A B : Type 0} (p : A → Parser B) where
         others = u .reads ∙ ap (λ k. ok (u .value) k) (ok-place (u .goes));
       }
 
-  pub each-step : (a : A) (more : List A) {i j : ℕ} {x : B} → p a i ≡ ok x j → each p (a ∷ more) i ≡ after (each p more j) (λ xs k. ok (x ∷ xs) k)
+  pub each-step : (a : A) (more : List A) {i j : ℕ} {x : B} → p a i ≡ ok x j → each p (a ∷ more) i ≡ andThen (each p more j) (λ xs k. ok (x ∷ xs) k)
   unfolding each
-  each-step a more h = ok-after h _
+  each-step a more h = ok-then h _
 
   pub each-fault : (a : A) (more : List A) {i j : ℕ} {f : Fault} → p a i ≡ fault f j → each p (a ∷ more) i ≡ fault f j
   unfolding each
-  each-fault a more h = fault-after h _
+  each-fault a more h = fault-then h _
 
   pub each-cons : (a : A) (more : List A) {i j k : ℕ} {x : B} {xs : List B} → p a i ≡ ok x j → each p more j ≡ ok xs k → each p (a ∷ more) i ≡ ok (x ∷ xs) k
-  each-cons a more h hs = each-step a more h ∙ ok-after hs _
+  each-cons a more h hs = each-step a more h ∙ ok-then hs _
 
 -- P holds of the elements of two lists at each index
 abbrev pub Pairwise : {A B : Type 0} → A → B → (A → B → Type 0) → List A → List B → Type 0
@@ -180,13 +180,13 @@ module _ {A : Type 0} {ws : List ℕ} (size : A → ℕ) (q : ℕ → Parser A) 
 
       between : {i j : ℕ} {x : A} → (_>>=_ (number ws f low high) q) i ≡ ok x j → Between ws i j (size x ∷ enc x)
       between {i} {j} {x} e =
-          let t = after-ok (number ws f low high i) q e in
+          let t = then-ok (number ws f low high i) q e in
           let u = r (t .value) .good (t .goes) .0 in
           rw u (between-join (c .sound (t .reads)) (r (t .value) .sound (t .goes)))
 
       fine : (i : ℕ) {j : ℕ} {x : A} → (_>>=_ (number ws f low high) q) i ≡ ok x j → (low ≤ size x) × (size x ≤ high) × Good x
       fine i e =
-          let t = after-ok (number ws f low high i) q e in
+          let t = then-ok (number ws f low high i) q e in
           let u = r (t .value) .good (t .goes) in
           let b = c .good (t .reads) in
           let v = u .0 in

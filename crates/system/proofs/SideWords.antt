@@ -7,8 +7,8 @@ use mathlib.Core.Logic.{_⊎_, inl, inr}
 use mathlib.Core.Bool.{Bool, true, false}
 use mathlib.Core.Option.{none, some}
 use borrow.Author.Tests.{lt-ltb, le-ltb, le-leb, lt-leb, eq-eqb, ne-eqb}
-use Rattle.system.specs.declared.reader.sides.Hand.{Hand}
-use Rattle.system.specs.declared.reader.sides.Hand.the-variants.{Left, Right}
+use Rattle.system.specs.declared.reader.sides.SideRole.{SideRole}
+use Rattle.system.specs.declared.reader.sides.SideRole.the-variants.{Left, Right}
 use Rattle.system.specs.Limits.{variable, variables}
 use Rattle.system.specs.Signature.{Signature, Symbol, isSymbol}
 use Rattle.system.specs.Numbers.{Fault, unknown, unbalanced, variableHead, unbound}
@@ -16,79 +16,79 @@ use Rattle.system.specs.Parser.{variableFault, sideFault, learn}
 
 -- ---- a variable
 
-module _ (hand : Hand) (first : Bool) (known k : ℕ) where
-  pub variable-head : hand ≡ Left → first ≡ true → variableFault hand first known k ≡ some variableHead
+module _ (role : SideRole) (first : Bool) (known k : ℕ) where
+  pub variable-head : role ≡ Left → first ≡ true → variableFault role first known k ≡ some variableHead
   unfolding variableFault
   variable-head p q = rw (p, q)
 
-  pub variable-next : hand ≡ Left → first ≡ false → k ≡ known → variableFault hand first known k ≡ none
+  pub variable-next : role ≡ Left → first ≡ false → k ≡ known → variableFault role first known k ≡ none
   unfolding variableFault
   variable-next p q e = rw (p, q, eq-eqb k known e)
 
-  pub variable-skips : hand ≡ Left → first ≡ false → (k ≡ known → ⊥) → variableFault hand first known k ≡ some unbound
+  pub variable-skips : role ≡ Left → first ≡ false → (k ≡ known → ⊥) → variableFault role first known k ≡ some unbound
   unfolding variableFault
   variable-skips p q e = rw (p, q, ne-eqb k known e)
 
-  pub variable-known : hand ≡ Right → k < known → variableFault hand first known k ≡ none
+  pub variable-known : role ≡ Right → k < known → variableFault role first known k ≡ none
   unfolding variableFault
   variable-known p h = rw (p, lt-ltb k known h)
 
-  pub variable-unbound : hand ≡ Right → known ≤ k → variableFault hand first known k ≡ some unbound
+  pub variable-unbound : role ≡ Right → known ≤ k → variableFault role first known k ≡ some unbound
   unfolding variableFault
   variable-unbound p h = rw (p, le-ltb k known h)
 
 -- how many variables are known afterwards
-module _ (hand : Hand) (known w : ℕ) where
-  pub learn-variable : hand ≡ Left → variable ≤ w → learn hand known w ≡ suc known
+module _ (role : SideRole) (known w : ℕ) where
+  pub learn-variable : role ≡ Left → variable ≤ w → learn role known w ≡ suc known
   unfolding learn
   learn-variable p h = rw (p, le-leb variable w h)
 
-  pub learn-right : hand ≡ Right → learn hand known w ≡ known
+  pub learn-right : role ≡ Right → learn role known w ≡ known
   unfolding learn
   learn-right p = rw p
 
-pub learn-symbol : (hand : Hand) (known w : ℕ) → w < variable → learn hand known w ≡ known
+pub learn-symbol : (role : SideRole) (known w : ℕ) → w < variable → learn role known w ≡ known
 unfolding learn
 learn-symbol Left known w h = rw (lt-leb variable w h)
 learn-symbol Right known w h = refl
 
 -- ---- a word
 
-module _ (g : Signature) (hand : Hand) (first : Bool) (due known w : ℕ) where
-  pub side-complete : due ≡ 0 → sideFault g hand first due known w ≡ some unbalanced
+module _ (g : Signature) (role : SideRole) (first : Bool) (due known w : ℕ) where
+  pub side-complete : due ≡ 0 → sideFault g role first due known w ≡ some unbalanced
   unfolding sideFault
   side-complete e = rw e
 
   module _ (open-due : 0 < due) where
-    pub side-symbol : Symbol g w → sideFault g hand first due known w ≡ none
+    pub side-symbol : Symbol g w → sideFault g role first due known w ≡ none
     unfolding sideFault
     side-symbol e = go due open-due
       where
-        go : (d : ℕ) → 0 < d → sideFault g hand first d known w ≡ none
+        go : (d : ℕ) → 0 < d → sideFault g role first d known w ≡ none
         go zero h = absurd (omega arith)
         go (suc d) h = rw (e, sideFault)
 
-    pub side-low : isSymbol g w ≡ false → w < variable → sideFault g hand first due known w ≡ some unknown
+    pub side-low : isSymbol g w ≡ false → w < variable → sideFault g role first due known w ≡ some unknown
     unfolding sideFault
     side-low e l = go due open-due
       where
-        go : (d : ℕ) → 0 < d → sideFault g hand first d known w ≡ some unknown
+        go : (d : ℕ) → 0 < d → sideFault g role first d known w ≡ some unknown
         go zero h = absurd (omega arith)
         go (suc d) h = rw (e, sideFault) (rw (lt-leb variable w l))
 
-    pub side-high : isSymbol g w ≡ false → variable + variables ≤ w → sideFault g hand first due known w ≡ some unknown
+    pub side-high : isSymbol g w ≡ false → variable + variables ≤ w → sideFault g role first due known w ≡ some unknown
     unfolding sideFault
     side-high e l = go due open-due
       where
-        go : (d : ℕ) → 0 < d → sideFault g hand first d known w ≡ some unknown
+        go : (d : ℕ) → 0 < d → sideFault g role first d known w ≡ some unknown
         go zero h = absurd (omega arith)
         go (suc d) h = rw (e, sideFault) (rw (le-leb variable w (omega arith), le-ltb w (variable + variables) l))
 
-    pub side-variable : isSymbol g w ≡ false → variable ≤ w → w < variable + variables → sideFault g hand first due known w ≡ variableFault hand first known (w - variable)
+    pub side-variable : isSymbol g w ≡ false → variable ≤ w → w < variable + variables → sideFault g role first due known w ≡ variableFault role first known (w - variable)
     unfolding sideFault
     side-variable e l u = go due open-due
       where
-        go : (d : ℕ) → 0 < d → sideFault g hand first d known w ≡ variableFault hand first known (w - variable)
+        go : (d : ℕ) → 0 < d → sideFault g role first d known w ≡ variableFault role first known (w - variable)
         go zero h = absurd (omega arith)
         go (suc d) h = rw (e, sideFault) (rw (le-leb variable w l, lt-ltb w (variable + variables) u))
 
@@ -98,12 +98,12 @@ refused : {f : Fault} → some f ≡ none → ⊥
 refused n = let z : _≡_ {A = ℕ} 0 1 = cc in omega arith
 
 -- a variable that may stand there
-pub record Variable (h : Hand) (start : Bool) (known w : ℕ) : Type 0 where
+pub record Variable (h : SideRole) (start : Bool) (known w : ℕ) : Type 0 where
   pub low : variable ≤ w
   pub high : w < variable + variables
   pub passes : variableFault h start known (w - variable) ≡ none
 
-module _ (g : Signature) (h : Hand) (start : Bool) (due known w : ℕ) where
+module _ (g : Signature) (h : SideRole) (start : Bool) (due known w : ℕ) where
   pub variable-passes : 0 < due → Variable h start known w → sideFault g h start due known w ≡ none
   variable-passes o v = go (isSymbol g w) refl
     where

@@ -9,27 +9,27 @@ use mathlib.Core.List.{List, [], _∷_}
 use lib.ListN.{length, getD}
 use Rattle.system.specs.Limits.{variable, variables}
 use Rattle.system.specs.Signature.{Signature, Symbol, arity}
-use Rattle.system.specs.Terms.{Forest, empty, more, Word, Stands, first, later, Numbered, end, name, next}
-use Rattle.system.specs.declared.reader.sides.Hand.{Hand}
-use Rattle.system.specs.declared.reader.sides.Hand.the-variants.{Left, Right}
+use Rattle.system.specs.Terms.{Forest, empty, more, Word, Member, first, later, Numbered, end, symbol, next}
+use Rattle.system.specs.declared.reader.sides.SideRole.{SideRole}
+use Rattle.system.specs.declared.reader.sides.SideRole.the-variants.{Left, Right}
 use Rattle.system.specs.Parser.{ok, sideFault, learn, Reading, readWords, word}
 use Rattle.system.proofs.Signatures.{symbol-below}
 use Rattle.system.proofs.Members.{numbered-le}
 use Rattle.system.proofs.SideWords.{Variable, side-symbol, variable-passes, passes-due, passes-word}
 use Rattle.system.proofs.SideWords.{left-variable, variable-left, right-variable, variable-right, learn-symbol, learn-variable, learn-right}
-use Rattle.system.proofs.Parsed.{ok-value, ok-place, not-fault, after-ok, Between, between-none, between-end, between-join, between-split, between-ok}
+use Rattle.system.proofs.Parsed.{ok-value, ok-place, not-fault, then-ok, Between, between-none, between-end, between-join, between-split, between-ok}
 use Rattle.system.proofs.Parses.{Reads, one, reads-word}
 
 -- ---- all words
 
 -- each word passes its check, from `known` variables up to `last`
-pub data Taken (g : Signature) (h : Hand) : Bool → ℕ → ℕ → ℕ → List ℕ → Type 0 where
+pub data Taken (g : Signature) (h : SideRole) : Bool → ℕ → ℕ → ℕ → List ℕ → Type 0 where
   done : {start : Bool} {known : ℕ} → Taken g h start zero known known []
   takes : {start : Bool} {due known last w : ℕ} {ws : List ℕ} → sideFault g h start due known w ≡ none →
       Taken g h false (due - 1 + arity g w) (learn h known w) last ws → Taken g h start due known last (w ∷ ws)
 
 -- what is taken is a forest
-pub taken-forest : (g : Signature) (h : Hand) {start : Bool} {due known last : ℕ} {ws : List ℕ} → Taken g h start due known last ws → Forest g (Word g) due ws
+pub taken-forest : (g : Signature) (h : SideRole) {start : Bool} {due known last : ℕ} {ws : List ℕ} → Taken g h start due known last ws → Forest g (Word g) due ws
 taken-forest g h done = empty
 taken-forest g h (takes {start} {due} {known} {w} c t) = step due (passes-due g h start due known w c) (passes-word g h start due known w c) (taken-forest g h t)
   where
@@ -41,7 +41,7 @@ taken-forest g h (takes {start} {due} {known} {w} c t) = step due (passes-due g 
     step zero l p f = absurd (omega arith)
     step {ws} (suc due) l p f = more (word-of p) (subst (λ n. Forest g (Word g) n ws) (let e : suc due - 1 + arity g w ≡ due + arity g w = omega arith in e) f)
 
-pub taken-cons : (g : Signature) (h : Hand) (start : Bool) (due : ℕ) {known known′ last w : ℕ} {ws : List ℕ} → sideFault g h start (suc due) known w ≡ none →
+pub taken-cons : (g : Signature) (h : SideRole) (start : Bool) (due : ℕ) {known known′ last w : ℕ} {ws : List ℕ} → sideFault g h start (suc due) known w ≡ none →
     learn h known w ≡ known′ → Taken g h false (due + arity g w) known′ last ws → Taken g h start (suc due) known last (w ∷ ws)
 taken-cons g h start due {known} {known′} {last} {w} {ws} c e t =
     let d : suc due - 1 + arity g w ≡ due + arity g w = omega arith in
@@ -54,7 +54,7 @@ module _ (g : Signature) (below : length g ≤ variable) where
   taken-numbered (takes {start} {due} {known} {last} {w} {ws} c t) = step (passes-word g Left start due known w c) (taken-numbered t)
     where
       step : Symbol g w ⊎ Variable Left start known w → Numbered (learn Left known w) last ws → Numbered known last (w ∷ ws)
-      step (inl s) n = let l = symbol-below g w below s in name l (rw (learn-symbol Left known w l) at n)
+      step (inl s) n = let l = symbol-below g w below s in symbol l (rw (learn-symbol Left known w l) at n)
       step (inr v) n = next (left-variable start known w v .1) (rw (learn-variable Left known w refl (v .low)) at n)
 
   pub taken-few : {start : Bool} {due known last : ℕ} {ws : List ℕ} → Taken g Left start due known last ws → known ≤ variables → last ≤ variables
@@ -77,7 +77,7 @@ module _ (g : Signature) (below : length g ≤ variable) where
   taken-last done = refl
   taken-last (takes {known} {w} c t) = taken-last t ∙ learn-right Right known w refl
 
-  pub taken-known : {start : Bool} {due known last : ℕ} {ws : List ℕ} → Taken g Right start due known last ws → (w : ℕ) → Stands w ws → w < variable + known
+  pub taken-known : {start : Bool} {due known last : ℕ} {ws : List ℕ} → Taken g Right start due known last ws → (w : ℕ) → Member w ws → w < variable + known
   taken-known (takes {start} {due} {known} {w = v} c t) w first = go (passes-word g Right start due known v c)
     where
       go : Symbol g v ⊎ Variable Right start known v → v < variable + known
@@ -96,7 +96,7 @@ module _ (g : Signature) (below : length g ≤ variable) where
   pub left-taken : {due known last : ℕ} {ws : List ℕ} → Forest g (Word g) due ws → Numbered known last ws → last ≤ variables →
       (start : Bool) → (start ≡ true → Symbol g (getD ws 0 variable)) → Taken g Left start due known last ws
   left-taken empty end l start h = done
-  left-taken (more {k} p f) (name {n = known} {w} b m) l start h =
+  left-taken (more {k} p f) (symbol {n = known} {w} b m) l start h =
       taken-cons g Left start k (side-symbol g Left start (suc k) known w (omega arith) (symbol-of w b p)) (learn-symbol Left known w b) (left-taken f m l false later-word)
   left-taken (more {k} p f) (next {n = known} {w} e m) l start h =
       let q = numbered-le m in
@@ -107,7 +107,7 @@ module _ (g : Signature) (below : length g ≤ variable) where
       go true h e b = side-symbol g Left true (suc k) known w (omega arith) (h refl)
       go false h e b = variable-passes g Left false (suc k) known w (omega arith) (variable-left known w b e)
 
-  pub right-taken : {due known : ℕ} {ws : List ℕ} → Forest g (Word g) due ws → known ≤ variables → ((w : ℕ) → Stands w ws → w < variable + known) →
+  pub right-taken : {due known : ℕ} {ws : List ℕ} → Forest g (Word g) due ws → known ≤ variables → ((w : ℕ) → Member w ws → w < variable + known) →
       (start : Bool) → Taken g Right start due known known ws
   right-taken empty few h start = done
   right-taken {known} (more {w} {k} p f) few h start =
@@ -119,14 +119,14 @@ module _ (g : Signature) (below : length g ≤ variable) where
 
 -- ---- the reader of a side's words
 
-module _ (ws : List ℕ) (g : Signature) (h : Hand) where
+module _ (ws : List ℕ) (g : Signature) (h : SideRole) where
   words-sound : (n : ℕ) (start : Bool) (due known i : ℕ) {j : ℕ} {r : Reading} → readWords ws g h start n due known i ≡ ok r j → Between ws i j (r .words)
   unfolding readWords
   words-sound zero start zero known i e = rw (← ok-value e, ← ok-place e) (between-none i)
   words-sound zero start (suc due) known i e = absurd (not-fault e)
   words-sound (suc n) start due known i e =
-      let a = after-ok (word ws (sideFault g h start due known) i) _ e in
-      let b = after-ok (readWords ws g h false n (due - 1 + arity g (a .value)) (learn h known (a .value)) (a .place)) _ (a .goes) in
+      let a = then-ok (word ws (sideFault g h start due known) i) _ e in
+      let b = then-ok (readWords ws g h false n (due - 1 + arity g (a .value)) (learn h known (a .value)) (a .place)) _ (a .goes) in
       between-ok (λ r. r .words) (b .goes) (between-join (reads-word ws (sideFault g h start due known) .sound (a .reads)) (words-sound n false _ _ _ (b .reads)))
 
   words-good : (n : ℕ) (start : Bool) (due known i : ℕ) {j : ℕ} {r : Reading} → readWords ws g h start n due known i ≡ ok r j →
@@ -135,8 +135,8 @@ module _ (ws : List ℕ) (g : Signature) (h : Hand) where
   words-good zero start zero known i e = rw (← ok-value e) (refl, done)
   words-good zero start (suc due) known i e = absurd (not-fault e)
   words-good (suc n) start due known i e =
-      let a = after-ok (word ws (sideFault g h start due known) i) _ e in
-      let b = after-ok (readWords ws g h false n (due - 1 + arity g (a .value)) (learn h known (a .value)) (a .place)) _ (a .goes) in
+      let a = then-ok (word ws (sideFault g h start due known) i) _ e in
+      let b = then-ok (readWords ws g h false n (due - 1 + arity g (a .value)) (learn h known (a .value)) (a .place)) _ (a .goes) in
       let t = words-good n false _ _ _ (b .reads) in
       rw (← ok-value (b .goes)) (ap suc (t .0), takes (reads-word ws (sideFault g h start due known) .good (a .reads)) (t .1))
 

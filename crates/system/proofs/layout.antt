@@ -1,4 +1,4 @@
 -- Where the rules and the strategies of an accepted book stand.
 pub mod Accepting
 pub mod Books
-pub mod Standings
+pub mod Suffixes

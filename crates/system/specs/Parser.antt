@@ -9,8 +9,8 @@ use lib.Dec.{ltb, leb, eqb}
 use Rattle.system.specs.Limits.{maxSymbols, maxArity, maxEntries, maxRules, sideWords, variable, variables}
 use Rattle.system.specs.Signature.{Signature, isSymbol, arity}
 use Rattle.system.specs.System.{System, Rule}
-use Rattle.system.specs.declared.reader.sides.Hand.{Hand}
-use Rattle.system.specs.declared.reader.sides.Hand.the-variants.{Left, Right}
+use Rattle.system.specs.declared.reader.sides.SideRole.{SideRole}
+use Rattle.system.specs.declared.reader.sides.SideRole.the-variants.{Left, Right}
 use Rattle.system.specs.Numbers.{Fault, missing, range, entry, unknown, unbalanced, variableHead, unbound, trailing}
 
 pub data Parsed (A : Type 0) : Type 0 where
@@ -21,12 +21,12 @@ abbrev pub Parser : Type 0 → Type 0
 Parser A = ℕ → Parsed A
 
 -- go on with what was read
-abbrev pub after : {A B : Type 0} → Parsed A → (A → ℕ → Parsed B) → Parsed B
-after (ok a i) on = on a i
-after (fault f i) on = fault f i
+abbrev pub andThen : {A B : Type 0} → Parsed A → (A → ℕ → Parsed B) → Parsed B
+andThen (ok a i) on = on a i
+andThen (fault f i) on = fault f i
 
 abbrev pub _>>=_ : {A B : Type 0} → Parser A → (A → Parser B) → Parser B
-_>>=_ p on i = after (p i) on
+_>>=_ p on i = andThen (p i) on
 
 abbrev pub pure : {A : Type 0} → A → Parser A
 pure a i = ok a i
@@ -57,13 +57,13 @@ pub record Reading : Type 0 where
 
 -- "A left side starts with a name, and its placeholders appear as 0, 1, 2, .. in reading order";
 -- "A right side uses only placeholders of its left side". Variable k, at the first word or later, where `known` are known
-unfoldable pub variableFault : Hand → Bool → ℕ → ℕ → Option Fault
+unfoldable pub variableFault : SideRole → Bool → ℕ → ℕ → Option Fault
 variableFault Left true known k = some variableHead
 variableFault Left false known k = cond (eqb k known) none (some unbound)
 variableFault Right first known k = cond (ltb k known) none (some unbound)
 
 -- a word of a side, where `due` subterms are still to come: the checks run 5, 4, 6, 7
-unfoldable pub sideFault : Signature → Hand → Bool → ℕ → ℕ → ℕ → Option Fault
+unfoldable pub sideFault : Signature → SideRole → Bool → ℕ → ℕ → ℕ → Option Fault
 sideFault g h first due known w =
     elim due [
       | zero ↦ some unbalanced
@@ -74,7 +74,7 @@ sideFault g h first due known w =
     ]
 
 -- how many variables are known after a word
-unfoldable pub learn : Hand → ℕ → ℕ → ℕ
+unfoldable pub learn : SideRole → ℕ → ℕ → ℕ
 learn Left known w = cond (leb variable w) (suc known) known
 learn Right known w = known
 
@@ -98,7 +98,7 @@ module _ (ws : List ℕ) where
     times n (number entry 0 a)
 
   -- n words more of a side, where `due` subterms are still to come and `known` variables are known
-  unfoldable pub readWords : Signature → Hand → Bool → ℕ → ℕ → ℕ → Parser Reading
+  unfoldable pub readWords : Signature → SideRole → Bool → ℕ → ℕ → ℕ → Parser Reading
   readWords g h first zero zero known = pure (record { words = []; known = known })
   readWords g h first zero (suc due) known = fault unbalanced
   readWords g h first (suc n) due known = do
@@ -107,7 +107,7 @@ module _ (ws : List ℕ) where
     pure (record { words = w ∷ r .words; known = r .known })
 
   -- a length 1 to 64 and that many words, which are one term
-  unfoldable pub readSide : Signature → Hand → ℕ → Parser Reading
+  unfoldable pub readSide : Signature → SideRole → ℕ → Parser Reading
   readSide g h known = do
     n ← number range 1 sideWords
     readWords g h true n 1 known

@@ -26,40 +26,40 @@ abbrev pub Side : Signature → List ℕ → Type 0
 Side g ws = Forest g (Word g) 1 ws
 
 -- e stands in a list
-pub data Stands : ℕ → List ℕ → Type 0 where
-  first : {e : ℕ} {es : List ℕ} → Stands e (e ∷ es)
-  later : {e d : ℕ} {es : List ℕ} → Stands e es → Stands e (d ∷ es)
+pub data Member : ℕ → List ℕ → Type 0 where
+  first : {e : ℕ} {es : List ℕ} → Member e (e ∷ es)
+  later : {e d : ℕ} {es : List ℕ} → Member e es → Member e (d ∷ es)
 
 -- `Numbered n m ws`: the variables of ws are number n, n + 1, .. up to m - 1, in this order, each once
 -- ("its placeholders appear as 0, 1, 2, .. in reading order, each once")
 pub data Numbered : ℕ → ℕ → List ℕ → Type 0 where
   end : {n : ℕ} → Numbered n n []
-  name : {n m w : ℕ} {ws : List ℕ} → w < variable → Numbered n m ws → Numbered n m (w ∷ ws)
+  symbol : {n m w : ℕ} {ws : List ℕ} → w < variable → Numbered n m ws → Numbered n m (w ∷ ws)
   next : {n m w : ℕ} {ws : List ℕ} → w ≡ variable + n → Numbered (suc n) m ws → Numbered n m (w ∷ ws)
 
 -- a rule that 01 allows: "a length 1 to 64 and its left side, then a length 1 to 64 and its right side";
 -- "A left side starts with a name"; "A right side uses only placeholders of its left side". (A whole side has at least one word.)
-pub record Lawful (g : Signature) (r : Rule) : Type 0 where
+pub record WellFormedRule (g : Signature) (r : Rule) : Type 0 where
   pub count : ℕ
-  pub few : count ≤ variables
+  pub variableBound : count ≤ variables
   pub headed : Symbol g (getD (r .lhs) 0 variable)
   pub left : Side g (r .lhs)
   pub right : Side g (r .rhs)
   pub shortLeft : length (r .lhs) ≤ sideWords
   pub shortRight : length (r .rhs) ≤ sideWords
   pub numbered : Numbered 0 count (r .lhs)
-  pub known : (w : ℕ) → Stands w (r .rhs) → w < variable + count
+  pub known : (w : ℕ) → Member w (r .rhs) → w < variable + count
 
 -- a system that 01 describes
 pub record WellFormed (s : System) : Type 0 where
   -- "a count S, 1 to 256, then S argument counts, each 0 to 8"
-  pub some : 1 ≤ length (s .arities)
-  pub names : length (s .arities) ≤ maxSymbols
-  pub narrow : (f : ℕ) → arity (s .arities) f ≤ maxArity
+  pub someSymbols : 1 ≤ length (s .arities)
+  pub symbolBound : length (s .arities) ≤ maxSymbols
+  pub arityBound : (f : ℕ) → arity (s .arities) f ≤ maxArity
   -- "a count that must equal S, then for each name a length 0 to 16 and that many entries, each 0 up to the name's argument count"
-  pub orders : length (s .strategies) ≡ length (s .arities)
-  pub short : (f : ℕ) → length (strategy s f) ≤ maxEntries
-  pub entries : (f e : ℕ) → Stands e (strategy s f) → e ≤ arity (s .arities) f
+  pub strategyCount : length (s .strategies) ≡ length (s .arities)
+  pub strategyBound : (f : ℕ) → length (strategy s f) ≤ maxEntries
+  pub entryBound : (f e : ℕ) → Member e (strategy s f) → e ≤ arity (s .arities) f
   -- "a count 0 to 128"
-  pub few : length (s .rules) ≤ maxRules
-  pub lawful : (k : ℕ) → k < length (s .rules) → Lawful (s .arities) (rule s k)
+  pub ruleBound : length (s .rules) ≤ maxRules
+  pub wellFormedRules : (k : ℕ) → k < length (s .rules) → WellFormedRule (s .arities) (rule s k)

@@ -8,9 +8,6 @@ use borrow.Author.Needs.{needs}
 use Rattle.cue.proofs.cue_argument.Statement.{statement}
 use Rattle.cue.proofs.cue_argument.Tie as tie
 
-argument-requires : tie.Need-argument-requires
-argument-requires c κs = search needs
-
 returns : tie.Need-returns
 returns c = let a = c .before .before .before .before .args in
     let e = ap length (c .before .argument .ensures .0) in
@@ -28,20 +25,11 @@ part-spans-start c = let a = c .before .before .before .before .args in
     let h = there (a .book .now) (a .term .now) (a .i) _ e (c .if1 .left) in
     let w = h .words in omega arith
 
-part-spans-end : tie.Need-part-spans-end
-part-spans-end c = search needs
-
 sub-spans-2 : tie.Need-sub-spans-2
 sub-spans-2 c = let a = c .before .before .before .before .before .args in
     let e = ap length (c .before .before .argument .ensures .0) in
     let h = there (a .book .now) (a .term .now) (a .i) _ e (c .before .if1 .left) in
     let w = h .positive in omega arith
-
-spans-requires : tie.Need-spans-requires
-spans-requires c κs = search needs
-
-add-t9 : tie.Need-add-t9
-add-t9 c = search needs
 
 returns-2 : tie.Need-returns-2
 returns-2 c = let a = c .before .before .before .before .before .before .args in
@@ -53,12 +41,5 @@ pub cue-argument-spec : {M : Type 1} → statement M
 cue-argument-spec =
     tie.close
     (tie.spec
-    argument-requires
-    returns
-    sub-spans
-    part-spans-start
-    part-spans-end
-    sub-spans-2
-    spans-requires
-    add-t9
+    (λ c κs. search needs) returns sub-spans part-spans-start (λ c. search needs) sub-spans-2 (λ c κs. search needs) (λ c. search needs)
     returns-2)

@@ -6,15 +6,6 @@ use borrow.Author.Needs.{needs}
 use Rattle.cue.proofs.cue_first_match.Statement.{statement}
 use Rattle.cue.proofs.cue_first_match.Tie as tie
 
-first-match-requires : tie.Need-first-match-requires
-first-match-requires c κs = search needs
-
-enum-told : tie.Need-enum-told
-enum-told c = search needs
-
-enum-known-found : tie.Need-enum-known-found
-enum-known-found c = search needs
-
 returns : tie.Need-returns
 returns c = match-nothing _ (c .enum-told .given .1) ∙ ap matchFor (c .before .before .before .before .first-match .ensures)
 
@@ -23,4 +14,4 @@ returns-2 c = match-first _ _ _ _ (c .before .found .given .1) ∙ ap matchFor (
 
 pub cue-first-match-spec : {M : Type 1} → statement M
 cue-first-match-spec =
-    tie.close (tie.spec first-match-requires enum-told enum-known-found returns returns-2)
+    tie.close (tie.spec (λ c κs. search needs) (λ c. search needs) (λ c. search needs) returns returns-2)

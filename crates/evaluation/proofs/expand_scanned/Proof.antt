@@ -27,15 +27,9 @@ ran c = c .run .kept .1 .1 .1 .1 .0 ∙ length-take-le 8192 (c .before .before .
 small : (c : tie.After-run) → c .run .result .size ≤ 4096
 small c = size-bounded (c .before .before .before .before .before .before .before .before .before .before .before .args .book .now) (c .before .before .before .before .before .before .before .before .before .before .before .args .term .now) (c .before .before .before .before .before .before .before .before .before .before .before .args .limit) (checked (c .before .before)) (c .run .result) (c .run .last .1 .1 .1 .1 .0) (c .run .ensures)
 
-refused-requires : tie.Need-refused-requires
-refused-requires c κs = search needs
-
 returns : tie.Need-returns
 returns c = let a = c .before .before .before .before .before .before .args in
     rw (cramped-answer (a .book .now) (a .term .now) (a .limit) (a .out .now) (a .work .now) (c .before .if1 .taken)) (ap (λ y. result y (a .out .now) (a .work .now)) (c .refused .ensures))
-
-refused-requires-2 : tie.Need-refused-requires-2
-refused-requires-2 c κs = search needs
 
 returns-2 : tie.Need-returns-2
 returns-2 c = let a = c .before .before .before .before .before .before .before .args in
@@ -48,15 +42,6 @@ returns-3 : tie.Need-returns-3
 returns-3 c = let a = c .before .before .before .before .before .before .before .before .before .args in
     let e = c .before .before .check .ensures in
     rw (refuses (a .book .now) (a .term .now) (a .limit) (a .out .now) (a .work .now) (c .before .before .before .before .if1 .left) (c .before .before .before .if2 .left) (λ z. c .if3 .taken (ap (λ y. y .number) e ∙ z))) (ap (λ y. result y (a .out .now) (a .work .now)) e)
-
-sub-run : tie.Need-sub-run
-sub-run c = search needs
-
-part-run-start : tie.Need-part-run-start
-part-run-start c = search needs
-
-part-run-end : tie.Need-part-run-end
-part-run-end c = search needs
 
 run-requires : tie.Need-run-requires
 run-requires c κs =
@@ -77,12 +62,6 @@ finish-requires c κs = let a = c .before .before .before .before .before .befor
     let w = ran (c .before .before .before .before) in
     (omega (arith, whole-length (a .work .now) (r .last .1 .1 .1 .1 .0) l w), small (c .before .before .before .before), c .before .before .before .before .before .before .before .before .before .before .if1 .left, whole-front (a .work .now) (r .last .1 .1 .1 .1 .0) l w (evaluation (systemOf (a .book .now)) (a .limit) (a .term .now)) (r .result) (r .ensures))
 
-same-length : tie.Need-same-length
-same-length c = search needs
-
-same-length-2 : tie.Need-same-length-2
-same-length-2 c = search needs
-
 returns-4 : tie.Need-returns-4
 returns-4 c = let a = c .before .before .before .before .before .before .before .before .before .before .before .before .before .before .before .before .before .before .before .before .args in
     let f = c .before .before .before .before .finish in
@@ -96,17 +75,5 @@ pub expand-scanned-spec : {M : Type 1} → statement M
 expand-scanned-spec =
     tie.close
     (tie.spec
-    refused-requires
-    returns
-    refused-requires-2
-    returns-2
-    check-requires
-    returns-3
-    sub-run
-    part-run-start
-    part-run-end
-    run-requires
-    finish-requires
-    same-length
-    same-length-2
-    returns-4)
+    (λ c κs. search needs) returns (λ c κs. search needs) returns-2 check-requires returns-3 (λ c. search needs) (λ c. search needs)
+    (λ c. search needs) run-requires finish-requires (λ c. search needs) (λ c. search needs) returns-4)

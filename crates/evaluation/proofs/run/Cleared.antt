@@ -9,7 +9,7 @@ use Rattle.buffers.specs.Words.{pad, zeros, over}
 use Rattle.buffers.proofs.Over.{over-left, over-right}
 use Rattle.buffers.proofs.Pads.{length-zeros, length-pad, zeros-append}
 use Rattle.system.specs.Limits.{termWords, areaWords}
-use Rattle.machine.specs.advance.Area.{area, termIn, outerIn, countIn, Laid}
+use Rattle.machine.specs.advance.Area.{area, termIn, outerIn, countIn, Layout}
 use Rattle.evaluation.proofs.run.Starts.{over-all}
 
 pad-cleared : (m n : ℕ) (xs : List ℕ) → length xs ≡ n → n ≤ m → over (pad m xs) 0 (zeros n) ≡ zeros m
@@ -46,8 +46,8 @@ area-cleared t counts n k et ec h l =
     ∙ ap (λ x. zeros termWords ++ x) (pad-cleared termWords k counts ec l)
     ∙ zeros-append termWords termWords
 
-pub laid-cleared : (ws : List ℕ) (n level : ℕ) → Laid ws n level → over (over ws 0 (zeros n)) termWords (zeros (level + 1)) ≡ zeros areaWords
-laid-cleared ws n level h =
+pub layout-cleared : (ws : List ℕ) (n level : ℕ) → Layout ws n level → over (over ws 0 (zeros n)) termWords (zeros (level + 1)) ≡ zeros areaWords
+layout-cleared ws n level h =
     let b = h .bounded in
     let r = h .room in
     let e = h .total in

@@ -11,29 +11,29 @@ use Rattle.system.specs.declared.Shape.{Shape}
 use Rattle.system.specs.System.{System}
 use Rattle.system.specs.Terms.{WellFormed}
 use Rattle.system.specs.Book.{systemOf}
-use Rattle.matching.specs.Matching.{Redex}
+use Rattle.matching.specs.Matching.{Contraction}
 use Rattle.system.proofs.layout.Books.{well}
 use Rattle.system.specs.Limits.{termWords, areaWords, levels}
-use Rattle.rewriting.specs.Evaluation.{Run, Outcome, stopped, evaluation}
+use Rattle.rewriting.specs.Evaluation.{Config, Outcome, stopped, evaluation}
 use Rattle.system.specs.Numbers.{Limit, spent, overlong, nested, limitNumber}
 use Rattle.machine.specs.declared.advance.State.{State}
 use Rattle.machine.specs.declared.advance.Advanced.{Advanced}
 use Rattle.machine.specs.declared.advance.Stop.{Stop}
-use Rattle.machine.specs.declared.advance.Stop.the-variants.{Finished, Deep, Ready}
+use Rattle.machine.specs.declared.advance.Stop.the-variants.{Final, Deep, Ready}
 use Rattle.machine.specs.declared.reducts.Reduced.{Reduced}
 use Rattle.machine.specs.declared.reducts.Reduced.the-variants.{Done, TooLong}
 use Rattle.machine.specs.declared.reducts.Subterm.{Subterm}
-use Rattle.evaluation.specs.declared.run.Ended.{Ended}
+use Rattle.evaluation.specs.declared.run.RunResult.{RunResult}
 use Rattle.rewriting.specs.Machine.{position, ready, advance}
-use Rattle.machine.specs.advance.Area.{area, termIn, outerIn, countIn, Laid, Going, Holds}
-use Rattle.machine.specs.advance.Arrival.{Arrives, Advances}
+use Rattle.machine.specs.advance.Area.{area, termIn, outerIn, countIn, Layout, Valid, Tracks}
+use Rattle.machine.specs.advance.Arrivals.{Arrives, Advances}
 use Rattle.machine.specs.reducts.Rewritten.{Reducible, rewritten, Rewritten, done, long, Rewrites}
-use Rattle.evaluation.specs.run.Ended.{Runnable, Ends}
-use Rattle.rewriting.proofs.MachineTheorem.{iterate-finished, iterate-deep, iterate-spent, iterate-long, remains, remains-goes}
-use Rattle.machine.proofs.advance.Goings.{going-fire}
+use Rattle.evaluation.specs.run.RunResult.{Runnable, Ran}
+use Rattle.rewriting.proofs.MachineTheorem.{iterate-final, iterate-deep, iterate-spent, iterate-long, remains, remains-goes}
+use Rattle.machine.proofs.advance.States.{valid-fire}
 use Rattle.machine.proofs.advance.Areas.{held-term, held-outer}
 use Rattle.evaluation.proofs.run.Starts.{area-bare}
-use Rattle.evaluation.proofs.run.Running.{Running, Made, running-made, positions-kept, stored-laid}
+use Rattle.evaluation.proofs.run.Running.{Running, Made, running-made, positions-kept, represents-layout}
 
 -- what the run was asked for, the state that the round starts from, and what `advance` answered and left
 pub record Round : Type 0 where
@@ -60,10 +60,10 @@ outcome k = evaluation (systemOf (k .book)) (k .limit) (k .term)
 -- the run is stopped in it, and the area holds a state that is to be cleared
 pub record Stops (k : Round) (l : Limit) (ws : List ℕ) : Type 0 where
   pub stops : outcome k ≡ stopped l (k .steps)
-  pub laid : Laid ws (k .n) (k .a .level)
+  pub layout : Layout ws (k .n) (k .a .level)
 
-pub ends-stopped : {k : Round} {l : Limit} {ws : List ℕ} → Stops k l ws → (e : Ended) (ws′ : List ℕ) →
-    e ≡ record { number = limitNumber l; size = 0; steps = k .steps } → ws′ ≡ zeros areaWords → Ends (outcome k) e ws′
+pub ends-stopped : {k : Round} {l : Limit} {ws : List ℕ} → Stops k l ws → (e : RunResult) (ws′ : List ℕ) →
+    e ≡ record { number = limitNumber l; size = 0; steps = k .steps } → ws′ ≡ zeros areaWords → Ran (outcome k) e ws′
 ends-stopped h e ws′ q z = rw (h .stops) (q, z)
 
 -- the subterm of the innermost level, where a rewrite is next
@@ -74,20 +74,20 @@ subterm k = record { level = k .a .level; position = getD (k .positions′) (k .
 abbrev counts : Round → List ℕ
 counts k = outerIn (k .ws) (k .level) ++ countIn (k .ws) (k .level) ∷ []
 
-abbrev now : Round → Run
+abbrev now : Round → Config
 now k = record { term = termIn (k .ws′) (k .n); steps = k .steps }
 
 -- a rewrite is next, and the rounds that are left from here are the evaluation asked for
 pub record Before (k : Round) : Type 0 where
-  pub holds : Holds (systemOf (k .book)) (k .ws′) (k .positions′) (k .n) (k .a .level)
-  pub reducible : Reducible (k .book) (k .ws′) (k .n) (subterm k) (k .a .found)
+  pub holds : Tracks (systemOf (k .book)) (k .ws′) (k .positions′) (k .n) (k .a .level)
+  pub reducible : Reducible (k .book) (k .ws′) (k .n) (subterm k) (k .a .matched)
   pub begun : ℕ
   pub next : advance (systemOf (k .book)) levels (counts k) (now k .term) 0 ≡ ready (outerIn (k .ws′) (k .a .level)) begun (reducible .x)
   pub same : remains (systemOf (k .book)) (k .limit) (counts k) (now k) ≡ outcome k
 
 -- what is known where `advance` came to
 abbrev pub Comes : Round → Stop → Type 0
-Comes k Finished = (e : Ended) → e ≡ record { number = 0; size = k .n; steps = k .steps } → Ends (outcome k) e (k .ws′)
+Comes k Final = (e : RunResult) → e ≡ record { number = 0; size = k .n; steps = k .steps } → Ran (outcome k) e (k .ws′)
 Comes k Deep = Stops k nested (k .ws′)
 Comes k Ready = Before k
 
@@ -106,40 +106,40 @@ module _ (k : Round) where
   abbrev left : ℕ
   left = k .limit - k .steps
 
-  abbrev r : Run
+  abbrev r : Config
   r = record { term = t; steps = k .steps }
 
   formed : WellFormed s
   formed = well (k .book) (k .shape) (k .asked .accepted)
 
   words : length t ≡ k .n
-  words = k .running .holds .stored .words
+  words = k .running .holds .represents .words
 
   bounded : length t ≤ termWords
-  bounded = k .running .holds .stored .going .bounded
+  bounded = k .running .holds .represents .valid .bounded
 
   -- the position of a level, where the area and the positions hold a state
-  holds-position : (level : ℕ) → Holds s (k .ws′) (k .positions′) (k .n) level →
+  holds-position : (level : ℕ) → Tracks s (k .ws′) (k .positions′) (k .n) level →
       getD (k .positions′) level 0 ≡ position s (termIn (k .ws′) (k .n)) (outerIn (k .ws′) level) 0
   holds-position level h =
       let outer = outerIn (k .ws′) level in
-      let l : length outer ≡ level = h .stored .levels in
+      let l : length outer ≡ level = h .represents .levels in
       h .positioned level (omega arith) ∙ ap (λ y. position s (termIn (k .ws′) (k .n)) y 0) (take-all level outer (omega arith))
 
   pub comes : Comes k (k .a .stop)
   comes = go (k .a .stop) (k .came)
     where
       go : (stop : Stop) → Arrives stop s (record { n = k .n; level = k .level }) (k .ws) (k .a) (k .ws′) (k .positions′) → Comes k stop
-      go Finished h =
+      go Final h =
           let size : k .n ≡ length t = sym words in
-          let z = iterate-finished s (k .limit) left (counts k) r (h .next) in
+          let z = iterate-final s (k .limit) left (counts k) r (h .next) in
           λ e q. rw (← k .running .same, z) (q ∙ (λ i. record { number = 0; size = size i; steps = k .steps }), h .stands ∙ area-bare t bounded)
       go Deep h = record {
         stops = sym (k .running .same) ∙ iterate-deep s (k .limit) left (counts k) r (h .next);
-        laid = stored-laid (h .stored);
+        layout = represents-layout (h .represents);
       }
       go Ready h =
-          let room : k .a .level < levels = omega (arith, h .holds .stored .going .room, h .holds .stored .levels) in
+          let room : k .a .level < levels = omega (arith, h .holds .represents .valid .room, h .holds .represents .levels) in
           let et = held-term (k .ws′) t (h .outer) (h .begun) (k .n) (k .a .level) (h .stands) bounded words (sym (h .level)) room in
           let eo = held-outer (k .ws′) t (h .outer) (h .begun) (k .n) (k .a .level) (h .stands) bounded words (sym (h .level)) room in
           let ep = holds-position (k .a .level) (h .holds) in
@@ -148,12 +148,12 @@ module _ (k : Round) where
             reducible = record {
               shape = k .shape;
               accepted = k .asked .accepted;
-              stored = h .holds .stored;
+              represents = h .holds .represents;
               place = ep;
-              match = rw (ep, et, eo) (h .found);
+              match = rw (ep, et, eo) (h .match);
               wide = rw (ep, et, eo) (h .width);
               x = h .x;
-              contracts = rw (ep, et, eo) (h .matched);
+              contracts = rw (ep, et, eo) (h .contracts);
             };
             begun = h .begun;
             next = rw (et, eo) (h .next);
@@ -172,24 +172,24 @@ module _ (k : Round) where
     abbrev p : ℕ
     p = subterm k .position
 
-    abbrev going : Going s t′ outer (countIn (k .ws′) (k .a .level))
-    going = b .holds .stored .going
+    abbrev valid : Valid s t′ outer (countIn (k .ws′) (k .a .level))
+    valid = b .holds .represents .valid
 
     pub before-room : k .a .level < levels
-    before-room = let z = going .room in let z′ = b .holds .stored .levels in omega arith
+    before-room = let z = valid .room in let z′ = b .holds .represents .levels in omega arith
 
-    before-laid : Laid (k .ws′) (k .n) (k .a .level)
-    before-laid = stored-laid (b .holds .stored)
+    before-layout : Layout (k .ws′) (k .n) (k .a .level)
+    before-layout = represents-layout (b .holds .represents)
 
     pub stops-spent : k .limit ≤ k .steps → Stops k spent (k .ws′)
     stops-spent l = record {
       stops = sym (b .same) ∙ iterate-spent s (k .limit) left (counts k) (now k) outer (b .begun) (b .reducible .x) (b .next) l;
-      laid = before-laid;
+      layout = before-layout;
     }
 
     -- ---- after `rewrite`
 
-    abbrev x : Redex
+    abbrev x : Contraction
     x = b .reducible .x
 
     abbrev after : List ℕ
@@ -204,12 +204,12 @@ module _ (k : Round) where
           t = after;
           outer = outer;
           c = 0;
-          going = rw ep (going-fire s formed t′ outer c going x (rw (← ep) (b .reducible .contracts)) (rw (← ep) f));
+          valid = rw ep (valid-fire s formed t′ outer c valid x (rw (← ep) (b .reducible .contracts)) (rw (← ep) f));
           words = refl;
-          around = b .holds .stored .levels;
+          around = b .holds .represents .levels;
           equal = w;
           slots = b .holds .slots;
-          positioned = rw ep (positions-kept s formed t′ outer c going (x .reduct) (k .positions′) (b .holds .positioned));
+          positioned = rw ep (positions-kept s formed t′ outer c valid (x .reduct) (k .positions′) (b .holds .positioned));
         }
 
     pub goes : k .steps < k .limit → (r : Reduced) (ws : List ℕ) → Rewrites (k .book) (k .ws′) (k .n) (subterm k) r ws → Goes k ws r
@@ -218,7 +218,7 @@ module _ (k : Round) where
         go : Rewritten s (k .ws′) (k .n) (subterm k) x r ws → Goes k ws r
         go (long f q w) = rw q (record {
           stops = sym (b .same) ∙ iterate-long s (k .limit) left (counts k) (now k) outer (b .begun) x (b .next) l (rw (b .reducible .place) at f);
-          laid = subst (λ y. Laid y (k .n) (k .a .level)) (sym w) before-laid;
+          layout = subst (λ y. Layout y (k .n) (k .a .level)) (sym w) before-layout;
         })
         go (done f q w) =
             let ep = b .reducible .place in

@@ -11,10 +11,10 @@ use Rattle.system.specs.Terms.{Whole, WellFormed}
 use Rattle.system.specs.Limits.{termWords, areaWords, levels}
 use Rattle.rewriting.specs.Evaluation.{evaluation}
 use Rattle.rewriting.specs.Machine.{position, Opened, base, down}
-use Rattle.machine.specs.advance.Area.{area, termIn, outerIn, countIn, Laid, Going, Positioned, Stored, Holds}
+use Rattle.machine.specs.advance.Area.{area, termIn, outerIn, countIn, Layout, Valid, Positioned, Represents, Tracks}
 use Rattle.rewriting.proofs.Laws.{position-le}
 use Rattle.rewriting.proofs.MachineTheorem.{remains, remains-start}
-use Rattle.machine.proofs.advance.Goings.{opened-replace, going-start, going-within}
+use Rattle.machine.proofs.advance.States.{opened-replace, valid-start, valid-within}
 use Rattle.machine.proofs.advance.Areas.{held-term, held-outer, held-count, held-length, holds, area-pushed}
 use Rattle.evaluation.proofs.run.Starts.{area-bare}
 
@@ -33,15 +33,15 @@ module _ (s : System) (t : List ℕ) where
   position-take (suc k) (c ∷ cs) p = position-take k cs (down s t p c)
 
 -- a rewrite at the innermost level leaves the positions of the levels around it
-pub positions-kept : (s : System) (wf : WellFormed s) (t outer : List ℕ) (c : ℕ) → Going s t outer c → (u positions : List ℕ) →
+pub positions-kept : (s : System) (wf : WellFormed s) (t outer : List ℕ) (c : ℕ) → Valid s t outer c → (u positions : List ℕ) →
     Positioned s t outer positions → Positioned s (replace (s .arities) t (position s t outer 0) u) outer positions
 positions-kept s wf t outer c g u positions h k l =
-    h k l ∙ sym (opened-replace s t u (position s t outer 0) (opened-take s t k (g .opened)) (position-take s t k outer 0) (going-within s wf t outer c g) .1)
+    h k l ∙ sym (opened-replace s t u (position s t outer 0) (opened-take s t k (g .opened)) (position-take s t k outer 0) (valid-within s wf t outer c g) .1)
 
 -- ---- the head of the loop: the area holds a state, and the rounds that are left from it are the evaluation asked for
 
 pub record Running (s : System) (limit : ℕ) (t₀ ws positions : List ℕ) (n level steps : ℕ) : Type 0 where
-  pub holds : Holds s ws positions n level
+  pub holds : Tracks s ws positions n level
   pub afford : steps ≤ limit
   pub same : remains s limit (outerIn ws level ++ countIn ws level ∷ []) (record { term = termIn ws n; steps = steps }) ≡ evaluation s limit t₀
 
@@ -50,7 +50,7 @@ pub record Made (s : System) (ws positions : List ℕ) (n level : ℕ) : Type 0 
   pub t : List ℕ
   pub outer : List ℕ
   pub c : ℕ
-  pub going : Going s t outer c
+  pub valid : Valid s t outer c
   pub words : length t ≡ n
   pub around : length outer ≡ level
   pub equal : ws ≡ area t (outer ++ c ∷ [])
@@ -61,7 +61,7 @@ pub running-made : {s : System} {ws positions : List ℕ} {n level : ℕ} (m : M
     remains s limit (m .outer ++ m .c ∷ []) (record { term = m .t; steps = steps }) ≡ evaluation s limit t₀ →
     Running s limit t₀ ws positions n level steps
 running-made {s} {ws} {positions} {n} {level} m limit t₀ steps afford same =
-    let g = m .going in
+    let g = m .valid in
     let b = g .bounded in
     let room : level < levels = omega (arith, g .room, m .around) in
     let et = held-term ws (m .t) (m .outer) (m .c) n level (m .equal) b (m .words) (m .around) room in
@@ -88,7 +88,7 @@ running-start s wf limit t₀ ws positions h b e slots z = running-made m limit 
       t = t₀;
       outer = [];
       c = 0;
-      going = going-start s t₀ h b;
+      valid = valid-start s t₀ h b;
       words = refl;
       around = refl;
       equal = e ∙ sym (area-bare t₀ b) ∙ area-pushed t₀ [] (omega arith);
@@ -98,17 +98,17 @@ running-start s wf limit t₀ ws positions h b e slots z = running-made m limit 
 
 -- ---- what a stop has to clear
 
-pub stored-length : {s : System} {ws : List ℕ} {n level : ℕ} → Stored s ws n level → length ws ≡ areaWords
-stored-length {ws} {n} {level} h =
-    let g = h .going in
+pub represents-length : {s : System} {ws : List ℕ} {n level : ℕ} → Represents s ws n level → length ws ≡ areaWords
+represents-length {ws} {n} {level} h =
+    let g = h .valid in
     held-length ws (termIn ws n) (outerIn ws level) (countIn ws level) n level (h .equal) (g .bounded) (h .words) (h .levels) (omega (arith, g .room, h .levels))
 
-pub stored-laid : {s : System} {ws : List ℕ} {n level : ℕ} → Stored s ws n level → Laid ws n level
-stored-laid h =
-    let g = h .going in
+pub represents-layout : {s : System} {ws : List ℕ} {n level : ℕ} → Represents s ws n level → Layout ws n level
+represents-layout h =
+    let g = h .valid in
     record {
       bounded = omega (arith, h .words, g .bounded);
       room = omega (arith, h .levels, g .room);
-      total = stored-length h;
+      total = represents-length h;
       equal = h .equal;
     }

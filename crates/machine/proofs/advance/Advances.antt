@@ -8,12 +8,12 @@ use lib.ListN.{length, getD, drop, drop-of-length-le}
 use lib.Seq.{append-snoc}
 use Rattle.system.specs.Signature.{argument}
 use Rattle.system.specs.System.{System}
-use Rattle.matching.specs.Matching.{Redex, redex}
-use Rattle.rewriting.specs.Machine.{strategyAt, down, position, Next, finished, deep, ready, around, scan, enter, advance}
+use Rattle.matching.specs.Matching.{Contraction, contraction}
+use Rattle.rewriting.specs.Machine.{strategyAt, down, position, Next, final, deep, ready, around, scan, enter, advance}
 use Rattle.rewriting.proofs.Laws.{next-entry, entry-at}
 use Rattle.machine.proofs.advance.Levels.{onto, outward, given-below}
 use Rattle.rewriting.proofs.Iterate.{scan-fire}
-use Rattle.machine.proofs.advance.Passing.{Passes, scan-over}
+use Rattle.machine.proofs.advance.Skipping.{Skips, scan-over}
 
 module _ (s : System) (t : List ℕ) where
   -- the clauses of advance
@@ -29,7 +29,7 @@ module _ (s : System) (t : List ℕ) where
   unfolding advance
   advance-under l c cs p = refl
 
-  pub advance-end : (l p : ℕ) → advance s l [] t p ≡ finished
+  pub advance-end : (l p : ℕ) → advance s l [] t p ≡ final
   unfolding advance
   advance-end l p = refl
 
@@ -40,12 +40,12 @@ module _ (s : System) (t : List ℕ) where
 
   -- the laws at the innermost level
   module _ (l c p : ℕ) where
-    top-pop : length (strategyAt s t p) ≤ c → advance s (suc l) (c ∷ []) t p ≡ finished
+    top-pop : length (strategyAt s t p) ≤ c → advance s (suc l) (c ∷ []) t p ≡ final
     unfolding scan
     top-pop h = advance-top l c p ∙ rw (drop-of-length-le (strategyAt s t p) h)
 
     module _ (es : List ℕ) where
-      top-pass : (e : ℕ) → drop c (strategyAt s t p) ≡ e ∷ es → Passes s t l p e → advance s (suc l) (c ∷ []) t p ≡ advance s (suc l) (suc c ∷ []) t p
+      top-pass : (e : ℕ) → drop c (strategyAt s t p) ≡ e ∷ es → Skips s t l p e → advance s (suc l) (c ∷ []) t p ≡ advance s (suc l) (suc c ∷ []) t p
       top-pass e q f =
           advance-top l c p ∙ ap (λ e. rest l e c p) q ∙ scan-over s t l p e es c f
           ∙ ap (λ e. rest l e (suc c) p) (sym (next-entry _ c e es q .1)) ∙ sym (advance-top l (suc c) p)
@@ -57,7 +57,7 @@ module _ (s : System) (t : List ℕ) where
           advance-top l c p ∙ ap (λ e. rest l e c p) q
           ∙ sym (rw (n .0, n .1, advance-start l (argument (s .arities) t p i)) at (advance-under l (suc c) (0 ∷ []) p))
 
-      top-fire : (x : Redex) → drop c (strategyAt s t p) ≡ 0 ∷ es → redex s (drop p t) ≡ some x → advance s (suc l) (c ∷ []) t p ≡ ready [] (suc c) x
+      top-fire : (x : Contraction) → drop c (strategyAt s t p) ≡ 0 ∷ es → contraction s (drop p t) ≡ some x → advance s (suc l) (c ∷ []) t p ≡ ready [] (suc c) x
       top-fire x q f = advance-top l c p ∙ ap (λ e. rest l e c p) q ∙ scan-fire s (enter s l t) t es c p x f
 
   -- one level more than there are
@@ -69,7 +69,7 @@ module _ (s : System) (t : List ℕ) where
   abbrev on : ℕ → ℕ → ℕ → Next → Next
   on l c p n = around c n (rest l (drop c (strategyAt s t p)) c p)
 
-  outward-ready : (m : ℕ) (cs : List ℕ) (p d : ℕ) (x : Redex) → outward s t on m cs p (ready [] d x) ≡ ready cs d x
+  outward-ready : (m : ℕ) (cs : List ℕ) (p d : ℕ) (x : Contraction) → outward s t on m cs p (ready [] d x) ≡ ready cs d x
   unfolding outward
   outward-ready m [] p d x = refl
   outward-ready m (c ∷ cs) p d x = ap (on (onto cs m) c p) (outward-ready m cs (down s t p c) d x)
@@ -105,11 +105,11 @@ module _ (s : System) (t : List ℕ) where
       es = drop (suc c) entries
 
       -- an entry that leads to no rewrite
-      pub advance-pass : Passes s t (l - suc (length cs)) here (getD entries c 0) → advance s l (cs ++ c ∷ []) t p ≡ advance s l (cs ++ suc c ∷ []) t p
+      pub advance-pass : Skips s t (l - suc (length cs)) here (getD entries c 0) → advance s l (cs ++ c ∷ []) t p ≡ advance s l (cs ++ suc c ∷ []) t p
       advance-pass f = same (c ∷ []) (suc c ∷ []) (top-pass m c here es (getD entries c 0) (entry-at entries c (getD entries c 0) more refl) f)
 
       -- an entry 0 where a rule matches
-      pub advance-fire : (x : Redex) → getD entries c 0 ≡ 0 → redex s (drop here t) ≡ some x → advance s l (cs ++ c ∷ []) t p ≡ ready cs (suc c) x
+      pub advance-fire : (x : Contraction) → getD entries c 0 ≡ 0 → contraction s (drop here t) ≡ some x → advance s l (cs ++ c ∷ []) t p ≡ ready cs (suc c) x
       advance-fire x e f =
           inward (c ∷ []) ∙ ap (outward s t on (suc m) cs p) (top-fire m c here es x (entry-at entries c 0 more e) f) ∙ outward-ready (suc m) cs p (suc c) x
 

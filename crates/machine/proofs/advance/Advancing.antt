@@ -8,22 +8,22 @@ use lib.ListN.{length, getD, take, drop, length-append}
 use lib.Seq.{take-all, take-suc, length-take-le, append-snoc}
 use Rattle.system.specs.declared.Shape.{Shape}
 use Rattle.system.specs.System.{System}
-use Rattle.matching.specs.declared.rules.Fit.{Fit}
-use Rattle.matching.specs.declared.Found.the-variants.{Nothing}
+use Rattle.matching.specs.declared.rules.Search.{Search}
+use Rattle.matching.specs.declared.FirstRule.the-variants.{Nothing}
 use Rattle.system.specs.Book.{systemOf}
 use Rattle.system.specs.layout.Accepted.{Accepted}
-use Rattle.matching.specs.rules.Fits.{fitOf}
+use Rattle.matching.specs.rules.Searches.{searchOf}
 use Rattle.machine.specs.declared.advance.State.{State}
 use Rattle.machine.specs.declared.advance.Event.{Event}
 use Rattle.machine.specs.declared.advance.Event.the-variants.{End, Repeated, Rules, Argument}
 use Rattle.rewriting.specs.Machine.{strategyAt, position, Opened, advance}
-use Rattle.machine.specs.advance.Area.{area, termIn, outerIn, countIn, Going, Holds}
+use Rattle.machine.specs.advance.Area.{area, termIn, outerIn, countIn, Valid, Tracks}
 use Rattle.machine.specs.advance.Transition as to
 use Rattle.machine.specs.advance.Transition.{sinceAt, Transition, countsAfter, next, Performed}
-use Rattle.machine.specs.advance.Arrival.{comes}
+use Rattle.machine.specs.advance.Arrivals.{comes}
 use Rattle.rewriting.proofs.Laws.{entry-at}
 use Rattle.system.proofs.layout.entries.Asks.{stood}
-use Rattle.machine.proofs.advance.Passing.{Passes, Passed, passed-start, passed-again, passed-more, passed-open, passed-left}
+use Rattle.machine.proofs.advance.Skipping.{Skips, Skipped, skipped-start, skipped-again, skipped-more, skipped-open, skipped-left}
 use Rattle.machine.proofs.advance.Measure.{remaining, less-end, less-entry, less-argument}
 use Rattle.machine.proofs.advance.Advances.{advance-pop, advance-pass, advance-open}
 use Rattle.machine.proofs.advance.Areas.{held-term, held-outer, held-count}
@@ -37,12 +37,12 @@ remainingIn s ws n level = remaining s (termIn ws n) 64 (outerIn ws level ++ cou
 
 -- a state, of the same term, from which the machine comes to the same place; and what is known of the entries that were followed
 pub record Advancing (s : System) (state : State) (ws₀ ws positions : List ℕ) (level floor since : ℕ) : Type 0 where
-  pub held : Holds s ws positions (state .n) level
+  pub held : Tracks s ws positions (state .n) level
   pub term : termIn ws (state .n) ≡ termIn ws₀ (state .n)
   pub same : comes s (record { n = state .n; level = level }) ws ≡ comes s state ws₀
-  pub passed : Passed s (termIn ws (state .n)) (outerIn ws level) (countIn ws level) floor since
+  pub skipped : Skipped s (termIn ws (state .n)) (outerIn ws level) (countIn ws level) floor since
 
-pub advancing-start : (s : System) (state : State) (ws positions : List ℕ) (since : ℕ) → Holds s ws positions (state .n) (state .level) →
+pub advancing-start : (s : System) (state : State) (ws positions : List ℕ) (since : ℕ) → Tracks s ws positions (state .n) (state .level) →
     since ≡ countIn ws (state .level) → Advancing s state ws ws positions (state .level) (state .level) since
 advancing-start s state ws positions since h q =
     let level = state .level in
@@ -50,7 +50,7 @@ advancing-start s state ws positions since h q =
       held = h;
       term = refl;
       same = refl;
-      passed = rw q (passed-start s (termIn ws (state .n)) (outerIn ws level) (countIn ws level) level (sym (h .stored .levels)));
+      skipped = rw q (skipped-start s (termIn ws (state .n)) (outerIn ws level) (countIn ws level) level (sym (h .represents .levels)));
     }
 
 -- a round of the loop: the book, the state at the loop's start, the state before the transition, and what the transition left
@@ -119,14 +119,14 @@ module _ (τ : Round) where
   abbrev f : ℕ
   f = sinceAt floor since level
 
-  going : Going s t outer c
-  going = τ .kept .held .stored .going
+  valid : Valid s t outer c
+  valid = τ .kept .held .represents .valid
 
   words : length t ≡ n
-  words = τ .kept .held .stored .words
+  words = τ .kept .held .represents .words
 
   levels : length outer ≡ level
-  levels = τ .kept .held .stored .levels
+  levels = τ .kept .held .represents .levels
 
   pub round-bounds : Bounds (τ .ws) (τ .positions) n level
   round-bounds = bounds (τ .book) (τ .shape) (τ .accepted) (τ .ws) (τ .positions) n level (τ .kept .held)
@@ -140,25 +140,25 @@ module _ (τ : Round) where
     pub stands : ws′ ≡ area t (countsAfter counts o)
     stands = τ .performed .stands ∙ ap (λ y. area t (countsAfter counts y)) q
 
-    pub holds-there : (level′ : ℕ) → length (countsAfter counts o) ≡ suc level′ → Holds s ws′ positions′ n level′
+    pub holds-there : (level′ : ℕ) → length (countsAfter counts o) ≡ suc level′ → Tracks s ws′ positions′ n level′
     holds-there level′ l = τ .performed .holds level′ (ap (λ y. length (countsAfter counts y)) q ∙ l)
 
   -- ---- to another state
 
-  module _ (outer′ : List ℕ) (c′ level′ : ℕ) (is : ws′ ≡ area t (outer′ ++ c′ ∷ [])) (h : Holds s ws′ positions′ n level′) (levels′ : length outer′ ≡ level′) where
+  module _ (outer′ : List ℕ) (c′ level′ : ℕ) (is : ws′ ≡ area t (outer′ ++ c′ ∷ [])) (h : Tracks s ws′ positions′ n level′) (levels′ : length outer′ ≡ level′) where
     room′ : level′ < 64
-    room′ = let z = h .stored .going .room in omega (arith, h .stored .levels)
+    room′ = let z = h .represents .valid .room in omega (arith, h .represents .levels)
 
     term′ : termIn ws′ n ≡ t
-    term′ = held-term ws′ t outer′ c′ n level′ is (going .bounded) words levels′ room′
+    term′ = held-term ws′ t outer′ c′ n level′ is (valid .bounded) words levels′ room′
 
     outer-is : outerIn ws′ level′ ≡ outer′
-    outer-is = held-outer ws′ t outer′ c′ n level′ is (going .bounded) words levels′ room′
+    outer-is = held-outer ws′ t outer′ c′ n level′ is (valid .bounded) words levels′ room′
 
     count-is : countIn ws′ level′ ≡ c′
-    count-is = held-count ws′ t outer′ c′ n level′ is (going .bounded) words levels′ room′
+    count-is = held-count ws′ t outer′ c′ n level′ is (valid .bounded) words levels′ room′
 
-    moved : (floor′ since′ : ℕ) → Passed s t outer′ c′ floor′ since′ → advance s 64 counts t 0 ≡ advance s 64 (outer′ ++ c′ ∷ []) t 0 →
+    moved : (floor′ since′ : ℕ) → Skipped s t outer′ c′ floor′ since′ → advance s 64 counts t 0 ≡ advance s 64 (outer′ ++ c′ ∷ []) t 0 →
         remaining s t 64 (outer′ ++ c′ ∷ []) 0 < remaining s t 64 counts 0 → Goes τ level′ floor′ since′
     unfolding remainingIn
     moved floor′ since′ w e l =
@@ -168,20 +168,20 @@ module _ (τ : Round) where
             held = h;
             term = term′ ∙ τ .kept .term;
             same = (λ j. advance s 64 (counts′ j) (term′ j) 0) ∙ sym e ∙ τ .kept .same;
-            passed = rw (term′, outer-is, count-is) w;
+            skipped = rw (term′, outer-is, count-is) w;
           };
           less = subst₂ (λ y z. remaining s y 64 z 0 < remaining s t 64 counts 0) (sym term′) (sym counts′) l;
         }
 
   -- ---- the entry leads to no rewrite
 
-  module _ (more : c < length entries) (is : ws′ ≡ area t (outer ++ suc c ∷ [])) (h : Holds s ws′ positions′ n level) where
-    over-it : Passes s t (63 - length outer) here (getD entries c 0) → Goes τ level floor since
+  module _ (more : c < length entries) (is : ws′ ≡ area t (outer ++ suc c ∷ [])) (h : Tracks s ws′ positions′ n level) where
+    over-it : Skips s t (63 - length outer) here (getD entries c 0) → Goes τ level floor since
     over-it w =
         let z : 63 - length outer ≡ 64 - suc (length outer) = omega arith in
-        moved outer (suc c) level is h levels floor since (passed-more s t outer c floor since (τ .kept .passed) more w)
-        (advance-pass s t 64 0 outer c (going .room) more (subst (λ l. Passes s t l here (getD entries c 0)) z w))
-        (less-entry s t 64 0 outer c (going .room) (getD entries c 0) (drop (suc c) entries) (entry-at entries c (getD entries c 0) more refl))
+        moved outer (suc c) level is h levels floor since (skipped-more s t outer c floor since (τ .kept .skipped) more w)
+        (advance-pass s t 64 0 outer c (valid .room) more (subst (λ l. Skips s t l here (getD entries c 0)) z w))
+        (less-entry s t 64 0 outer c (valid .room) (getD entries c 0) (drop (suc c) entries) (entry-at entries c (getD entries c 0) more refl))
 
   begun-one : length (outer ++ suc c ∷ []) ≡ suc level
   begun-one = rw (length-append outer (suc c ∷ [])) (omega (arith, levels))
@@ -192,7 +192,7 @@ module _ (τ : Round) where
       let x = told Repeated e in
       let o = to.repeated outer (suc c) in
       let w : stood entries (sinceAt floor since (length outer)) c ≡ true = subst (λ y. stood entries (sinceAt floor since y) c ≡ true) (sym levels) (x .1) in
-      over-it (x .0) (stands o (x .2)) (holds-there o (x .2) level begun-one) (passed-again s t outer c floor since (τ .kept .passed) w)
+      over-it (x .0) (stands o (x .2)) (holds-there o (x .2) level begun-one) (skipped-again s t outer c floor since (τ .kept .skipped) w)
 
   -- ---- the strategy is at its end: the level is left
 
@@ -216,27 +216,27 @@ module _ (τ : Round) where
     left-is : ws′ ≡ area t (ds ++ d ∷ [])
     left-is = stands (to.end outer) (told End e .1) ∙ ap (area t) snoc
 
-    left-to : (floor′ since′ : ℕ) → Passed s t ds d floor′ since′ → Goes τ below floor′ since′
+    left-to : (floor′ since′ : ℕ) → Skipped s t ds d floor′ since′ → Goes τ below floor′ since′
     left-to floor′ since′ w =
         let x = told End e in
         moved ds d below left-is (holds-there (to.end outer) (x .1) below (omega (arith, levels))) depth floor′ since′ w
-        (advance-pop s t 64 0 outer c (going .room) (x .0) ∙ ap (λ y. advance s 64 y t 0) snoc)
-        (subst (λ y. remaining s t 64 y 0 < remaining s t 64 counts 0) snoc (less-end s t 64 0 outer c (going .room) (x .0)))
+        (advance-pop s t 64 0 outer c (valid .room) (x .0) ∙ ap (λ y. advance s 64 y t 0) snoc)
+        (subst (λ y. remaining s t 64 y 0 < remaining s t 64 counts 0) snoc (less-end s t 64 0 outer c (valid .room) (x .0)))
 
     -- one that was opened in this run of transitions
     pub goes-left : floor ≤ level - 1 → Goes τ (level - 1) floor since
     goes-left l =
         let past : length (strategyAt s t (position s t (ds ++ d ∷ []) 0)) ≤ c = subst (λ y. length (strategyAt s t (position s t y 0)) ≤ c) snoc (told End e .0) in
         left-to floor since
-        (passed-left s t ds d c floor since (subst (λ y. Passed s t y c floor since) snoc (τ .kept .passed)) (subst (Opened s t 0) snoc (going .opened))
-        (let z = going .room in omega (arith, depth, levels)) (omega (arith, depth)) past)
+        (skipped-left s t ds d c floor since (subst (λ y. Skipped s t y c floor since) snoc (τ .kept .skipped)) (subst (Opened s t 0) snoc (valid .opened))
+        (let z = valid .room in omega (arith, depth, levels)) (omega (arith, depth)) past)
 
     -- one that was open before
     pub goes-down : (since′ : ℕ) → since′ ≡ countIn ws′ (level - 1) → Goes τ (level - 1) (level - 1) since′
     goes-down since′ e′ =
-        let z : level - 1 < 64 = (let z = going .room in omega (arith, levels)) in
-        let q : since′ ≡ d = e′ ∙ held-count ws′ t ds d n below left-is (going .bounded) words depth z in
-        left-to below since′ (subst (λ y. Passed s t ds d below y) (sym q) (passed-start s t ds d below (sym depth)))
+        let z : level - 1 < 64 = (let z = valid .room in omega (arith, levels)) in
+        let q : since′ ≡ d = e′ ∙ held-count ws′ t ds d n below left-is (valid .bounded) words depth z in
+        left-to below since′ (subst (λ y. Skipped s t ds d below y) (sym q) (skipped-start s t ds d below (sym depth)))
 
   -- ---- an argument is opened
 
@@ -248,9 +248,9 @@ module _ (τ : Round) where
       let d : length inner ≡ level + 1 = begun-one ∙ omega arith in
       let d′ : length (inner ++ 0 ∷ []) ≡ suc (level + 1) = rw (length-append inner (0 ∷ [])) (omega arith) in
       let next-entry = entry-at entries c (suc (x .0)) (x .1) (x .2) in
-      moved inner 0 (level + 1) (stands o (x .3)) (holds-there o (x .3) (level + 1) d′) d floor since (passed-open s t outer c floor since (τ .kept .passed))
-      (advance-open s t 64 0 outer c (going .room) (x .1) (x .0) (x .2))
-      (rw (append-snoc outer (suc c) (0 ∷ [])) (less-argument s t 64 0 outer c (going .room) (drop (suc c) entries) (x .0) next-entry))
+      moved inner 0 (level + 1) (stands o (x .3)) (holds-there o (x .3) (level + 1) d′) d floor since (skipped-open s t outer c floor since (τ .kept .skipped))
+      (advance-open s t 64 0 outer c (valid .room) (x .1) (x .0) (x .2))
+      (rw (append-snoc outer (suc c) (0 ∷ [])) (less-argument s t 64 0 outer c (valid .room) (drop (suc c) entries) (x .0) next-entry))
 
   -- ---- the rules are to be tried
 
@@ -258,7 +258,7 @@ module _ (τ : Round) where
     pub tries-is : ws′ ≡ area t (outer ++ suc c ∷ [])
     tries-is = stands (to.rules outer (suc c)) (told Rules e .2)
 
-    pub tries-held : Holds s ws′ positions′ n level
+    pub tries-held : Tracks s ws′ positions′ n level
     tries-held = holds-there (to.rules outer (suc c)) (told Rules e .2) level begun-one
 
     pub rules-bounds : Bounds ws′ positions′ n level
@@ -275,8 +275,8 @@ module _ (τ : Round) where
         λ j. drop (position s (et j) (eo j) 0) (et j)
 
     -- none matches
-    pub goes-rules : (fit : Fit) → fit ≡ fitOf s (take (n - p) (drop p ws′)) → fit .found .found ≡ Nothing → Goes τ level floor since
+    pub goes-rules : (fit : Search) → fit ≡ searchOf s (take (n - p) (drop p ws′)) → fit .matched .rule ≡ Nothing → Goes τ level floor since
     goes-rules fit fits q =
         let x = told Rules e in
         let no = tried-none (τ .book) (τ .shape) (τ .accepted) ws′ positions′ n level tries-held fit fits q in
-        over-it (x .0) tries-is tries-held (subst (Passes s t (63 - length outer) here) (sym (x .1)) (rw same-subterm at no))
+        over-it (x .0) tries-is tries-held (subst (Skips s t (63 - length outer) here) (sym (x .1)) (rw same-subterm at no))

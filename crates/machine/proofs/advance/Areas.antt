@@ -10,7 +10,7 @@ use Rattle.buffers.specs.Words.{pad, zeros}
 use Rattle.buffers.proofs.Over.{set-right}
 use Rattle.buffers.proofs.Pads.{length-pad, take-pad, pad-zero, pad-push}
 use Rattle.system.specs.System.{System}
-use Rattle.machine.specs.advance.Area.{area, termIn, outerIn, countIn, Going, Positioned, Stored, Holds}
+use Rattle.machine.specs.advance.Area.{area, termIn, outerIn, countIn, Valid, Positioned, Represents, Tracks}
 
 module _ (t counts : List ℕ) (small : length t ≤ 4096) where
   pub area-length : length counts ≤ 4096 → length (area t counts) ≡ 8192
@@ -60,23 +60,23 @@ module _ (ws t outer : List ℕ) (c n level : ℕ) (is : ws ≡ area t (outer ++
   unfolding area
   count-cleared = count-set 0 ∙ ap (λ y. pad 4096 t ++ y) (pad-zero 4096 outer (omega arith))
 
-  module _ (s : System) (going : Going s t outer c) where
-    pub stored : Stored s ws n level
-    stored =
+  module _ (s : System) (valid : Valid s t outer c) where
+    pub represents : Represents s ws n level
+    represents =
         let e₁ = sym held-term in
         let e₂ = sym held-outer in
         let e₃ = sym held-count in
         record {
-          going = subst (λ y. Going s y (outerIn ws level) (countIn ws level)) e₁
-              (subst (λ y. Going s t y (countIn ws level)) e₂ (subst (λ y. Going s t outer y) e₃ going));
+          valid = subst (λ y. Valid s y (outerIn ws level) (countIn ws level)) e₁
+              (subst (λ y. Valid s t y (countIn ws level)) e₂ (subst (λ y. Valid s t outer y) e₃ valid));
           words = ap length held-term ∙ words;
           levels = ap length held-outer ∙ levels;
           equal = is ∙ (λ i. area (e₁ i) (e₂ i ++ e₃ i ∷ []));
         }
 
-    pub holds : (positions : List ℕ) → length positions ≡ 64 → Positioned s t outer positions → Holds s ws positions n level
+    pub holds : (positions : List ℕ) → length positions ≡ 64 → Positioned s t outer positions → Tracks s ws positions n level
     holds positions slots at = record {
-      stored = stored;
+      represents = represents;
       slots = slots;
       positioned = subst (λ y. Positioned s y (outerIn ws level) positions) (sym held-term) (subst (λ y. Positioned s t y positions) (sym held-outer) at);
     }

@@ -11,8 +11,8 @@ use Rattle.system.specs.Book.{systemOf}
 use Rattle.system.specs.layout.Accepted.{Accepted}
 use Rattle.system.proofs.layout.Books.{well}
 use Rattle.rewriting.specs.Machine.{position}
-use Rattle.machine.specs.advance.Area.{termIn, outerIn, countIn, Going, Holds}
-use Rattle.machine.proofs.advance.Goings.{going-within}
+use Rattle.machine.specs.advance.Area.{termIn, outerIn, countIn, Valid, Tracks}
+use Rattle.machine.proofs.advance.States.{valid-within}
 use Rattle.machine.proofs.advance.Areas.{held-length}
 
 pub record Bounds (ws positions : List ℕ) (n level : ℕ) : Type 0 where
@@ -24,7 +24,7 @@ pub record Bounds (ws positions : List ℕ) (n level : ℕ) : Type 0 where
   -- so that one more fits a word
   pub few : countIn ws level ≤ 16
 
-module _ (b : List ℕ) (sh : Shape) (acc : Accepted b sh) (ws positions : List ℕ) (n level : ℕ) (v : Holds (systemOf b) ws positions n level) where
+module _ (b : List ℕ) (sh : Shape) (acc : Accepted b sh) (ws positions : List ℕ) (n level : ℕ) (v : Tracks (systemOf b) ws positions n level) where
   abbrev s : System
   s = systemOf b
 
@@ -37,11 +37,11 @@ module _ (b : List ℕ) (sh : Shape) (acc : Accepted b sh) (ws positions : List 
   abbrev c : ℕ
   c = countIn ws level
 
-  going : Going s t outer c
-  going = v .stored .going
+  valid : Valid s t outer c
+  valid = v .represents .valid
 
   levels : length outer ≡ level
-  levels = v .stored .levels
+  levels = v .represents .levels
 
   -- the innermost level starts where its slot says
   pub spot : getD positions level 0 ≡ position s t outer 0
@@ -49,13 +49,13 @@ module _ (b : List ℕ) (sh : Shape) (acc : Accepted b sh) (ws positions : List 
 
   pub bounds : Bounds ws positions n level
   bounds =
-      let words = v .stored .words in
-      let room : level < 64 = (let z = going .room in omega (arith, levels)) in
+      let words = v .represents .words in
+      let room : level < 64 = (let z = valid .room in omega (arith, levels)) in
       record {
-        total = held-length ws t outer c n level (v .stored .equal) (going .bounded) words levels room;
+        total = held-length ws t outer c n level (v .represents .equal) (valid .bounded) words levels room;
         slots = v .slots;
-        small = (let z = going .bounded in omega (arith, words));
+        small = (let z = valid .bounded in omega (arith, words));
         shallow = room;
-        within = (let z = going-within s (well b sh acc) t outer c going in omega (arith, spot, words));
-        few = (let z = well b sh acc .short (getD t (position s t outer 0) 0) in let y = going .begun in omega arith);
+        within = (let z = valid-within s (well b sh acc) t outer c valid in omega (arith, spot, words));
+        few = (let z = well b sh acc .strategyBound (getD t (position s t outer 0) 0) in let y = valid .begun in omega arith);
       }

@@ -22,12 +22,12 @@ use Rattle.system.specs.declared.layout.entries.Entry.the-variants as entry
 use Rattle.machine.specs.declared.advance.Event.the-variants.{End, Repeated, Rules, Argument, TooDeep}
 use Rattle.machine.specs.declared.advance.Innermost.{Innermost}
 use Rattle.rewriting.specs.Machine.{strategyAt, down, position}
-use Rattle.machine.specs.advance.Area.{area, termIn, outerIn, countIn, Going, Positioned, Holds}
+use Rattle.machine.specs.advance.Area.{area, termIn, outerIn, countIn, Valid, Positioned, Tracks}
 use Rattle.system.specs.layout.Entries.{entryOf}
 use Rattle.machine.specs.advance.Transition as to
 use Rattle.machine.specs.advance.Transition.{Transition, eventOf, countsAfter, countsIn, positionsAfter, next, Performed}
 use Rattle.rewriting.proofs.Laws.{position-snoc}
-use Rattle.machine.proofs.advance.Goings.{going-pop, going-pass, going-open}
+use Rattle.machine.proofs.advance.States.{valid-pop, valid-pass, valid-open}
 use Rattle.system.proofs.layout.entries.Asks.{stood, Asks, asks, asked-end, asked-again, asked-rules, asked-argument}
 use Rattle.machine.proofs.advance.Areas.{count-set, count-cleared, area-pushed, holds}
 use Rattle.machine.proofs.advance.Bounds.{spot, bounds}
@@ -36,7 +36,7 @@ use Rattle.machine.proofs.advance.Transitions.{leads-end, leads-repeate
 -- a transition, told by where it leads
 performed : (s : System) (at : Innermost) (ws positions : List ℕ) (o : Transition) → next s at ws ≡ o → (ws′ positions′ : List ℕ) →
     ws′ ≡ area (termIn ws (at .n)) (countsAfter (countsIn at ws) o) → positions′ ≡ positionsAfter s (termIn ws (at .n)) positions o →
-    ((level : ℕ) → length (countsAfter (countsIn at ws) o) ≡ suc level → Holds s ws′ positions′ (at .n) level) →
+    ((level : ℕ) → length (countsAfter (countsIn at ws) o) ≡ suc level → Tracks s ws′ positions′ (at .n) level) →
     Performed s at ws positions (eventOf o) ws′ positions′
 performed s at ws positions o q ws′ positions′ stands noted holds = record {
   event = ap eventOf (sym q);
@@ -53,7 +53,7 @@ pub record Taking : Type 0 where
   pub at : Innermost
   pub ws : List ℕ
   pub positions : List ℕ
-  pub held : Holds (systemOf book) ws positions (at .n) (at .level)
+  pub held : Tracks (systemOf book) ws positions (at .n) (at .level)
   pub k : ℕ
   pub is : k ≡ countIn ws (at .level)
   pub e : Entry
@@ -99,26 +99,26 @@ module _ (τ : Taking) where
   abbrev f : ℕ
   f = at .since
 
-  v : Holds s ws positions n level
+  v : Tracks s ws positions n level
   v = τ .held
 
-  going : Going s t outer c
-  going = v .stored .going
+  valid : Valid s t outer c
+  valid = v .represents .valid
 
   wf : WellFormed s
   wf = well b (τ .shape) (τ .accepted)
 
   small : length t ≤ 4096
-  small = going .bounded
+  small = valid .bounded
 
   words : length t ≡ n
-  words = v .stored .words
+  words = v .represents .words
 
   levels : length outer ≡ level
-  levels = v .stored .levels
+  levels = v .represents .levels
 
   room : level < 64
-  room = let z = going .room in omega (arith, levels)
+  room = let z = valid .room in omega (arith, levels)
 
   -- the innermost level starts where its slot says
   here-is : p ≡ position s t outer 0
@@ -141,30 +141,30 @@ module _ (τ : Taking) where
       (set ws (4096 + level) 0) positions cleared refl popped
     where
       cleared : set ws (4096 + level) 0 ≡ area t outer
-      cleared = count-cleared ws t outer c n level (v .stored .equal) small words levels room
+      cleared = count-cleared ws t outer c n level (v .represents .equal) small words levels room
 
-      popped : (m : ℕ) → length outer ≡ suc m → Holds s (set ws (4096 + level) 0) positions n m
+      popped : (m : ℕ) → length outer ≡ suc m → Tracks s (set ws (4096 + level) 0) positions n m
       popped m z =
           let ds = take m outer in
           let d = getD outer m 0 in
           let y : outer ≡ ds ++ d ∷ [] = sym (take-all (suc m) outer (omega arith)) ∙ take-suc outer m 0 (omega arith) in
           let l : length ds ≡ m = length-take-le m outer (omega arith) in
           holds (set ws (4096 + level) 0) t ds d n m (cleared ∙ ap (area t) y) small words l (omega (arith, room, levels)) s
-          (going-pop s wf t outer c going ds d y) positions (v .slots)
+          (valid-pop s wf t outer c valid ds d y) positions (v .slots)
           (λ j g. v .positioned j (omega arith) ∙ ap (λ y. position s t y 0) (sym (take-take j m outer (omega arith))))
 
   -- one more entry is begun
   begun : set ws (4096 + level) (c + 1) ≡ area t (outer ++ suc c ∷ [])
-  begun = count-set ws t outer c n level (v .stored .equal) small words levels room (c + 1) ∙ ap (λ y. area t (outer ++ y ∷ [])) (add-one c)
+  begun = count-set ws t outer c n level (v .represents .equal) small words levels room (c + 1) ∙ ap (λ y. area t (outer ++ y ∷ [])) (add-one c)
 
-  begun-holds : c < length entries → (m : ℕ) → length (outer ++ suc c ∷ []) ≡ suc m → Holds s (set ws (4096 + level) (c + 1)) positions n m
+  begun-holds : c < length entries → (m : ℕ) → length (outer ++ suc c ∷ []) ≡ suc m → Tracks s (set ws (4096 + level) (c + 1)) positions n m
   begun-holds more m z =
       let l : length outer ≡ m = (let y = length-append outer (suc c ∷ []) in omega arith) in
-      holds (set ws (4096 + level) (c + 1)) t outer (suc c) n m begun small words l (omega (arith, going .room)) s
-      (going-pass s wf t outer c going more) positions (v .slots) (v .positioned)
+      holds (set ws (4096 + level) (c + 1)) t outer (suc c) n m begun small words l (omega (arith, valid .room)) s
+      (valid-pass s wf t outer c valid more) positions (v .slots) (v .positioned)
 
   -- the entry stood before
-  pub performed-repeated : τ .e ≡ entry.Again → Performed s at ws positions Repeated (set ws (4096 + level) (c + 1)) positions
+  pub performed-repeated : τ .e ≡ entry.Repeated → Performed s at ws positions Repeated (set ws (4096 + level) (c + 1)) positions
   performed-repeated q =
       let a = asked-again entries f c (subst (Asks entries f c) q asked) in
       performed s at ws positions (to.repeated outer (suc c)) (leads-repeated s t outer f c (a .0) (a .1))
@@ -186,12 +186,12 @@ module _ (τ : Taking) where
     performed-deep h =
         let a = asks-inner in
         performed s at ws positions to.tooDeep (leads-deep s t outer f c (a .0) (a .1) i (a .2) (omega (arith, levels)))
-        ws positions (v .stored .equal) refl same
+        ws positions (v .represents .equal) refl same
       where
-        same : (m : ℕ) → length (outer ++ c ∷ []) ≡ suc m → Holds s ws positions n m
+        same : (m : ℕ) → length (outer ++ c ∷ []) ≡ suc m → Tracks s ws positions n m
         same m z =
             let l : level ≡ m = (let y = length-append outer (c ∷ []) in omega (arith, levels)) in
-            subst (Holds s ws positions n) l v
+            subst (Tracks s ws positions n) l v
 
     module _ (h : level < 63) (r : ℕ) (spans : r ≡ span (signatureOf b) (take (n - (p + 1)) (drop (p + 1) ws)) i) where
       more : c < length entries
@@ -233,9 +233,9 @@ module _ (τ : Taking) where
                 ∙ ap (λ y. position s t y 0) (sym (take-append-le j outer (suc c ∷ []) (omega (arith, depth, levels))))
           ]
 
-          opened : (m : ℕ) → length (inner ++ 0 ∷ []) ≡ suc m → Holds s (set ws (4096 + level) (c + 1)) (set positions (level + 1) (p + 1 + r)) n m
+          opened : (m : ℕ) → length (inner ++ 0 ∷ []) ≡ suc m → Tracks s (set ws (4096 + level) (c + 1)) (set positions (level + 1) (p + 1 + r)) n m
           opened m z =
               let l : length inner ≡ m = (let y = length-append inner (0 ∷ []) in omega arith) in
               holds (set ws (4096 + level) (c + 1)) t inner 0 n m pushed small words l (omega (arith, depth)) s
-              (going-open s wf t outer c going more i entry-is (omega (arith, levels))) (set positions (level + 1) (p + 1 + r))
+              (valid-open s wf t outer c valid more i entry-is (omega (arith, levels))) (set positions (level + 1) (p + 1 + r))
               (length-set positions (level + 1) (p + 1 + r) ∙ v .slots) positioned

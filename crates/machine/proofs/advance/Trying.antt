@@ -10,23 +10,23 @@ use Rattle.system.specs.declared.Shape.{Shape}
 use Rattle.system.specs.Signature.{span}
 use Rattle.system.specs.System.{System, rule}
 use Rattle.matching.specs.declared.Match.{Match}
-use Rattle.matching.specs.declared.rules.Fit.{Fit}
-use Rattle.matching.specs.declared.Found.the-variants.{Nothing, First}
+use Rattle.matching.specs.declared.rules.Search.{Search}
+use Rattle.matching.specs.declared.FirstRule.the-variants.{Nothing, First}
 use Rattle.system.specs.Book.{systemOf}
 use Rattle.system.specs.layout.Accepted.{Accepted}
-use Rattle.matching.specs.Matching.{Redex, redex}
-use Rattle.matching.specs.rules.Fits.{ends, fitOf}
-use Rattle.matching.specs.Stretches.{matchOf}
-use Rattle.matching.proofs.rules.Widths.{fit-match, fit-width}
+use Rattle.matching.specs.Matching.{Contraction, contraction}
+use Rattle.matching.specs.rules.Searches.{lhsEnd, searchOf}
+use Rattle.matching.specs.Bindings.{matchOf}
+use Rattle.matching.proofs.rules.Widths.{search-match, search-width}
 use Rattle.system.proofs.layout.Books.{well}
-use Rattle.matching.proofs.Reducts.{match-none, match-some, found-ends}
+use Rattle.matching.proofs.Reducts.{match-none, match-some, found-lhsEnd}
 use Rattle.rewriting.specs.Machine.{position}
-use Rattle.machine.specs.advance.Area.{termIn, outerIn, countIn, Holds}
+use Rattle.machine.specs.advance.Area.{termIn, outerIn, countIn, Tracks}
 use Rattle.rewriting.proofs.Actives.{at-parted}
-use Rattle.machine.proofs.advance.Goings.{going-here}
+use Rattle.machine.proofs.advance.States.{valid-here}
 use Rattle.machine.proofs.advance.Bounds.{spot, bounds}
 
-module _ (b : List ℕ) (sh : Shape) (acc : Accepted b sh) (ws positions : List ℕ) (n level : ℕ) (v : Holds (systemOf b) ws positions n level) where
+module _ (b : List ℕ) (sh : Shape) (acc : Accepted b sh) (ws positions : List ℕ) (n level : ℕ) (v : Tracks (systemOf b) ws positions n level) where
   abbrev s : System
   s = systemOf b
 
@@ -43,26 +43,26 @@ module _ (b : List ℕ) (sh : Shape) (acc : Accepted b sh) (ws positions : List 
       let z : p + (n - p) ≡ n = omega arith in
       part-slice p (n - p) ws ∙ ap (λ y. drop p (take y ws)) z ∙ ap (λ y. drop y (termIn ws n)) (spot b sh acc ws positions n level v)
 
-  module _ (fit : Fit) (fits : fit ≡ fitOf s (take (n - p) (drop p ws))) where
+  module _ (fit : Search) (fits : fit ≡ searchOf s (take (n - p) (drop p ws))) where
     abbrev m : Match
-    m = fit .found
+    m = fit .matched
 
     pub tried-match : m ≡ matchOf s subterm
-    tried-match = ap (λ y. y .found) fits ∙ fit-match s _ ∙ ap (matchOf s) front
+    tried-match = ap (λ y. y .matched) fits ∙ search-match s _ ∙ ap (matchOf s) front
 
-    pub tried-none : m .found ≡ Nothing → redex s subterm ≡ none
+    pub tried-none : m .rule ≡ Nothing → contraction s subterm ≡ none
     tried-none q = match-none b sh acc subterm m tried-match q
 
     -- one matches: its left side takes the words of the subterm
-    module _ (i rhs size : ℕ) (f : m .found ≡ First i rhs size) where
-      pub tried-some : (x : Redex) × (redex s subterm ≡ some x)
+    module _ (i rhs size : ℕ) (f : m .rule ≡ First i rhs size) where
+      pub tried-some : (x : Contraction) × (contraction s subterm ≡ some x)
       tried-some = (_, match-some b sh acc subterm m tried-match f)
 
       pub tried-width : fit .width ≡ span (s .arities) subterm 1
       tried-width =
-          let x = going-here s (well b sh acc) (termIn ws n) (outerIn ws level) (countIn ws level) (v .stored .going) in
+          let x = valid-here s (well b sh acc) (termIn ws n) (outerIn ws level) (countIn ws level) (v .represents .valid) in
           let e = at-parted s x in
-          let same = ap (λ y. y .found) (sym (fit-match s _) ∙ ap (λ y. y .found) (sym fits)) ∙ f in
-          ap (λ y. y .width) fits ∙ fit-width s _ i rhs size same ∙ ap (λ y. ends (s .arities) (rule s i .lhs) y 0) (front ∙ e)
-          ∙ found-ends b sh acc (x .before) (x .behind) (x .whole) m (tried-match ∙ ap (matchOf s) e) f
+          let same = ap (λ y. y .rule) (sym (search-match s _) ∙ ap (λ y. y .matched) (sym fits)) ∙ f in
+          ap (λ y. y .width) fits ∙ search-width s _ i rhs size same ∙ ap (λ y. lhsEnd (s .arities) (rule s i .lhs) y 0) (front ∙ e)
+          ∙ found-lhsEnd b sh acc (x .before) (x .behind) (x .whole) m (tried-match ∙ ap (matchOf s) e) f
           ∙ ap (λ y. span (s .arities) y 1) (sym e)

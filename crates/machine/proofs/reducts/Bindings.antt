@@ -12,18 +12,18 @@ use lib.Seq.{drop-append-seam, getD-set-same, getD-set-other, set-out}
 use Rattle.system.specs.Signature.{Signature, Symbol, arity}
 use Rattle.system.specs.Limits.{variable, variables}
 use Rattle.system.specs.System.{System, Rule, noRule}
-use Rattle.system.specs.Terms.{Forest, empty, more, Word, Whole, Lawful, WellFormed}
+use Rattle.system.specs.Terms.{Forest, empty, more, Word, Whole, WellFormedRule, WellFormed}
 use Rattle.system.proofs.Signatures.{arity-variable, symbol-below, few-symbols}
 use Rattle.system.proofs.Forests.{span-forest, split, Split}
 use Rattle.matching.specs.declared.Match.{Match}
-use Rattle.matching.specs.Stretches.{Stretches, unset, takes, note, stretches, matchFrom, matchOf}
+use Rattle.matching.specs.Bindings.{Bindings, noBindings, consumed, withBinding, bindings, matchFrom, matchOf}
 use Rattle.machine.specs.reducts.Replaced.{Behind}
-use Rattle.matching.proofs.Stretched.{zero-at}
-use Rattle.matching.proofs.rules.MatchSteps.{cons-stop, cons-next, takes-variable, takes-differ, takes-same, note-symbol, note-variable, from-nil, from-here, from-next}
+use Rattle.matching.proofs.BindingsAgree.{zero-at}
+use Rattle.matching.proofs.rules.MatchSteps.{cons-stop, cons-next, consumed-variable, consumed-differ, consumed-same, withBinding-symbol, withBinding-variable, from-nil, from-here, from-next}
 
 module _ (g : Signature) where
-  nil-some : (ws : List ℕ) (q : ℕ) (a : Stretches) → stretches g [] ws q a ≡ some a
-  unfolding stretches
+  nil-some : (ws : List ℕ) (q : ℕ) (a : Bindings) → bindings g [] ws q a ≡ some a
+  unfolding bindings
   nil-some ws q a = refl
 
   -- ---- what follows the subterm does not count
@@ -32,41 +32,41 @@ module _ (g : Signature) where
   whole-some b (more h f) = omega arith
 
   module _ (few : length g ≤ variable) where
-    stretches-rest : {k : ℕ} {ls u : List ℕ} (b : List ℕ) (q : ℕ) (a : Stretches) → Forest g (Word g) k ls → Forest g (Symbol g) k u →
-        stretches g ls (u ++ b) q a ≡ stretches g ls u q a
-    stretches-rest b q a empty empty = nil-some b q a ∙ sym (nil-some [] q a)
-    stretches-rest b q a (more {w = l} {k} {ws = ls} (inl h) f) (more {w} {ws} _ fu) =
+    bindings-rest : {k : ℕ} {ls u : List ℕ} (b : List ℕ) (q : ℕ) (a : Bindings) → Forest g (Word g) k ls → Forest g (Symbol g) k u →
+        bindings g ls (u ++ b) q a ≡ bindings g ls u q a
+    bindings-rest b q a empty empty = nil-some b q a ∙ sym (nil-some [] q a)
+    bindings-rest b q a (more {w = l} {k} {ws = ls} (inl h) f) (more {w} {ws} _ fu) =
         let v : l < variable = symbol-below g l few h in
         elim (ℕ-discrete l w) [
           | yes e ↦
-              cons-next g l ls (w ∷ (ws ++ b)) q a 1 (takes-same g l (w ∷ (ws ++ b)) (omega arith) v e) (omega arith)
-              ∙ stretches-rest b (q + 1) (note l q 1 a) f (rw (← e) at fu)
-              ∙ sym (cons-next g l ls (w ∷ ws) q a 1 (takes-same g l (w ∷ ws) (omega arith) v e) (omega arith))
+              cons-next g l ls (w ∷ (ws ++ b)) q a 1 (consumed-same g l (w ∷ (ws ++ b)) (omega arith) v e) (omega arith)
+              ∙ bindings-rest b (q + 1) (withBinding l q 1 a) f (rw (← e) at fu)
+              ∙ sym (cons-next g l ls (w ∷ ws) q a 1 (consumed-same g l (w ∷ ws) (omega arith) v e) (omega arith))
           | no d ↦
-              cons-stop g l ls (w ∷ (ws ++ b)) q a (takes-differ g l (w ∷ (ws ++ b)) (omega arith) v d)
-              ∙ sym (cons-stop g l ls (w ∷ ws) q a (takes-differ g l (w ∷ ws) (omega arith) v d))
+              cons-stop g l ls (w ∷ (ws ++ b)) q a (consumed-differ g l (w ∷ (ws ++ b)) (omega arith) v d)
+              ∙ sym (cons-stop g l ls (w ∷ ws) q a (consumed-differ g l (w ∷ ws) (omega arith) v d))
         ]
-    stretches-rest b q a (more {w = l} {k} {ws = ls} (inr h) f) fu =
+    bindings-rest b q a (more {w = l} {k} {ws = ls} (inr h) f) fu =
         let c : Split g (Symbol g) 1 (k + arity g l) _ = split g (Symbol g) fu 1 (k + arity g l) (omega (arith, arity-variable g l few h)) in
-        let ih = stretches-rest b (q + length (c .front)) (note l q (length (c .front)) a) f (c .backs) in
+        let ih = bindings-rest b (q + length (c .front)) (withBinding l q (length (c .front)) a) f (c .backs) in
         rw (c .equal, append-assoc (c .front) (c .back) b) (past ls (c .back ++ b) h (c .fronts) ∙ ih ∙ sym (past ls (c .back) h (c .fronts)))
       where
         past : (ls : List ℕ) (d : List ℕ) {x : List ℕ} → variable ≤ l → Whole g x →
-            stretches g (l ∷ ls) (x ++ d) q a ≡ stretches g ls d (q + length x) (note l q (length x) a)
+            bindings g (l ∷ ls) (x ++ d) q a ≡ bindings g ls d (q + length x) (withBinding l q (length x) a)
         past ls d {x} h f =
-            let n : takes g l (x ++ d) ≡ length x = takes-variable g l (x ++ d) (whole-some d f) h ∙ span-forest g (Symbol g) d f in
+            let n : consumed g l (x ++ d) ≡ length x = consumed-variable g l (x ++ d) (whole-some d f) h ∙ span-forest g (Symbol g) d f in
             cons-next g l ls (x ++ d) q a (length x) n (rw (append-nil x) at (whole-some [] f)) ∙ rw (drop-append-seam x d)
 
   -- ---- behind the first word
 
-  abbrev Later : Stretches → Type 0
+  abbrev Later : Bindings → Type 0
   Later a = Behind (a .starts) (a .lengths)
 
-  behind-note : (l q n : ℕ) (a : Stretches) → 0 < q → Later a → Later (note l q n a)
-  behind-note l q n a h b =
+  behind-withBinding : (l q n : ℕ) (a : Bindings) → 0 < q → Later a → Later (withBinding l q n a)
+  behind-withBinding l q n a h b =
       elim (decLt l variable) [
-        | yes s ↦ rw (note-symbol l q n a s) b
-        | no s ↦ rw (note-variable l q n a (omega arith)) (record {
+        | yes s ↦ rw (withBinding-symbol l q n a s) b
+        | no s ↦ rw (withBinding-variable l q n a (omega arith)) (record {
           same = length-set (a .starts) (l - variable) q ∙ b .same ∙ sym (length-set (a .lengths) (l - variable) n);
           later = λ v. at (l - variable) v;
         })
@@ -81,36 +81,36 @@ module _ (g : Signature) where
         | no d ↦ λ z. rw (getD-set-other (a .starts) i v q 0 d) (b .later v (rw (getD-set-other (a .lengths) i v n 0 d) at z))
       ]
 
-  behind-words : (ls ws : List ℕ) (q : ℕ) (a a′ : Stretches) → 0 < q → Later a → stretches g ls ws q a ≡ some a′ → Later a′
+  behind-words : (ls ws : List ℕ) (q : ℕ) (a a′ : Bindings) → 0 < q → Later a → bindings g ls ws q a ≡ some a′ → Later a′
   behind-words [] ws q a a′ h b e = let z : a ≡ a′ = cc (nil-some ws q a) in subst (λ y. Later y) z b
   behind-words (l ∷ ls) ws q a a′ h b e =
-      go (takes g l ws) refl (λ n. behind-words ls (drop n ws) (q + n) (note l q n a) a′ (omega arith) (behind-note l q n a h b))
+      go (consumed g l ws) refl (λ n. behind-words ls (drop n ws) (q + n) (withBinding l q n a) a′ (omega arith) (behind-withBinding l q n a h b))
     where
-      go : (n : ℕ) → takes g l ws ≡ n → ((n : ℕ) → stretches g ls (drop n ws) (q + n) (note l q n a) ≡ some a′ → Later a′) → Later a′
+      go : (n : ℕ) → consumed g l ws ≡ n → ((n : ℕ) → bindings g ls (drop n ws) (q + n) (withBinding l q n a) ≡ some a′ → Later a′) → Later a′
       go zero t ih = absurd (let z : _≡_ {A = ℕ} 0 1 = cc (cons-stop g l ls ws q a t) in omega arith)
       go (suc n) t ih = ih (suc n) (sym (cons-next g l ls ws q a (suc n) t (omega arith)) ∙ e)
 
-  behind-none : Later unset
-  unfolding unset
+  behind-none : Later noBindings
+  unfolding noBindings
   behind-none = record { same = refl; later = λ v h. absurd (let z = zero-at variables v in omega arith) }
 
   -- a left side that starts with a symbol
-  behind-left : length g ≤ variable → (ls ws : List ℕ) (a : Stretches) → Symbol g (getD ls 0 variable) → stretches g ls ws 0 unset ≡ some a → Later a
+  behind-left : length g ≤ variable → (ls ws : List ℕ) (a : Bindings) → Symbol g (getD ls 0 variable) → bindings g ls ws 0 noBindings ≡ some a → Later a
   behind-left few [] ws a h e = absurd (let z = symbol-below g variable few h in omega arith)
-  behind-left few (l ∷ ls) ws a h e = go (takes g l ws) refl
+  behind-left few (l ∷ ls) ws a h e = go (consumed g l ws) refl
     where
-      go : (n : ℕ) → takes g l ws ≡ n → Later a
-      go zero t = absurd (let z : _≡_ {A = ℕ} 0 1 = cc (cons-stop g l ls ws 0 unset t) in omega arith)
+      go : (n : ℕ) → consumed g l ws ≡ n → Later a
+      go zero t = absurd (let z : _≡_ {A = ℕ} 0 1 = cc (cons-stop g l ls ws 0 noBindings t) in omega arith)
       go (suc n) t =
-          behind-words ls (drop (suc n) ws) (0 + suc n) unset a (omega arith) behind-none
-          (ap (stretches g ls (drop (suc n) ws) (0 + suc n)) (sym (note-symbol l 0 (suc n) unset (symbol-below g l few h)))
-          ∙ sym (cons-next g l ls ws 0 unset (suc n) t (omega arith))
+          behind-words ls (drop (suc n) ws) (0 + suc n) noBindings a (omega arith) behind-none
+          (ap (bindings g ls (drop (suc n) ws) (0 + suc n)) (sym (withBinding-symbol l 0 (suc n) noBindings (symbol-below g l few h)))
+          ∙ sym (cons-next g l ls ws 0 noBindings (suc n) t (omega arith))
           ∙ e)
 
   -- ---- the search
 
   abbrev AllLawful : List Rule → Type 0
-  AllLawful rs = (j : ℕ) → j < length rs → Lawful g (getD rs j noRule)
+  AllLawful rs = (j : ℕ) → j < length rs → WellFormedRule g (getD rs j noRule)
 
   -- the index after a rule that stands at `at`
   abbrev past : ℕ → Rule → ℕ
@@ -120,12 +120,12 @@ module _ (g : Signature) where
     -- what follows the subterm does not count
     from-rest : (rs : List Rule) (k at : ℕ) → AllLawful rs → matchFrom g rs k at (u ++ b) ≡ matchFrom g rs k at u
     from-rest [] k at law = from-nil g k at (u ++ b) ∙ sym (from-nil g k at u)
-    from-rest (r ∷ rs) k at law = go (stretches g (r .lhs) u 0 unset) refl (from-rest rs (suc k) (past at r) (λ j h. law (suc j) (omega arith)))
+    from-rest (r ∷ rs) k at law = go (bindings g (r .lhs) u 0 noBindings) refl (from-rest rs (suc k) (past at r) (λ j h. law (suc j) (omega arith)))
       where
-        q : stretches g (r .lhs) (u ++ b) 0 unset ≡ stretches g (r .lhs) u 0 unset
-        q = stretches-rest few b 0 unset (law 0 (omega arith) .left) whole
+        q : bindings g (r .lhs) (u ++ b) 0 noBindings ≡ bindings g (r .lhs) u 0 noBindings
+        q = bindings-rest few b 0 noBindings (law 0 (omega arith) .left) whole
 
-        go : (o : Option Stretches) → stretches g (r .lhs) u 0 unset ≡ o → matchFrom g rs (suc k) (past at r) (u ++ b) ≡ matchFrom g rs (suc k) (past at r) u →
+        go : (o : Option Bindings) → bindings g (r .lhs) u 0 noBindings ≡ o → matchFrom g rs (suc k) (past at r) (u ++ b) ≡ matchFrom g rs (suc k) (past at r) u →
             matchFrom g (r ∷ rs) k at (u ++ b) ≡ matchFrom g (r ∷ rs) k at u
         go none e ih = from-next g r rs k at (u ++ b) (q ∙ e) ∙ ih ∙ sym (from-next g r rs k at u e)
         go (some a) e ih = from-here g r rs k at (u ++ b) a (q ∙ e) ∙ sym (from-here g r rs k at u a e)
@@ -136,17 +136,17 @@ module _ (g : Signature) where
 
     from-behind : (rs : List Rule) (k at : ℕ) → AllLawful rs → BehindIn (matchFrom g rs k at ws)
     from-behind [] k at law = rw (from-nil g k at ws) behind-none
-    from-behind (r ∷ rs) k at law = go (stretches g (r .lhs) ws 0 unset) refl (from-behind rs (suc k) (past at r) (λ j h. law (suc j) (omega arith)))
+    from-behind (r ∷ rs) k at law = go (bindings g (r .lhs) ws 0 noBindings) refl (from-behind rs (suc k) (past at r) (λ j h. law (suc j) (omega arith)))
       where
-        go : (o : Option Stretches) → stretches g (r .lhs) ws 0 unset ≡ o → BehindIn (matchFrom g rs (suc k) (past at r) ws) → BehindIn (matchFrom g (r ∷ rs) k at ws)
+        go : (o : Option Bindings) → bindings g (r .lhs) ws 0 noBindings ≡ o → BehindIn (matchFrom g rs (suc k) (past at r) ws) → BehindIn (matchFrom g (r ∷ rs) k at ws)
         go none e ih = rw (from-next g r rs k at ws e) ih
         go (some a) e ih = rw (from-here g r rs k at ws a e) (behind-left few (r .lhs) ws a (law 0 (omega arith) .headed) e)
 
 module _ (s : System) (wf : WellFormed s) where
   pub match-rest : {u : List ℕ} (b : List ℕ) → Whole (s .arities) u → matchOf s (u ++ b) ≡ matchOf s u
   unfolding matchOf
-  match-rest b h = from-rest (s .arities) (few-symbols s wf) h b (s .rules) 0 _ (wf .lawful)
+  match-rest b h = from-rest (s .arities) (few-symbols s wf) h b (s .rules) 0 _ (wf .wellFormedRules)
 
   pub match-behind : (ws : List ℕ) → Behind (matchOf s ws .starts) (matchOf s ws .lengths)
   unfolding matchOf
-  match-behind ws = from-behind (s .arities) (few-symbols s wf) ws (s .rules) 0 _ (wf .lawful)
+  match-behind ws = from-behind (s .arities) (few-symbols s wf) ws (s .rules) 0 _ (wf .wellFormedRules)

@@ -10,11 +10,11 @@ use Rattle.buffers.specs.Words.{part, over, zeros, pad, splice}
 use Rattle.buffers.proofs.Over.{length-part, part-cons, part-slice, part-below, over-left, over-right, take-over, drop-over}
 use Rattle.buffers.proofs.Pads.{length-zeros}
 use Rattle.buffers.proofs.Replaced.{longer, shorter}
-use Rattle.matching.specs.rules.Fits.{value, Within}
+use Rattle.matching.specs.rules.Searches.{value, Within}
 use Rattle.matching.proofs.Matched.{instance-cong}
 use Rattle.matching.proofs.Reducts.{reduct-length}
 use Rattle.system.specs.Limits.{termWords, areaWords}
-use Rattle.machine.specs.declared.reducts.Contraction.{Contraction}
+use Rattle.machine.specs.declared.reducts.Instance.{Instance}
 use Rattle.machine.specs.declared.reducts.Subterm.{Subterm}
 use Rattle.machine.specs.reducts.Reduct.{side, bindings, reduct, Writable}
 use Rattle.machine.specs.reducts.Replaced.{subtermIn, Room, Replaceable, replaced, Replaced}
@@ -97,20 +97,20 @@ module _ {ws : List ℕ} {n : ℕ} {u : Subterm} {k : ℕ} (room : Room ws n u k
   base = termWords + level
 
   -- the subterm, its words but the first, and what follows it
-  abbrev redex : List ℕ
-  redex = subtermIn ws u
+  abbrev contraction : List ℕ
+  contraction = subtermIn ws u
 
   abbrev rest : List ℕ
   rest = part (p + 1) (width - 1) ws
 
-  redex-length : length redex ≡ width
-  redex-length = length-part p width ws (let h = room in omega arith)
+  contraction-length : length contraction ≡ width
+  contraction-length = length-part p width ws (let h = room in omega arith)
 
   rest-length : length rest ≡ width - 1
   rest-length = length-part (p + 1) (width - 1) ws (let h = room in omega arith)
 
-  redex-cons : redex ≡ getD ws p 0 ∷ rest
-  redex-cons =
+  contraction-cons : contraction ≡ getD ws p 0 ∷ rest
+  contraction-cons =
       let h = room in
       let e : width ≡ width - 1 + 1 = omega arith in
       ap (λ y. part p y ws) e ∙ part-cons p (width - 1) ws 0 (omega arith)
@@ -177,7 +177,7 @@ module _ {ws : List ℕ} {n : ℕ} {u : Subterm} {k : ℕ} (room : Room ws n u k
   behind₂ : drop base w₂ ≡ drop base w₁
   behind₂ = drop-over base w₁ (p + k) (part (p + width) after w₁) (let h = room in rw (tail-is, tail-length) (omega arith))
 
-module _ {book ws : List ℕ} {n : ℕ} {u : Subterm} {c : Contraction} {k : ℕ} (asked : Replaceable book ws n u c k) where
+module _ {book ws : List ℕ} {n : ℕ} {u : Subterm} {c : Instance} {k : ℕ} (asked : Replaceable book ws n u c k) where
   abbrev room : Room ws n u k
   room = asked .room
 
@@ -185,7 +185,7 @@ module _ {book ws : List ℕ} {n : ℕ} {u : Subterm} {c : Contraction} {k : ℕ
   within₂ = record {
     size-starts = asked .inside .size-starts;
     size-lengths = asked .inside .size-lengths;
-    inside = λ v. rw (length-drop (base room) (w₂ room), length₂ room) (let i = asked .inside .inside v in let h = room in let e = redex-length room in omega arith);
+    inside = λ v. rw (length-drop (base room) (w₂ room), length₂ room) (let i = asked .inside .inside v in let h = room in let e = contraction-length room in omega arith);
   }
 
   writable₂ : Writable book (w₂ room) c (u .position) (base room)
@@ -198,28 +198,28 @@ module _ {book ws : List ℕ} {n : ℕ} {u : Subterm} {c : Contraction} {k : ℕ
         room = omega (arith, asked .counted);
       }
 
-  value₂ : (v : ℕ) → value (drop (base room) (w₂ room)) (bindings c) v ≡ value (redex room) (bindings c) v
+  value₂ : (v : ℕ) → value (drop (base room) (w₂ room)) (bindings c) v ≡ value (contraction room) (bindings c) v
   unfolding value
-  value₂ v = rw (behind₂ room) (at (getD (c .lengths) v 0) (getD (c .starts) v 0) (asked .behind .later v) (rw (redex-length room) at (asked .inside .inside v)))
+  value₂ v = rw (behind₂ room) (at (getD (c .lengths) v 0) (getD (c .starts) v 0) (asked .behind .later v) (rw (contraction-length room) at (asked .inside .inside v)))
     where
-      at : (m i : ℕ) → (0 < m → 0 < i) → i + m ≤ u .width → take m (drop i (drop (base room) (w₁ room))) ≡ take m (drop i (redex room))
+      at : (m i : ℕ) → (0 < m → 0 < i) → i + m ≤ u .width → take m (drop i (drop (base room) (w₁ room))) ≡ take m (drop i (contraction room))
       at zero i h r = refl
       at (suc m) zero h r = absurd (let z = h (omega arith) in omega arith)
       at (suc m) (suc i) h r =
           let g = room in
           let e : base room + suc i ≡ base room + 1 + i = omega arith in
           let f = rest-length room in
-          rw (drop-drop (suc i) (base room) (w₁ room), e, redex-cons room) (part-inside ws (base room + 1) (rest room) i (suc m) (omega arith) (omega arith))
+          rw (drop-drop (suc i) (base room) (w₁ room), e, contraction-cons room) (part-inside ws (base room + 1) (rest room) i (suc m) (omega arith) (omega arith))
 
   -- 3, 4 and 5: the reduct, the end of the first half, the count and the words behind it
   abbrev x : List ℕ
-  x = reduct book c (redex room)
+  x = reduct book c (contraction room)
 
   reduct₂ : reduct book c (drop (base room) (w₂ room)) ≡ x
-  reduct₂ = instance-cong (value (drop (base room) (w₂ room)) (bindings c)) (value (redex room) (bindings c)) (side book c) (λ w v st e. value₂ v)
+  reduct₂ = instance-cong (value (drop (base room) (w₂ room)) (bindings c)) (value (contraction room) (bindings c)) (side book c) (λ w v st e. value₂ v)
 
   x-length : length x ≡ k
-  x-length = reduct-length (redex room) (bindings c) (asked .inside) (side book c) ∙ sym (asked .counted)
+  x-length = reduct-length (contraction room) (bindings c) (asked .inside) (side book c) ∙ sym (asked .counted)
 
   -- how many words the term has then, and how many are to be cleared behind it
   abbrev new : ℕ

@@ -17,26 +17,26 @@ use Rattle.system.specs.Terms.{WellFormed}
 use Rattle.system.proofs.Forests.{span-forest}
 use Rattle.system.proofs.Places.{replace-length}
 use Rattle.matching.specs.declared.Match.{Match}
-use Rattle.matching.specs.declared.Found.the-variants.{Nothing, First}
+use Rattle.matching.specs.declared.FirstRule.the-variants.{Nothing, First}
 use Rattle.system.specs.Book.{systemOf}
-use Rattle.matching.specs.Matching.{Redex, redex}
-use Rattle.matching.specs.Stretches.{matchOf}
-use Rattle.matching.specs.rules.Fits.{reductLength, RightSide}
-use Rattle.matching.proofs.Firsts.{redex-rest}
+use Rattle.matching.specs.Matching.{Contraction, contraction}
+use Rattle.matching.specs.Bindings.{matchOf}
+use Rattle.matching.specs.rules.Searches.{reductLength, RightSide}
+use Rattle.matching.proofs.Firsts.{contraction-rest}
 use Rattle.system.proofs.layout.Books.{well}
 use Rattle.matching.proofs.Reducts.{match-right, match-within, match-none, match-some, match-length}
 use Rattle.rewriting.specs.Rewriting.{root}
 use Rattle.machine.specs.declared.reducts.Reduced.the-variants.{Done, TooLong}
 use Rattle.machine.specs.declared.reducts.Subterm.{Subterm}
 use Rattle.rewriting.specs.Machine.{down, position}
-use Rattle.machine.specs.advance.Area.{area, termIn, outerIn, countIn, Stored}
-use Rattle.machine.specs.reducts.Reduct.{contraction, side, reduct}
+use Rattle.machine.specs.advance.Area.{area, termIn, outerIn, countIn, Represents}
+use Rattle.machine.specs.reducts.Reduct.{instanceOf, side, reduct}
 use Rattle.machine.specs.reducts.Replaced.{subtermIn, Room, Replaceable, Replaced}
 use Rattle.machine.specs.reducts.Rewritten.{Contracts, Reducible, rewritten, done, long, Rewrites}
 use Rattle.rewriting.proofs.Actives.{At, at-parted, active-whole}
 use Rattle.rewriting.proofs.Done.{whole-within}
 use Rattle.rewriting.proofs.Laws.{down-lt}
-use Rattle.machine.proofs.advance.Goings.{opened-active}
+use Rattle.machine.proofs.advance.States.{opened-active}
 use Rattle.machine.proofs.advance.Areas.{area-length}
 use Rattle.machine.proofs.reducts.Bindings.{match-rest, match-behind}
 use Rattle.machine.proofs.reducts.Replacing.{part-take}
@@ -112,26 +112,26 @@ module _ {book ws : List ℕ} {n : ℕ} {u : Subterm} {m : Match} (asked : Reduc
   abbrev outer : List ℕ
   outer = outerIn ws (u .level)
 
-  abbrev stored : Stored s ws n (u .level)
-  stored = asked .stored
+  abbrev represents : Represents s ws n (u .level)
+  represents = asked .represents
 
   formed : WellFormed s
   formed = well book (asked .shape) (asked .accepted)
 
   -- the whole subterm at p
   subterm-here : At s (λ _. Unit {0}) t p
-  subterm-here = subst (At s (λ _. Unit {0}) t) (sym (asked .place)) (active-whole s formed (stored .going .whole) (opened-active s t root (stored .going .opened)))
+  subterm-here = subst (At s (λ _. Unit {0}) t) (sym (asked .place)) (active-whole s formed (represents .valid .whole) (opened-active s t root (represents .valid .opened)))
 
   bounded : n ≤ termWords
-  bounded = omega (arith, stored .words, stored .going .bounded)
+  bounded = omega (arith, represents .words, represents .valid .bounded)
 
   around : u .level ≤ p
-  around = omega (arith, asked .place, stored .levels, position-room s t outer 0)
+  around = omega (arith, asked .place, represents .levels, position-room s t outer 0)
 
   area-words : length ws ≡ areaWords
   area-words =
-      ap length (stored .equal) ∙ area-length t (outer ++ countIn ws (u .level) ∷ []) (stored .going .bounded)
-      (rw (length-append outer (countIn ws (u .level) ∷ [])) (let z = stored .going .room in omega arith))
+      ap length (represents .equal) ∙ area-length t (outer ++ countIn ws (u .level) ∷ []) (represents .valid .bounded)
+      (rw (length-append outer (countIn ws (u .level) ∷ [])) (let z = represents .valid .room in omega arith))
 
   parted : drop p t ≡ subterm-here .here ++ subterm-here .behind
   parted = at-parted s subterm-here
@@ -145,14 +145,14 @@ module _ {book ws : List ℕ} {n : ℕ} {u : Subterm} {m : Match} (asked : Reduc
   inside =
       let x = subterm-here in
       let z = subst (λ y. length (x .before) < length y) (sym (x .equal)) (whole-within s (x .before) (x .behind) (x .whole)) in
-      omega (arith, x .position, stored .words)
+      omega (arith, x .position, represents .words)
 
   pub ends : p + u .width ≤ n
   ends =
       let x = subterm-here in
       let z = ap length parted in
       let y = length-append (x .here) (x .behind) in
-      omega (arith, length-drop p t, stored .words, width-here, inside)
+      omega (arith, length-drop p t, represents .words, width-here, inside)
 
   words-here : subtermIn ws u ≡ subterm-here .here
   words-here =
@@ -170,7 +170,7 @@ module _ {book ws : List ℕ} {n : ℕ} {u : Subterm} {m : Match} (asked : Reduc
   room k f = record {
     words = area-words;
     bounded = bounded;
-    zeroed = subst (λ y. drop n (take termWords y) ≡ zeros (termWords - n)) (sym (stored .equal)) (area-zeros t _ (stored .going .bounded) n (stored .words));
+    zeroed = subst (λ y. drop n (take termWords y) ≡ zeros (termWords - n)) (sym (represents .equal)) (area-zeros t _ (represents .valid .bounded) n (represents .words));
     some = width-some;
     within = ends;
     around = around;
@@ -183,29 +183,29 @@ module _ {book ws : List ℕ} {n : ℕ} {u : Subterm} {m : Match} (asked : Reduc
       let x = subterm-here in
       asked .match ∙ ap (matchOf s) parted ∙ match-rest s formed (x .behind) (x .whole) ∙ ap (matchOf s) (sym words-here)
 
-  redex-here : redex s (drop p t) ≡ redex s (subtermIn ws u)
-  redex-here =
+  contraction-here : contraction s (drop p t) ≡ contraction s (subtermIn ws u)
+  contraction-here =
       let x = subterm-here in
-      ap (redex s) parted ∙ redex-rest s formed (x .whole) (x .behind) ∙ ap (redex s) (sym words-here)
+      ap (contraction s) parted ∙ contraction-rest s formed (x .whole) (x .behind) ∙ ap (contraction s) (sym words-here)
 
   -- a rule was found
-  pub none-found : m .found ≡ Nothing → ⊥
+  pub none-found : m .rule ≡ Nothing → ⊥
   none-found f =
       let e = match-none book (asked .shape) (asked .accepted) (drop p t) m (asked .match) f in
       let z : _≡_ {A = ℕ} 0 1 = cc (asked .contracts) in
       omega arith
 
-  pub stretch-bound : (v : ℕ) → getD (m .lengths) v 0 ≤ 65535
-  stretch-bound v =
+  pub binding-bound : (v : ℕ) → getD (m .lengths) v 0 ≤ 65535
+  binding-bound v =
       let z = match-within book (asked .shape) (asked .accepted) (drop p t) m (asked .match) .inside v in
-      omega (arith, length-drop p t, stored .words, bounded)
+      omega (arith, length-drop p t, represents .words, bounded)
 
-  module _ {number rhs size : ℕ} (found : m .found ≡ First number rhs size) where
+  module _ {number rhs size : ℕ} (found : m .rule ≡ First number rhs size) where
     abbrev ls : List ℕ
-    ls = side book (contraction m rhs size)
+    ls = side book (instanceOf m rhs size)
 
     abbrev v : List ℕ
-    v = reduct book (contraction m rhs size) (subtermIn ws u)
+    v = reduct book (instanceOf m rhs size) (subtermIn ws u)
 
     pub right-side : RightSide book rhs size
     right-side = match-right book (asked .shape) (asked .accepted) (drop p t) m (asked .match) found
@@ -216,27 +216,27 @@ module _ {book ws : List ℕ} {n : ℕ} {u : Subterm} {m : Match} (asked : Reduc
       pub reduct-bound : n - u .width + k ≤ termWords + 64 * 65535
       reduct-bound =
           let r = right-side in
-          let z = length-bound (m .lengths) ls stretch-bound in
+          let z = length-bound (m .lengths) ls binding-bound in
           let y : length ls ≡ size = length-take-le size (drop rhs book) (rw (length-drop rhs book) (omega (arith, r .fits))) in
           omega (arith, r .small, bounded)
 
-      reduct-is : (x : Redex) → Contracts book ws n u x → x .reduct ≡ v
+      reduct-is : (x : Contraction) → Contracts book ws n u x → x .reduct ≡ v
       reduct-is x e =
-          let f = redex-here ∙ match-some book (asked .shape) (asked .accepted) (subtermIn ws u) m match-here found in
+          let f = contraction-here ∙ match-some book (asked .shape) (asked .accepted) (subtermIn ws u) m match-here found in
           let z : record { number = number; reduct = v } ≡ x = cc in
           ap (λ y. y .reduct) (sym z)
 
-      rewritten-length : (x : Redex) → Contracts book ws n u x → length (rewritten s ws n u x) ≡ n - u .width + k
+      rewritten-length : (x : Contraction) → Contracts book ws n u x → length (rewritten s ws n u x) ≡ n - u .width + k
       rewritten-length x e =
-          let z = replace-length g t (x .reduct) p (rw (← asked .wide, stored .words) ends) in
+          let z = replace-length g t (x .reduct) p (rw (← asked .wide, represents .words) ends) in
           let y = ap length (reduct-is x e) ∙ match-length book (asked .shape) (asked .accepted) (subtermIn ws u) m match-here rhs size in
-          omega (arith, asked .wide, stored .words, ends)
+          omega (arith, asked .wide, represents .words, ends)
 
       pub too-long : termWords < n - u .width + k → Rewrites book ws n u TooLong ws
       too-long h x e = long (omega (arith, rewritten-length x e)) refl refl
 
       module _ (fits : n - u .width + k ≤ termWords) where
-        pub replaceable : Replaceable book ws n u (contraction m rhs size) k
+        pub replaceable : Replaceable book ws n u (instanceOf m rhs size) k
         replaceable = record {
           room = room k fits;
           right = right-side;
@@ -245,7 +245,7 @@ module _ {book ws : List ℕ} {n : ℕ} {u : Subterm} {m : Match} (asked : Reduc
           behind = rw (asked .match) (match-behind s formed (drop p t));
         }
 
-        spliced : (x : Redex) → Contracts book ws n u x → splice (take n ws) p (u .width) v ≡ rewritten s ws n u x
+        spliced : (x : Contraction) → Contracts book ws n u x → splice (take n ws) p (u .width) v ≡ rewritten s ws n u x
         unfolding replace
         spliced x e = rw (append-assoc (take p t) v (drop (p + u .width) t), reduct-is x e, ← asked .wide)
 
@@ -254,11 +254,11 @@ module _ {book ws : List ℕ} {n : ℕ} {u : Subterm} {m : Match} (asked : Reduc
             let z = around in
             let y = ends in
             let a = bounded in
-            ap (λ y. over (drop termWords y) (u .level) (zeros (u .width))) (stored .equal)
-            ∙ ap (λ y. over y (u .level) (zeros (u .width))) (area-right t (outer ++ countIn ws (u .level) ∷ []) (stored .going .bounded))
-            ∙ counts-cleared termWords outer (countIn ws (u .level)) (u .level) (u .width) (stored .levels) width-some (omega arith)
+            ap (λ y. over (drop termWords y) (u .level) (zeros (u .width))) (represents .equal)
+            ∙ ap (λ y. over y (u .level) (zeros (u .width))) (area-right t (outer ++ countIn ws (u .level) ∷ []) (represents .valid .bounded))
+            ∙ counts-cleared termWords outer (countIn ws (u .level)) (u .level) (u .width) (represents .levels) width-some (omega arith)
 
-        pub rewrites : (ws′ : List ℕ) → Replaced book ws n u (contraction m rhs size) ws′ → Rewrites book ws n u (Done (n - u .width + k)) ws′
+        pub rewrites : (ws′ : List ℕ) → Replaced book ws n u (instanceOf m rhs size) ws′ → Rewrites book ws n u (Done (n - u .width + k)) ws′
         unfolding area
         rewrites ws′ q x e =
             let l = rewritten-length x e in

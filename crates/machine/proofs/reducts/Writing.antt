@@ -10,26 +10,26 @@ use Rattle.buffers.specs.Words.{part, over}
 use Rattle.buffers.proofs.Over.{over-snoc, over-append, part-above}
 use Rattle.system.specs.Limits.{variable, variables}
 use Rattle.system.specs.System.{instance}
-use Rattle.matching.specs.rules.Fits.{value, reductLength}
+use Rattle.matching.specs.rules.Searches.{value, reductLength}
 use Rattle.matching.proofs.Matched.{instance-nil}
 use Rattle.matching.proofs.Words.{fill-symbol, fill-variable}
 use Rattle.matching.proofs.Reducts.{length-symbol, length-variable, value-length}
-use Rattle.machine.specs.declared.reducts.Contraction.{Contraction}
+use Rattle.machine.specs.declared.reducts.Instance.{Instance}
 use Rattle.machine.specs.reducts.Reduct.{side, bindings, reduct, Writable}
 
 -- the first j words of the right side, filled from ws
-abbrev filled : List ℕ → Contraction → List ℕ → ℕ → List ℕ
+abbrev filled : List ℕ → Instance → List ℕ → ℕ → List ℕ
 filled book c ws j = instance (value ws (bindings c)) (take j (side book c))
 
 -- they are written, up to the index `to`
-pub record Writing (book ws₀ : List ℕ) (c : Contraction) (at base to j : ℕ) (ws : List ℕ) : Type 0 where
+pub record Writing (book ws₀ : List ℕ) (c : Instance) (at base to j : ℕ) (ws : List ℕ) : Type 0 where
   pub inside : j ≤ c .size
   pub kept : length ws ≡ length ws₀
   pub next : to ≡ at + length (filled book c (drop base ws₀) j)
   pub left : to + reductLength (c .lengths) (drop j (side book c)) ≡ at + reductLength (c .lengths) (side book c)
   pub equal : ws ≡ over ws₀ at (filled book c (drop base ws₀) j)
 
-module _ (book ws₀ : List ℕ) (c : Contraction) (at base : ℕ) where
+module _ (book ws₀ : List ℕ) (c : Instance) (at base : ℕ) where
   pub writing-starts : Writing book ws₀ c at base at 0 ws₀
   writing-starts = record {
     inside = omega arith;
@@ -51,7 +51,7 @@ module _ (book ws₀ : List ℕ) (c : Contraction) (at base : ℕ) where
 pub record Round : Type 0 where
   pub book : List ℕ
   pub ws₀ : List ℕ
-  pub c : Contraction
+  pub c : Instance
   pub at : ℕ
   pub base : ℕ
   pub asked : Writable book ws₀ c at base
@@ -132,8 +132,8 @@ module _ (k : Round) where
     pub variable-room : k .to + n ≤ length (k .ws)
     variable-room = omega (arith, below, k .writing .kept, k .asked .based)
 
-    pub stretch-room : k .base + from + n ≤ length (k .ws)
-    stretch-room =
+    pub binding-room : k .base + from + n ≤ length (k .ws)
+    binding-room =
         let i = rw (length-drop (k .base) (k .ws₀)) at (k .asked .inside .inside (w - variable)) in
         omega (arith, k .writing .kept, k .asked .based)
 

@@ -24,7 +24,7 @@ abbrev pub countIn : List ℕ → ℕ → ℕ
 countIn ws level = getD ws (termWords + level) 0
 
 -- an area that holds nothing but a term of n words and the counts of level + 1 levels: zeros stand behind each
-pub record Laid (ws : List ℕ) (n level : ℕ) : Type 0 where
+pub record Layout (ws : List ℕ) (n level : ℕ) : Type 0 where
   pub bounded : n ≤ termWords
   pub room : level < levels
   pub total : length ws ≡ areaWords
@@ -32,7 +32,7 @@ pub record Laid (ws : List ℕ) (n level : ℕ) : Type 0 where
 
 -- a state that the machine may be in, the levels `outer` around the innermost one, of which c entries are begun:
 -- never more than 4,096 words in the term, never more than 64 levels
-pub record Going (s : System) (t outer : List ℕ) (c : ℕ) : Type 0 where
+pub record Valid (s : System) (t outer : List ℕ) (c : ℕ) : Type 0 where
   pub whole : Whole (s .arities) t
   pub bounded : length t ≤ termWords
   pub room : length outer < levels
@@ -44,14 +44,14 @@ abbrev pub Positioned : System → List ℕ → List ℕ → List ℕ → Type 0
 Positioned s t outer positions = (k : ℕ) → k ≤ length outer → getD positions k 0 ≡ position s t (take k outer) 0
 
 -- an area that holds a state
-pub record Stored (s : System) (ws : List ℕ) (n level : ℕ) : Type 0 where
-  pub going : Going s (termIn ws n) (outerIn ws level) (countIn ws level)
+pub record Represents (s : System) (ws : List ℕ) (n level : ℕ) : Type 0 where
+  pub valid : Valid s (termIn ws n) (outerIn ws level) (countIn ws level)
   pub words : length (termIn ws n) ≡ n
   pub levels : length (outerIn ws level) ≡ level
   pub equal : ws ≡ area (termIn ws n) (outerIn ws level ++ countIn ws level ∷ [])
 
 -- and the positions of its levels
-pub record Holds (s : System) (ws positions : List ℕ) (n level : ℕ) : Type 0 where
-  pub stored : Stored s ws n level
+pub record Tracks (s : System) (ws positions : List ℕ) (n level : ℕ) : Type 0 where
+  pub represents : Represents s ws n level
   pub slots : length positions ≡ levels
   pub positioned : Positioned s (termIn ws n) (outerIn ws level) positions

@@ -7,7 +7,7 @@ use lib.ListN.{length, set}
 use lib.Dec.{ltb, leb}
 use Rattle.system.specs.System.{System}
 use Rattle.rewriting.specs.Machine.{strategyAt, position}
-use Rattle.machine.specs.advance.Area.{area, termIn, outerIn, countIn, Holds}
+use Rattle.machine.specs.advance.Area.{area, termIn, outerIn, countIn, Tracks}
 use Rattle.system.specs.layout.Entries.{entryOf}
 use Rattle.system.specs.declared.layout.entries.Entry.the-variants as entry
 use Rattle.machine.specs.declared.advance.Event.{Event}
@@ -35,7 +35,7 @@ unfoldable pub transition : System → List ℕ → List ℕ → ℕ → ℕ →
 transition s t outer f c =
     elim (entryOf (strategyAt s t (position s t outer 0)) f c) [
       | entry.End ↦ end outer
-      | entry.Again ↦ repeated outer (suc c)
+      | entry.Repeated ↦ repeated outer (suc c)
       | entry.Rules ↦ rules outer (suc c)
       | entry.Argument i ↦ cond (leb 63 (length outer)) tooDeep (argument (outer ++ suc c ∷ []))
     ]
@@ -76,4 +76,4 @@ pub record Performed (s : System) (at : Innermost) (ws positions : List ℕ) (r 
   pub event : r ≡ eventOf (next s at ws)
   pub stands : ws′ ≡ area (termIn ws (at .n)) (countsAfter (countsIn at ws) (next s at ws))
   pub noted : positions′ ≡ positionsAfter s (termIn ws (at .n)) positions (next s at ws)
-  pub holds : (level : ℕ) → length (countsAfter (countsIn at ws) (next s at ws)) ≡ suc level → Holds s ws′ positions′ (at .n) level
+  pub holds : (level : ℕ) → length (countsAfter (countsIn at ws) (next s at ws)) ≡ suc level → Tracks s ws′ positions′ (at .n) level

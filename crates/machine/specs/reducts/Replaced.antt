@@ -4,8 +4,8 @@ use mathlib.Core.Path.{_≡_}
 use mathlib.Core.List.{List, _++_}
 use lib.ListN.{length, getD, take, drop}
 use Rattle.buffers.specs.Words.{part, over, zeros, pad, splice}
-use Rattle.matching.specs.rules.Fits.{reductLength, RightSide, Within}
-use Rattle.machine.specs.declared.reducts.Contraction.{Contraction}
+use Rattle.matching.specs.rules.Searches.{reductLength, RightSide, Within}
+use Rattle.machine.specs.declared.reducts.Instance.{Instance}
 use Rattle.machine.specs.declared.reducts.Subterm.{Subterm}
 use Rattle.machine.specs.reducts.Reduct.{side, reduct}
 use Rattle.system.specs.Limits.{areaWords, termWords}
@@ -30,7 +30,7 @@ pub record Room (ws : List ℕ) (n : ℕ) (u : Subterm) (size : ℕ) : Type 0 wh
   pub fits : n - u .width + size ≤ termWords
 
 -- the reduct of a contraction, of k words, comes there
-pub record Replaceable (book ws : List ℕ) (n : ℕ) (u : Subterm) (c : Contraction) (k : ℕ) : Type 0 where
+pub record Replaceable (book ws : List ℕ) (n : ℕ) (u : Subterm) (c : Instance) (k : ℕ) : Type 0 where
   pub room : Room ws n u k
   pub right : RightSide book (c .rhs) (c .size)
   pub counted : k ≡ reductLength (c .lengths) (side book c)
@@ -42,5 +42,5 @@ pub record Replaceable (book ws : List ℕ) (n : ℕ) (u : Subterm) (c : Contrac
 abbrev pub replaced : List ℕ → ℕ → Subterm → List ℕ → List ℕ
 replaced ws n u v = pad termWords (splice (take n ws) (u .position) (u .width) v) ++ over (drop termWords ws) (u .level) (zeros (u .width))
 
-abbrev pub Replaced : List ℕ → List ℕ → ℕ → Subterm → Contraction → List ℕ → Type 0
+abbrev pub Replaced : List ℕ → List ℕ → ℕ → Subterm → Instance → List ℕ → Type 0
 Replaced book ws n u c ws′ = ws′ ≡ replaced ws n u (reduct book c (subtermIn ws u))

@@ -10,39 +10,39 @@ use Rattle.system.specs.System.{System}
 use Rattle.matching.specs.declared.Match.{Match}
 use Rattle.system.specs.Book.{systemOf}
 use Rattle.system.specs.layout.Accepted.{Accepted}
-use Rattle.matching.specs.Matching.{Redex, redex}
-use Rattle.matching.specs.Stretches.{matchOf}
+use Rattle.matching.specs.Matching.{Contraction, contraction}
+use Rattle.matching.specs.Bindings.{matchOf}
 use Rattle.machine.specs.declared.reducts.Reduced.{Reduced}
 use Rattle.machine.specs.declared.reducts.Reduced.the-variants.{Done, TooLong}
 use Rattle.machine.specs.declared.reducts.Subterm.{Subterm}
 use Rattle.rewriting.specs.Machine.{position}
-use Rattle.machine.specs.advance.Area.{area, termIn, outerIn, Stored}
+use Rattle.machine.specs.advance.Area.{area, termIn, outerIn, Represents}
 use Rattle.system.specs.Limits.{termWords}
 
 -- x is the first rule that matches at the subterm, and its reduct
-abbrev pub Contracts : List ℕ → List ℕ → ℕ → Subterm → Redex → Type 0
-Contracts book ws n u x = redex (systemOf book) (drop (u .position) (termIn ws n)) ≡ some x
+abbrev pub Contracts : List ℕ → List ℕ → ℕ → Subterm → Contraction → Type 0
+Contracts book ws n u x = contraction (systemOf book) (drop (u .position) (termIn ws n)) ≡ some x
 
 -- the area holds a state; u is the subterm of its innermost level, and m the match that was found there
 pub record Reducible (book ws : List ℕ) (n : ℕ) (u : Subterm) (m : Match) : Type 0 where
   pub shape : Shape
   pub accepted : Accepted book shape
-  pub stored : Stored (systemOf book) ws n (u .level)
+  pub represents : Represents (systemOf book) ws n (u .level)
   pub place : u .position ≡ position (systemOf book) (termIn ws n) (outerIn ws (u .level)) 0
   pub match : m ≡ matchOf (systemOf book) (drop (u .position) (termIn ws n))
   pub wide : u .width ≡ span (systemOf book .arities) (drop (u .position) (termIn ws n)) 1
-  pub x : Redex
+  pub x : Contraction
   pub contracts : Contracts book ws n u x
 
 -- the term after the rewrite
-abbrev pub rewritten : System → List ℕ → ℕ → Subterm → Redex → List ℕ
+abbrev pub rewritten : System → List ℕ → ℕ → Subterm → Contraction → List ℕ
 rewritten s ws n u x = replace (s .arities) (termIn ws n) (u .position) (x .reduct)
 
 -- the answer and the area after it: how many words the term has then; or the area as it was, where they would be too many
-pub data Rewritten (s : System) (ws : List ℕ) (n : ℕ) (u : Subterm) (x : Redex) (r : Reduced) (ws′ : List ℕ) : Type 0 where
+pub data Rewritten (s : System) (ws : List ℕ) (n : ℕ) (u : Subterm) (x : Contraction) (r : Reduced) (ws′ : List ℕ) : Type 0 where
   done : length (rewritten s ws n u x) ≤ termWords → r ≡ Done (length (rewritten s ws n u x)) →
       ws′ ≡ area (rewritten s ws n u x) (outerIn ws (u .level) ++ 0 ∷ []) → Rewritten s ws n u x r ws′
   long : termWords < length (rewritten s ws n u x) → r ≡ TooLong → ws′ ≡ ws → Rewritten s ws n u x r ws′
 
 abbrev pub Rewrites : List ℕ → List ℕ → ℕ → Subterm → Reduced → List ℕ → Type 0
-Rewrites book ws n u r ws′ = (x : Redex) → Contracts book ws n u x → Rewritten (systemOf book) ws n u x r ws′
+Rewrites book ws n u r ws′ = (x : Contraction) → Contracts book ws n u x → Rewritten (systemOf book) ws n u x r ws′

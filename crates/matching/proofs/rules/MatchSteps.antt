@@ -11,8 +11,8 @@ use borrow.Author.Tests.{lt-ltb, le-ltb, eq-eqb, ne-eqb}
 use Rattle.system.specs.Limits.{variable}
 use Rattle.system.specs.Signature.{Signature, span}
 use Rattle.system.specs.System.{Rule, noRule}
-use Rattle.matching.specs.declared.Found.the-variants.{First}
-use Rattle.matching.specs.Stretches.{Stretches, unset, takes, note, stretches, nothing, matchFrom}
+use Rattle.matching.specs.declared.FirstRule.the-variants.{First}
+use Rattle.matching.specs.Bindings.{Bindings, noBindings, consumed, withBinding, bindings, noMatch, matchFrom}
 
 -- ---- what a word takes
 
@@ -21,101 +21,101 @@ pub tail : (ws : List ℕ) (q : ℕ) → take (length ws - q) (drop q ws) ≡ dr
 tail ws q = take-all (length ws - q) (drop q ws) (rw (length-drop q ws) (omega arith))
 
 module _ (g : Signature) (l : ℕ) (ws : List ℕ) where
-  pub takes-end : length ws ≡ 0 → takes g l ws ≡ 0
-  unfolding takes
-  takes-end e = go ws e
+  pub consumed-end : length ws ≡ 0 → consumed g l ws ≡ 0
+  unfolding consumed
+  consumed-end e = go ws e
     where
-      go : (ws : List ℕ) → length ws ≡ 0 → takes g l ws ≡ 0
+      go : (ws : List ℕ) → length ws ≡ 0 → consumed g l ws ≡ 0
       go [] e = refl
       go (w ∷ ws) e = absurd (omega arith)
 
   module _ (here : 0 < length ws) where
-    pub takes-variable : variable ≤ l → takes g l ws ≡ span g ws 1
-    unfolding takes
-    takes-variable h = go ws here
+    pub consumed-variable : variable ≤ l → consumed g l ws ≡ span g ws 1
+    unfolding consumed
+    consumed-variable h = go ws here
       where
-        go : (ws : List ℕ) → 0 < length ws → takes g l ws ≡ span g ws 1
+        go : (ws : List ℕ) → 0 < length ws → consumed g l ws ≡ span g ws 1
         go [] e = absurd (omega arith)
         go (w ∷ ws) e = rw (le-ltb l variable h)
 
-    pub takes-differ : l < variable → (l ≡ getD ws 0 0 → ⊥) → takes g l ws ≡ 0
-    unfolding takes
-    takes-differ h d = go ws here d
+    pub consumed-differ : l < variable → (l ≡ getD ws 0 0 → ⊥) → consumed g l ws ≡ 0
+    unfolding consumed
+    consumed-differ h d = go ws here d
       where
-        go : (ws : List ℕ) → 0 < length ws → (l ≡ getD ws 0 0 → ⊥) → takes g l ws ≡ 0
+        go : (ws : List ℕ) → 0 < length ws → (l ≡ getD ws 0 0 → ⊥) → consumed g l ws ≡ 0
         go [] e d = absurd (omega arith)
         go (w ∷ ws) e d = rw (lt-ltb l variable h, ne-eqb l w d)
 
-    pub takes-same : l < variable → l ≡ getD ws 0 0 → takes g l ws ≡ 1
-    unfolding takes
-    takes-same h d = go ws here d
+    pub consumed-same : l < variable → l ≡ getD ws 0 0 → consumed g l ws ≡ 1
+    unfolding consumed
+    consumed-same h d = go ws here d
       where
-        go : (ws : List ℕ) → 0 < length ws → l ≡ getD ws 0 0 → takes g l ws ≡ 1
+        go : (ws : List ℕ) → 0 < length ws → l ≡ getD ws 0 0 → consumed g l ws ≡ 1
         go [] e d = absurd (omega arith)
         go (w ∷ ws) e d = rw (lt-ltb l variable h, eq-eqb l w d)
 
-pub note-symbol : (l q n : ℕ) (a : Stretches) → l < variable → note l q n a ≡ a
-unfolding note
-note-symbol l q n a h = rw (lt-ltb l variable h)
+pub withBinding-symbol : (l q n : ℕ) (a : Bindings) → l < variable → withBinding l q n a ≡ a
+unfolding withBinding
+withBinding-symbol l q n a h = rw (lt-ltb l variable h)
 
-pub note-variable : (l q n : ℕ) (a : Stretches) → variable ≤ l → note l q n a ≡ record { starts = set (a .starts) (l - variable) q; lengths = set (a .lengths) (l - variable) n }
-unfolding note
-note-variable l q n a h = rw (le-ltb l variable h)
+pub withBinding-variable : (l q n : ℕ) (a : Bindings) → variable ≤ l → withBinding l q n a ≡ record { starts = set (a .starts) (l - variable) q; lengths = set (a .lengths) (l - variable) n }
+unfolding withBinding
+withBinding-variable l q n a h = rw (le-ltb l variable h)
 
 -- ---- a word of a left side
 
 module _ (g : Signature) where
-  pub cons-stop : (l : ℕ) (ls ws : List ℕ) (q : ℕ) (a : Stretches) → takes g l ws ≡ 0 → stretches g (l ∷ ls) ws q a ≡ none
-  unfolding stretches
-  cons-stop l ls ws q a e = rw (e, stretches)
+  pub cons-stop : (l : ℕ) (ls ws : List ℕ) (q : ℕ) (a : Bindings) → consumed g l ws ≡ 0 → bindings g (l ∷ ls) ws q a ≡ none
+  unfolding bindings
+  cons-stop l ls ws q a e = rw (e, bindings)
 
-  pub cons-next : (l : ℕ) (ls ws : List ℕ) (q : ℕ) (a : Stretches) (n : ℕ) → takes g l ws ≡ n → 0 < n → stretches g (l ∷ ls) ws q a ≡ stretches g ls (drop n ws) (q + n) (note l q n a)
-  unfolding stretches
+  pub cons-next : (l : ℕ) (ls ws : List ℕ) (q : ℕ) (a : Bindings) (n : ℕ) → consumed g l ws ≡ n → 0 < n → bindings g (l ∷ ls) ws q a ≡ bindings g ls (drop n ws) (q + n) (withBinding l q n a)
+  unfolding bindings
   cons-next l ls ws q a zero e h = absurd (omega arith)
-  cons-next l ls ws q a (suc n) e h = rw (e, stretches)
+  cons-next l ls ws q a (suc n) e h = rw (e, bindings)
 
-  module _ (ls t : List ℕ) (j q : ℕ) (a : Stretches) where
-    pub words-end : length ls ≤ j → stretches g (drop j ls) (drop q t) q a ≡ some a
-    unfolding stretches
+  module _ (ls t : List ℕ) (j q : ℕ) (a : Bindings) where
+    pub words-end : length ls ≤ j → bindings g (drop j ls) (drop q t) q a ≡ some a
+    unfolding bindings
     words-end h = rw (drop-of-length-le ls h)
 
-    module _ (here : j < length ls) (l : ℕ) (is : l ≡ getD ls j 0) (n : ℕ) (taken : n ≡ takes g l (drop q t)) where
-      pub words-stop : n ≡ 0 → stretches g (drop j ls) (drop q t) q a ≡ none
+    module _ (here : j < length ls) (l : ℕ) (is : l ≡ getD ls j 0) (n : ℕ) (taken : n ≡ consumed g l (drop q t)) where
+      pub words-stop : n ≡ 0 → bindings g (drop j ls) (drop q t) q a ≡ none
       words-stop z = rw (drop-cons ls j 0 here, ← is) (cons-stop l (drop (suc j) ls) (drop q t) q a (sym taken ∙ z))
 
-      pub words-next : 0 < n → stretches g (drop j ls) (drop q t) q a ≡ stretches g (drop (j + 1) ls) (drop (q + n) t) (q + n) (note l q n a)
+      pub words-next : 0 < n → bindings g (drop j ls) (drop q t) q a ≡ bindings g (drop (j + 1) ls) (drop (q + n) t) (q + n) (withBinding l q n a)
       words-next h =
           rw (drop-cons ls j 0 here, ← is, add-one j, ← drop-drop n q t) (cons-next l (drop (suc j) ls) (drop q t) q a n (sym taken) h)
 
 -- ---- a rule
 
 module _ (g : Signature) where
-  pub from-nil : (k at : ℕ) (ws : List ℕ) → matchFrom g [] k at ws ≡ nothing
+  pub from-nil : (k at : ℕ) (ws : List ℕ) → matchFrom g [] k at ws ≡ noMatch
   unfolding matchFrom
   from-nil k at ws = refl
 
-  pub from-here : (r : Rule) (rs : List Rule) (k at : ℕ) (ws : List ℕ) (a : Stretches) → stretches g (r .lhs) ws 0 unset ≡ some a →
-      matchFrom g (r ∷ rs) k at ws ≡ record { found = First k (at + 1 + length (r .lhs) + 1) (length (r .rhs)); starts = a .starts; lengths = a .lengths }
+  pub from-here : (r : Rule) (rs : List Rule) (k at : ℕ) (ws : List ℕ) (a : Bindings) → bindings g (r .lhs) ws 0 noBindings ≡ some a →
+      matchFrom g (r ∷ rs) k at ws ≡ record { rule = First k (at + 1 + length (r .lhs) + 1) (length (r .rhs)); starts = a .starts; lengths = a .lengths }
   unfolding matchFrom
   from-here r rs k at ws a e = rw (e, matchFrom)
 
-  pub from-next : (r : Rule) (rs : List Rule) (k at : ℕ) (ws : List ℕ) → stretches g (r .lhs) ws 0 unset ≡ none →
+  pub from-next : (r : Rule) (rs : List Rule) (k at : ℕ) (ws : List ℕ) → bindings g (r .lhs) ws 0 noBindings ≡ none →
       matchFrom g (r ∷ rs) k at ws ≡ matchFrom g rs (suc k) (at + 1 + length (r .lhs) + 1 + length (r .rhs)) ws
   unfolding matchFrom
   from-next r rs k at ws e = rw (e, matchFrom)
 
   module _ (rules : List Rule) (k at : ℕ) (ws : List ℕ) where
-    pub rules-end : length rules ≤ k → matchFrom g (drop k rules) k at ws ≡ nothing
+    pub rules-end : length rules ≤ k → matchFrom g (drop k rules) k at ws ≡ noMatch
     unfolding matchFrom
     rules-end h = rw (drop-of-length-le rules h)
 
     module _ (more : k < length rules) where
-      pub rules-next : stretches g (getD rules k noRule .lhs) ws 0 unset ≡ none → (at′ : ℕ) →
+      pub rules-next : bindings g (getD rules k noRule .lhs) ws 0 noBindings ≡ none → (at′ : ℕ) →
           at′ ≡ at + 1 + length (getD rules k noRule .lhs) + 1 + length (getD rules k noRule .rhs) →
           matchFrom g (drop k rules) k at ws ≡ matchFrom g (drop (k + 1) rules) (k + 1) at′ ws
       rules-next e at′ q = rw (drop-cons rules k noRule more, add-one k, q) (from-next (getD rules k noRule) (drop (suc k) rules) k at ws e)
 
-      pub rules-here : (a : Stretches) → stretches g (getD rules k noRule .lhs) ws 0 unset ≡ some a →
+      pub rules-here : (a : Bindings) → bindings g (getD rules k noRule .lhs) ws 0 noBindings ≡ some a →
           matchFrom g (drop k rules) k at ws ≡
-          record { found = First k (at + 1 + length (getD rules k noRule .lhs) + 1) (length (getD rules k noRule .rhs)); starts = a .starts; lengths = a .lengths }
+          record { rule = First k (at + 1 + length (getD rules k noRule .lhs) + 1) (length (getD rules k noRule .rhs)); starts = a .starts; lengths = a .lengths }
       rules-here a e = rw (drop-cons rules k noRule more) (from-here (getD rules k noRule) (drop (suc k) rules) k at ws a e)

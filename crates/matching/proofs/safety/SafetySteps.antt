@@ -17,14 +17,14 @@ use Rattle.system.specs.Signature.{Signature, argument, span}
 use Rattle.system.specs.System.{System, Rule, noRule, rule, head, strategy}
 use Rattle.system.specs.Answers.{signatureOf}
 use Rattle.system.proofs.Signatures.{symbol-lt, lt-symbol}
-use Rattle.system.specs.declared.layout.rules.Place.{Place}
+use Rattle.system.specs.declared.layout.rules.RuleSpan.{RuleSpan}
 use Rattle.system.specs.Book.{systemOf}
-use Rattle.system.specs.layout.Accepted.{Accepted, StrategyAt, Standing}
+use Rattle.system.specs.layout.Accepted.{Accepted, StrategyAt, SuffixAt}
 use Rattle.matching.specs.StrategyTest.{Tested, passed, failed}
 use Rattle.matching.specs.safety.Computed.{every, isVariable, idleTest, idles, closes, constructs, passes}
 use Rattle.matching.proofs.rules.MatchSteps.{tail}
 use Rattle.system.proofs.layout.Books.{Rest, Turn, rule-count, symbol-count, first-rest, signature}
-use Rattle.system.proofs.layout.Standings.{standing-strategy, standing-start, standing-next}
+use Rattle.system.proofs.layout.Suffixes.{suffix-strategy, suffix-start, suffix-next}
 use Rattle.matching.proofs.SafetyTest.{passes-sound, passes-complete}
 
 -- ---- whether an argument is a variable
@@ -74,7 +74,7 @@ module _ (test : Rule → Bool) where
   pub every-ends : {b : List ℕ} {sh : Shape} {k at : ℕ} → Accepted b sh → Passed b sh test k at → sh .rules ≤ k → every test (systemOf b .rules) ≡ true
   every-ends {b} {sh} {k} acc so h = sym (so .goes) ∙ rw (drop-of-length-le (systemOf b .rules) {i = k} (omega (arith, rule-count b sh acc))) every-nil
 
-  module _ {b : List ℕ} {sh : Shape} {k at : ℕ} {p : Place} (t : Turn b sh k at p) (so : Passed b sh test k at) where
+  module _ {b : List ℕ} {sh : Shape} {k at : ℕ} {p : RuleSpan} (t : Turn b sh k at p) (so : Passed b sh test k at) where
     pub every-fails : test (rule (systemOf b) k) ≡ false → every test (systemOf b .rules) ≡ false
     every-fails e = sym (so .goes) ∙ rw (drop-cons (systemOf b .rules) k noRule (t .more)) (every-stop (rule (systemOf b) k) (drop (suc k) (systemOf b .rules)) e)
 
@@ -102,7 +102,7 @@ unfolding idleTest
 idle-every {b} {sh} acc f i = ap (λ g. every (idleIn g f i) (systemOf b .rules)) (signature b sh acc)
 
 -- a rule by its first word
-module _ {b : List ℕ} {sh : Shape} {k at : ℕ} {p : Place} (t : Turn b sh k at p) (f : ℕ) {w : ℕ} (is : w ≡ getD b (p .lhs) 0) where
+module _ {b : List ℕ} {sh : Shape} {k at : ℕ} {p : RuleSpan} (t : Turn b sh k at p) (f : ℕ) {w : ℕ} (is : w ≡ getD b (p .lhs) 0) where
   pub head-other : (w ≡ f → ⊥) → otherHead f (rule (systemOf b) k) ≡ true
   head-other d = rw (ne-eqb (head (rule (systemOf b) k .lhs)) f (λ e. d (is ∙ t .here .head ∙ e)))
 
@@ -229,14 +229,14 @@ module _ (s : System) (f : ℕ) {r : Bool} (is : r ≡ not (constructs s f)) whe
 -- the symbols before f pass, and the strategies from its own on stand from the index `at` on
 pub record Through (b : List ℕ) (sh : Shape) (f at : ℕ) : Type 0 where
   pub inside : f ≤ sh .symbols
-  pub standing : Standing b f at
+  pub suffix : SuffixAt b f at
   pub passed : (k : ℕ) → k < f → passes (systemOf b) k ≡ true
 
 module _ {b : List ℕ} {sh : Shape} (acc : Accepted b sh) where
   pub test-starts : Through b sh 0 (sh .strategies)
   test-starts = record {
     inside = omega arith;
-    standing = standing-start b sh acc;
+    suffix = suffix-start b sh acc;
     passed = λ k h. absurd (not-suc-le-zero h);
   }
 
@@ -248,7 +248,7 @@ module _ {b : List ℕ} {sh : Shape} (acc : Accepted b sh) where
 
     module _ (more : f < sh .symbols) where
       pub test-strategy : StrategyAt b f at
-      test-strategy = standing-strategy b sh acc f at more (so .standing)
+      test-strategy = suffix-strategy b sh acc f at more (so .suffix)
 
       module _ {r : Bool} (is : r ≡ passes (systemOf b) f) where
         pub test-fails : r ≡ false → Tested (systemOf b) (record { number = 14; place = f; steps = 0 })
@@ -259,6 +259,6 @@ module _ {b : List ℕ} {sh : Shape} (acc : Accepted b sh) where
         pub test-goes : r ≡ true → {n : ℕ} → n ≡ getD b at 0 → Through b sh (f + 1) (at + 1 + n)
         test-goes e {n} q = record {
           inside = omega arith;
-          standing = standing-next b sh acc f at n more (so .standing) q;
+          suffix = suffix-next b sh acc f at n more (so .suffix) q;
           passed = λ k h. elim (ℕ-discrete k f) [ yes z ↦ rw z (sym is ∙ e) | no d ↦ so .passed k (omega arith) ];
         }

@@ -20,9 +20,6 @@ module _ (c : tie.After-struct-known) where
   ten-steps : length (decimal (c .before .before .before .args .a .steps)) ≤ 10
   ten-steps = decimal-length 9 (c .before .before .before .args .a .steps) (omega (arith, c .struct-known .given))
 
-cast-put-number : tie.Need-cast-put-number
-cast-put-number c = search needs
-
 put-number-requires : tie.Need-put-number-requires
 put-number-requires c κs = let d = ten c in omega arith
 
@@ -34,9 +31,6 @@ put-number-requires-2 c κs =
     let e = number-end (s .before .before .before .args .a .number) 32 (w .ensures) (ten s) in
     let l = written-length (w .ensures) in
     omega (arith, s .before .before .before .pre)
-
-cast-put-number-2 : tie.Need-cast-put-number-2
-cast-put-number-2 c = search needs
 
 put-number-requires-3 : tie.Need-put-number-requires-3
 put-number-requires-3 c κs =
@@ -51,9 +45,6 @@ put-number-requires-3 c κs =
     let m = written-length (p .ensures) in
     let d = ten-steps s in
     omega (arith, s .before .before .before .pre)
-
-same-length : tie.Need-same-length
-same-length c = search needs
 
 returns : tie.Need-returns
 returns c =
@@ -70,10 +61,4 @@ pub put-numbers-spec : {M : Type 1} → statement M
 put-numbers-spec =
     tie.close
     (tie.spec
-    cast-put-number
-    put-number-requires
-    put-number-requires-2
-    cast-put-number-2
-    put-number-requires-3
-    same-length
-    returns)
+    (λ c. search needs) put-number-requires put-number-requires-2 (λ c. search needs) put-number-requires-3 (λ c. search needs) returns)

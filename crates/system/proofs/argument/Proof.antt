@@ -30,32 +30,11 @@ ends c =
     let q = rw tail-length at (c .span .ensures .1) in
     omega arith
 
-check-term-requires : tie.Need-check-term-requires
-check-term-requires c κs = search needs
-
-sub-result : tie.Need-sub-result
-sub-result c = search needs
-
-part-result-start : tie.Need-part-result-start
-part-result-start c = search needs
-
-part-result-end : tie.Need-part-result-end
-part-result-end c = search needs
-
 returns : tie.Need-returns
 returns c = let a = c .before .before .before .before .before .before .args in
     let k = c .before .before .before .check-term in
     let e = argument-refused (a .book .now) (a .term .now) (a .i) (λ z. c .before .if1 .taken (ap (λ s. s .number) (k .ensures) ∙ z)) in
     (rw e, rw e)
-
-sub-result-2 : tie.Need-sub-result-2
-sub-result-2 c = search needs
-
-part-result-start-2 : tie.Need-part-result-start-2
-part-result-start-2 c = search needs
-
-part-result-end-2 : tie.Need-part-result-end-2
-part-result-end-2 c = search needs
 
 returns-2 : tie.Need-returns-2
 returns-2 c = let a = c .before .before .before .before .before .before .before .args in
@@ -64,18 +43,6 @@ returns-2 c = let a = c .before .before .before .before .before .before .before 
 
 shared-slice-read-arity : tie.Need-shared-slice-read-arity
 shared-slice-read-arity c = whole (c .before .before) .some-words
-
-arity-requires : tie.Need-arity-requires
-arity-requires c κs = search needs
-
-sub-result-3 : tie.Need-sub-result-3
-sub-result-3 c = search needs
-
-part-result-start-3 : tie.Need-part-result-start-3
-part-result-start-3 c = search needs
-
-part-result-end-3 : tie.Need-part-result-end-3
-part-result-end-3 c = search needs
 
 returns-3 : tie.Need-returns-3
 returns-3 c = let a = c .before .before .before .before .before .before .before .before .before .before .args in
@@ -89,44 +56,11 @@ sub-arguments c = whole (c .before .before .before .before) .some-words
 part-arguments-start : tie.Need-part-arguments-start
 part-arguments-start c = whole (c .before .before .before .before) .some-words
 
-part-arguments-end : tie.Need-part-arguments-end
-part-arguments-end c = search needs
-
-sub-spans : tie.Need-sub-spans
-sub-spans c = search needs
-
-spans-requires : tie.Need-spans-requires
-spans-requires c κs = search needs
-
-add-a : tie.Need-add-a
-add-a c = search needs
-
-mul-part : tie.Need-mul-part
-mul-part c = search needs
-
 sub-part : tie.Need-sub-part
 sub-part c = starts c
 
 part-part-start : tie.Need-part-part-start
 part-part-start c = starts c
-
-part-part-end : tie.Need-part-part-end
-part-part-end c = search needs
-
-span-requires : tie.Need-span-requires
-span-requires c κs = search needs
-
-add-e : tie.Need-add-e
-add-e c = search needs
-
-mul-result : tie.Need-mul-result
-mul-result c = search needs
-
-sub-result-4 : tie.Need-sub-result-4
-sub-result-4 c = search needs
-
-part-result-start-4 : tie.Need-part-result-start-4
-part-result-start-4 c = search needs
 
 part-result-end-4 : tie.Need-part-result-end-4
 part-result-end-4 c = ends c
@@ -149,35 +83,8 @@ pub argument-spec : {M : Type 1} → statement M
 argument-spec =
     tie.close
     (tie.spec
-    check-term-requires
-    sub-result
-    part-result-start
-    part-result-end
-    returns
-    sub-result-2
-    part-result-start-2
-    part-result-end-2
-    returns-2
-    shared-slice-read-arity
-    arity-requires
-    sub-result-3
-    part-result-start-3
-    part-result-end-3
-    returns-3
-    sub-arguments
-    part-arguments-start
-    part-arguments-end
-    sub-spans
-    spans-requires
-    add-a
-    mul-part
-    sub-part
-    part-part-start
-    part-part-end
-    span-requires
-    add-e
-    mul-result
-    sub-result-4
-    part-result-start-4
-    part-result-end-4
-    returns-4)
+    (λ c κs. search needs) (λ c. search needs) (λ c. search needs) (λ c. search needs) returns (λ c. search needs) (λ c. search needs)
+    (λ c. search needs) returns-2 shared-slice-read-arity (λ c κs. search needs) (λ c. search needs) (λ c. search needs)
+    (λ c. search needs) returns-3 sub-arguments part-arguments-start (λ c. search needs) (λ c. search needs) (λ c κs. search needs)
+    (λ c. search needs) (λ c. search needs) sub-part part-part-start (λ c. search needs) (λ c κs. search needs) (λ c. search needs)
+    (λ c. search needs) (λ c. search needs) (λ c. search needs) part-result-end-4 returns-4)

@@ -8,24 +8,24 @@ use lib.Seq.{getD-take, getD-drop}
 use Rattle.system.specs.declared.Shape.{Shape}
 use Rattle.system.specs.Limits.{variable, variables}
 use Rattle.system.specs.System.{System, rule}
-use Rattle.system.specs.Terms.{Lawful, WellFormed}
+use Rattle.system.specs.Terms.{WellFormedRule, WellFormed}
 use Rattle.system.specs.Format.{encodeStrategies, encodeRules}
 use Rattle.system.specs.Parser.{ok}
 use Rattle.system.specs.Answers.{signatureOf, shapeOf}
 use Rattle.system.proofs.Accepts.{read-sound, forest-some}
-use Rattle.system.proofs.Members.{stands-getD, numbered-below}
+use Rattle.system.proofs.Members.{member-getD, numbered-below}
 use Rattle.system.proofs.Located.{Located, located, read-signature, RuleAt, rule-at}
-use Rattle.system.specs.declared.layout.rules.Place.{Place}
+use Rattle.system.specs.declared.layout.rules.RuleSpan.{RuleSpan}
 use Rattle.system.specs.Book.{systemOf}
 use Rattle.system.specs.layout.Accepted.{Accepted}
-use Rattle.system.specs.layout.Rules.{after, placeOf}
+use Rattle.system.specs.layout.Rules.{ruleEnd, ruleSpan}
 
 -- the rules from number k on stand from the index `at` on
 pub record Rest (b : List ℕ) (k at : ℕ) : Type 0 where
   pub words : drop at b ≡ encodeRules (drop k (systemOf b .rules))
 
 -- rule number k stands at p
-pub record Here (b : List ℕ) (k at : ℕ) (p : Place) : Type 0 where
+pub record Here (b : List ℕ) (k at : ℕ) (p : RuleSpan) : Type 0 where
   pub width : p .width ≡ length (rule (systemOf b) k .lhs)
   pub size : p .size ≡ length (rule (systemOf b) k .rhs)
   pub left : p .lhs ≡ at + 1
@@ -40,14 +40,14 @@ pub record Here (b : List ℕ) (k at : ℕ) (p : Place) : Type 0 where
   pub word : (j : ℕ) → j < p .width → getD b (p .lhs + j) 0 ≡ getD (rule (systemOf b) k .lhs) j 0
   pub head : getD b (p .lhs) 0 ≡ getD (rule (systemOf b) k .lhs) 0 0
   pub low : (j : ℕ) → j < p .width → getD b (p .lhs + j) 0 < variable + variables
-  pub law : Lawful (signatureOf b) (rule (systemOf b) k)
+  pub law : WellFormedRule (signatureOf b) (rule (systemOf b) k)
   -- the rules after it
   pub rest : Rest b (k + 1) (p .next)
 
 -- a rule from its two lengths
 pub place-made : (b : List ℕ) (at width size : ℕ) → width ≡ getD b at 0 → size ≡ getD b (at + 1 + width) 0 →
-    record { lhs = at + 1; width = width; rhs = at + 1 + width + 1; size = size; next = at + 1 + width + 1 + size } ≡ placeOf b at
-unfolding placeOf
+    record { lhs = at + 1; width = width; rhs = at + 1 + width + 1; size = size; next = at + 1 + width + 1 + size } ≡ ruleSpan b at
+unfolding ruleSpan
 place-made b at width size e d = rw (d, e)
 
 module _ (b : List ℕ) (sh : Shape) (acc : Accepted b sh) where
@@ -81,12 +81,12 @@ module _ (b : List ℕ) (sh : Shape) (acc : Accepted b sh) where
   pub strategy-index : sh .strategies ≡ length (s .arities) + 2
   strategy-index = ap (λ y. y .strategies) shape
 
-  pub lawful : (k : ℕ) → k < sh .rules → Lawful (signatureOf b) (rule s k)
-  lawful k h = rw signature at (well .lawful k (rw rule-count at h))
+  pub wellFormedRules : (k : ℕ) → k < sh .rules → WellFormedRule (signatureOf b) (rule s k)
+  wellFormedRules k h = rw signature at (well .wellFormedRules k (rw rule-count at h))
 
 -- ---- a turn of a loop over the rules: rule number k of an accepted book stands at p
 
-pub record Turn (b : List ℕ) (sh : Shape) (k at : ℕ) (p : Place) : Type 0 where
+pub record Turn (b : List ℕ) (sh : Shape) (k at : ℕ) (p : RuleSpan) : Type 0 where
   pub accepted : Accepted b sh
   pub more : k < length (systemOf b .rules)
   pub inside : k < sh .rules
@@ -99,14 +99,14 @@ module _ {b : List ℕ} {sh : Shape} (acc : Accepted b sh) {k at : ℕ} (more : 
   stands : RuleAt b at (rule (systemOf b) k) (drop (k + 1) (systemOf b .rules))
   stands = rule-at b at k (systemOf b .rules) within (rest .words)
 
-  pub room : after b at ≤ length b
+  pub room : ruleEnd b at ≤ length b
   room = let w = stands in rw (w .left-length, w .right-length) (w .fits)
 
-  here : (p : Place) → p ≡ placeOf b at → Here b k at p
-  unfolding placeOf
+  here : (p : RuleSpan) → p ≡ ruleSpan b at → Here b k at p
+  unfolding ruleSpan
   here p e =
       let w = stands in
-      let l = lawful b sh acc k more in
+      let l = wellFormedRules b sh acc k more in
       let r = rule (systemOf b) k in
       let el : p .lhs ≡ at + 1 = ap (λ y. y .lhs) e in
       let ew : p .width ≡ length (r .lhs) = ap (λ y. y .width) e ∙ w .left-length in
@@ -129,10 +129,10 @@ module _ {b : List ℕ} {sh : Shape} (acc : Accepted b sh) {k at : ℕ} (more : 
         words = (let z : at + 1 + length (r .lhs) - (at + 1) ≡ length (r .lhs) = omega arith in rw (el, ew, z) (w .left-words));
         word = word;
         head = (let z : p .lhs + 0 ≡ p .lhs = omega arith in rw z at (word 0 some));
-        low = λ j h. let n = numbered-below (l .numbered) (stands-getD (r .lhs) j (omega arith)) in omega (arith, word j h);
+        low = λ j h. let n = numbered-below (l .numbered) (member-getD (r .lhs) j (omega arith)) in omega (arith, word j h);
         law = l;
         rest = record { words = rw en (w .rests) };
       }
 
-  pub turn-of : {p : Place} → p ≡ placeOf b at → Turn b sh k at p
+  pub turn-of : {p : RuleSpan} → p ≡ ruleSpan b at → Turn b sh k at p
   turn-of {p} e = record { accepted = acc; more = within; inside = more; here = here p e }

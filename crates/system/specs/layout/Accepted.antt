@@ -21,10 +21,10 @@ pub record StrategyAt (ws : List ℕ) (f at : ℕ) : Type 0 where
   pub entries : take (getD ws at 0) (drop (at + 1) ws) ≡ strategy (systemOf ws) f
 
 -- the last words of a book: the strategies of symbol k and of those after it, then the rules
-abbrev pub wordsFrom : System → ℕ → List ℕ
-wordsFrom s k = encodeStrategies (drop k (s .strategies)) ++ (length (s .rules) ∷ encodeRules (s .rules))
+abbrev pub suffixFrom : System → ℕ → List ℕ
+suffixFrom s k = encodeStrategies (drop k (s .strategies)) ++ (length (s .rules) ∷ encodeRules (s .rules))
 
 -- the strategy of symbol k stands at the index `at`, and what has to follow it does. (That its own words stand there would not do:
 -- other places in the book may hold the same words, and the next strategy would not be found from there.)
-pub record Standing (ws : List ℕ) (k at : ℕ) : Type 0 where
-  pub words : drop at ws ≡ wordsFrom (systemOf ws) k
+pub record SuffixAt (ws : List ℕ) (k at : ℕ) : Type 0 where
+  pub words : drop at ws ≡ suffixFrom (systemOf ws) k

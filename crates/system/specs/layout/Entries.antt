@@ -5,7 +5,7 @@ use mathlib.Core.List.{List, [], _∷_}
 use lib.ListN.{length, getD, take, drop}
 use lib.Dec.{ltb, eqb}
 use Rattle.system.specs.declared.layout.entries.Entry.{Entry}
-use Rattle.system.specs.declared.layout.entries.Entry.the-variants.{End, Again, Rules, Argument}
+use Rattle.system.specs.declared.layout.entries.Entry.the-variants.{End, Repeated, Rules, Argument}
 
 -- what entry c of a strategy asks for: "Entry 0 means try the rules here; entry i means evaluate argument i (from 1)"
 abbrev pub entryFrom : ℕ → Entry
@@ -26,5 +26,5 @@ unfoldable pub entryOf : List ℕ → ℕ → ℕ → Entry
 entryOf es f c =
     elim (ltb c (length es)) [
       | false ↦ End
-      | true ↦ elim (among (getD es c 0) (between es f c)) [ true ↦ Again | false ↦ entryFrom (getD es c 0) ]
+      | true ↦ elim (among (getD es c 0) (between es f c)) [ true ↦ Repeated | false ↦ entryFrom (getD es c 0) ]
     ]

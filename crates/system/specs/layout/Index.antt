@@ -4,7 +4,7 @@ use mathlib.Core.Path.{_≡_}
 use mathlib.Core.List.{List}
 use lib.ListN.{length, getD}
 use Rattle.system.specs.declared.Shape.{Shape}
-use Rattle.system.specs.layout.Accepted.{Standing}
+use Rattle.system.specs.layout.Accepted.{SuffixAt}
 
 -- every fourth symbol has a mark; a book has at most 256 symbols, so 64 marks are enough
 abbrev pub stride : ℕ
@@ -14,6 +14,6 @@ abbrev pub markCount : ℕ
 markCount = 64
 
 -- mark j is where the strategy of symbol 4 * j stands
-pub record Marked (ws : List ℕ) (shape : Shape) (marks : List ℕ) : Type 0 where
-  pub slots : length marks ≡ markCount
-  pub standing : (j : ℕ) → stride * j < shape .symbols → Standing ws (stride * j) (getD marks j 0)
+pub record Indexed (ws : List ℕ) (shape : Shape) (index : List ℕ) : Type 0 where
+  pub slots : length index ≡ markCount
+  pub suffix : (j : ℕ) → stride * j < shape .symbols → SuffixAt ws (stride * j) (getD index j 0)

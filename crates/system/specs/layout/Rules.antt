@@ -2,15 +2,15 @@
 use Prim.Native.Nat.{ℕ, _+_}
 use mathlib.Core.List.{List}
 use lib.ListN.{getD}
-use Rattle.system.specs.declared.layout.rules.Place.{Place}
+use Rattle.system.specs.declared.layout.rules.RuleSpan.{RuleSpan}
 
 -- the index of the second length, and the index after the rule
-abbrev pub second : List ℕ → ℕ → ℕ
-second ws at = at + 1 + getD ws at 0
+abbrev pub rightLength : List ℕ → ℕ → ℕ
+rightLength ws at = at + 1 + getD ws at 0
 
-abbrev pub after : List ℕ → ℕ → ℕ
-after ws at = second ws at + 1 + getD ws (second ws at) 0
+abbrev pub ruleEnd : List ℕ → ℕ → ℕ
+ruleEnd ws at = rightLength ws at + 1 + getD ws (rightLength ws at) 0
 
 -- the rule whose first length stands at `at`
-unfoldable pub placeOf : List ℕ → ℕ → Place
-placeOf ws at = record { lhs = at + 1; width = getD ws at 0; rhs = second ws at + 1; size = getD ws (second ws at) 0; next = after ws at }
+unfoldable pub ruleSpan : List ℕ → ℕ → RuleSpan
+ruleSpan ws at = record { lhs = at + 1; width = getD ws at 0; rhs = rightLength ws at + 1; size = getD ws (rightLength ws at) 0; next = ruleEnd ws at }

@@ -5,7 +5,7 @@ ghost use lib.ListN.{length, getD, drop};
 ghost use Rattle.system.specs.System.{strategy};
 ghost use Rattle.system.specs.Book.{systemOf};
 ghost use Rattle.system.specs.layout.Accepted.{Accepted};
-ghost use Rattle.system.specs.layout.Index.{Marked};
+ghost use Rattle.system.specs.layout.Index.{Indexed};
 ghost use Rattle.system.specs.layout.Entries.{entryOf, among, between};
 use crate::Shape;
 use crate::layout::index::strategy_at;
@@ -15,7 +15,7 @@ use crate::words::wide;
 // evaluated which has this many others before it.
 pub enum Entry {
     End,
-    Again,
+    Repeated,
     Rules,
     Argument(usize),
 }
@@ -37,20 +37,20 @@ fn stood_before(book: &[u16], at: usize, f: usize, c: usize) -> bool
 }
 
 // Entry c of the strategy of w, of which f entries were begun before the present run of turns.
-pub fn entry_of(book: &[u16], shape: Shape, marks: &[usize], w: u16, f: usize, c: usize) -> Entry
-    requires { ⌜ Accepted (now book) shape × Marked (now book) shape (now marks) ⌝ }
+pub fn entry_of(book: &[u16], shape: Shape, index: &[usize], w: u16, f: usize, c: usize) -> Entry
+    requires { ⌜ Accepted (now book) shape × Indexed (now book) shape (now index) ⌝ }
     ensures { λ r. ⌜ r ≡ entryOf (strategy (systemOf (now (book .entry))) w) f c ⌝ }
 {
     let symbol = wide(w);
     if shape.symbols <= symbol {
         return Entry::End;
     }
-    let at = strategy_at(book, shape, marks, symbol);
+    let at = strategy_at(book, shape, index, symbol);
     if wide(book[at]) <= c {
         return Entry::End;
     }
     if stood_before(book, at, f, c) {
-        return Entry::Again;
+        return Entry::Repeated;
     }
     let e = wide(book[at + 1 + c]);
     if e == 0 {

@@ -2,8 +2,8 @@
 ghost use mathlib.Core.Path.{_≡_};
 ghost use Prim.Native.Nat.{_≤_, _<_};
 ghost use lib.ListN.{length};
-ghost use Rattle.system.specs.layout.Accepted.{Accepted, StrategyAt, Standing};
-ghost use Rattle.system.specs.layout.Index.{markCount, Marked};
+ghost use Rattle.system.specs.layout.Accepted.{Accepted, StrategyAt, SuffixAt};
+ghost use Rattle.system.specs.layout.Index.{markCount, Indexed};
 use crate::Shape;
 use crate::words::wide;
 
@@ -14,8 +14,8 @@ pub const MARKS: usize = 64;
 
 // The index at which the strategy of symbol f stands in the book, found from that of the symbol `first`.
 fn walk_on(book: &[u16], shape: Shape, start: usize, first: usize, f: usize) -> usize
-    requires { ⌜ Accepted (now book) shape × Standing (now book) first start × (first ≤ f) × (f < shape .symbols) ⌝ }
-    ensures { λ r. ⌜ Standing (now (book .entry)) f r ⌝ }
+    requires { ⌜ Accepted (now book) shape × SuffixAt (now book) first start × (first ≤ f) × (f < shape .symbols) ⌝ }
+    ensures { λ r. ⌜ SuffixAt (now (book .entry)) f r ⌝ }
 {
     let mut at = start;
     let mut k = first;
@@ -27,24 +27,24 @@ fn walk_on(book: &[u16], shape: Shape, start: usize, first: usize, f: usize) -> 
 }
 
 // Marks the strategies of every fourth symbol.
-pub fn mark(book: &[u16], shape: Shape, marks: &mut [usize])
-    requires { ⌜ Accepted (now book) shape × (length (now marks) ≡ markCount) ⌝ }
-    ensures { λ _. ⌜ Marked (now (book .entry)) shape (now (marks .exit)) ⌝ }
+pub fn build_index(book: &[u16], shape: Shape, index: &mut [usize])
+    requires { ⌜ Accepted (now book) shape × (length (now index) ≡ markCount) ⌝ }
+    ensures { λ _. ⌜ Indexed (now (book .entry)) shape (now (index .exit)) ⌝ }
 {
-    marks[0] = shape.strategies;
+    index[0] = shape.strategies;
     let mut j = 1;
     while STRIDE * j < shape.symbols {
-        marks[j] = walk_on(book, shape, marks[j - 1], STRIDE * (j - 1), STRIDE * j);
+        index[j] = walk_on(book, shape, index[j - 1], STRIDE * (j - 1), STRIDE * j);
         j += 1;
     }
 }
 
 // The index at which the strategy of symbol f stands in the book: its length, and its entries after it. From its mark at most three
 // strategies are walked over.
-pub fn strategy_at(book: &[u16], shape: Shape, marks: &[usize], f: usize) -> usize
-    requires { ⌜ Accepted (now book) shape × Marked (now book) shape (now marks) × (f < shape .symbols) ⌝ }
+pub fn strategy_at(book: &[u16], shape: Shape, index: &[usize], f: usize) -> usize
+    requires { ⌜ Accepted (now book) shape × Indexed (now book) shape (now index) × (f < shape .symbols) ⌝ }
     ensures { λ r. ⌜ StrategyAt (now (book .entry)) f r ⌝ }
 {
     let j = f / STRIDE;
-    walk_on(book, shape, marks[j], STRIDE * j, f)
+    walk_on(book, shape, index[j], STRIDE * j, f)
 }

@@ -2,11 +2,11 @@
 ghost use mathlib.Core.Path.{_≡_};
 ghost use Prim.Native.Nat.{_≤_};
 ghost use lib.ListN.{length};
-ghost use Rattle.system.specs.layout.Rules.{placeOf, after};
+ghost use Rattle.system.specs.layout.Rules.{ruleSpan, ruleEnd};
 use crate::words::wide;
 
 // A rule in the book: the index of the first word of each side, how many words each side has, and the index after the rule.
-pub struct Place {
+pub struct RuleSpan {
     pub lhs: usize,
     pub width: usize,
     pub rhs: usize,
@@ -15,16 +15,16 @@ pub struct Place {
 }
 
 // The rule whose first length stands at `at`.
-pub fn rule_at(book: &[u16], at: usize) -> Place
-    requires { ⌜ after (now book) at ≤ length (now book) ⌝ }
-    ensures { λ r. ⌜ r ≡ placeOf (now (book .entry)) at ⌝ }
+pub fn rule_at(book: &[u16], at: usize) -> RuleSpan
+    requires { ⌜ ruleEnd (now book) at ≤ length (now book) ⌝ }
+    ensures { λ r. ⌜ r ≡ ruleSpan (now (book .entry)) at ⌝ }
 {
     let lhs = at + 1;
     let width = wide(book[at]);
     let second = lhs + width;
     let size = wide(book[second]);
     let rhs = second + 1;
-    Place {
+    RuleSpan {
         lhs: lhs,
         width: width,
         rhs: rhs,

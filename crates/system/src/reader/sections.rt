@@ -16,7 +16,7 @@ use crate::numbers::TRAILING;
 use crate::reader::numbers::Section;
 use crate::reader::numbers::check;
 use crate::reader::numbers::read_numbers;
-use crate::reader::sides::Hand;
+use crate::reader::sides::SideRole;
 use crate::reader::sides::read_side;
 use crate::words::symbols;
 use crate::words::wide;
@@ -73,14 +73,14 @@ fn read_rule(book: &[u16], at: usize) -> Section
     ensures { λ r. ⌜ r ≡ sectionOf (readRule (now (book .entry)) (signatureOf (now (book .entry))) at) ⌝ }
     ensures within { λ r. ⌜ r .place ≤ length (now (book .entry)) ⌝ }
 {
-    let l = read_side(book, at, Hand::Left, 0);
+    let l = read_side(book, at, SideRole::Left, 0);
     if l.number != TAKEN {
         return Section {
             number: l.number,
             place: l.place,
         };
     }
-    let r = read_side(book, l.place, Hand::Right, l.known);
+    let r = read_side(book, l.place, SideRole::Right, l.known);
     Section {
         number: r.number,
         place: r.place,

@@ -23,7 +23,7 @@ use crate::words::is_symbol;
 use crate::words::wide;
 
 // Which side of a rule is read.
-pub enum Hand {
+pub enum SideRole {
     Left,
     Right,
 }
@@ -36,11 +36,11 @@ pub struct Side {
 }
 
 // What is wrong with variable k of a side, where `known` are known: 0, 6 or 7.
-fn variable_fault(hand: Hand, first: bool, known: usize, k: usize) -> u32
-    ensures { λ r. ⌜ r ≡ numberOr0 (variableFault hand first known k) ⌝ }
+fn variable_fault(role: SideRole, first: bool, known: usize, k: usize) -> u32
+    ensures { λ r. ⌜ r ≡ numberOr0 (variableFault role first known k) ⌝ }
 {
-    match hand {
-        Hand::Left => {
+    match role {
+        SideRole::Left => {
             if first {
                 return VARIABLE_HEAD;
             }
@@ -49,7 +49,7 @@ fn variable_fault(hand: Hand, first: bool, known: usize, k: usize) -> u32
             }
             UNBOUND
         }
-        Hand::Right => {
+        SideRole::Right => {
             if k < known {
                 return 0;
             }
@@ -59,8 +59,8 @@ fn variable_fault(hand: Hand, first: bool, known: usize, k: usize) -> u32
 }
 
 // What is wrong with word w of a side, where `due` subterms are still to come: 0, 5, 4, 6 or 7, checked in this order.
-fn side_fault(book: &[u16], hand: Hand, first: bool, due: usize, known: usize, w: u16) -> u32
-    ensures { λ r. ⌜ r ≡ numberOr0 (sideFault (signatureOf (now (book .entry))) hand first due known w) ⌝ }
+fn side_fault(book: &[u16], role: SideRole, first: bool, due: usize, known: usize, w: u16) -> u32
+    ensures { λ r. ⌜ r ≡ numberOr0 (sideFault (signatureOf (now (book .entry))) role first due known w) ⌝ }
 {
     if due == 0 {
         return UNBALANCED;
@@ -75,29 +75,29 @@ fn side_fault(book: &[u16], hand: Hand, first: bool, due: usize, known: usize, w
     if PAST_VARIABLES <= x {
         return UNKNOWN;
     }
-    variable_fault(hand, first, known, x - VARIABLE)
+    variable_fault(role, first, known, x - VARIABLE)
 }
 
 // How many variables are known after word w.
-fn learn(hand: Hand, known: usize, w: u16) -> usize
+fn learn(role: SideRole, known: usize, w: u16) -> usize
     requires { ⌜ known ≤ 65535 ⌝ }
-    ensures { λ r. ⌜ (r ≡ learn hand known w) × (r ≤ known + 1) ⌝ }
+    ensures { λ r. ⌜ (r ≡ learn role known w) × (r ≤ known + 1) ⌝ }
 {
-    match hand {
-        Hand::Left => {
+    match role {
+        SideRole::Left => {
             if VARIABLE <= w as usize {
                 return known + 1;
             }
             known
         }
-        Hand::Right => known,
+        SideRole::Right => known,
     }
 }
 
 // The n words of a side, which are one term.
-fn read_words(book: &[u16], at: usize, n: usize, hand: Hand, known: usize) -> Side
+fn read_words(book: &[u16], at: usize, n: usize, role: SideRole, known: usize) -> Side
     requires { ⌜ (at ≤ length (now book)) × (n ≤ sideWords) × (known ≤ sideWords) ⌝ }
-    ensures { λ r. ⌜ r ≡ sideOf (readWords (now (book .entry)) (signatureOf (now (book .entry))) hand true n 1 known at) ⌝ }
+    ensures { λ r. ⌜ r ≡ sideOf (readWords (now (book .entry)) (signatureOf (now (book .entry))) role true n 1 known at) ⌝ }
     ensures within { λ r. ⌜ (r .place ≤ length (now (book .entry))) × (r .known ≤ known + sideWords) ⌝ }
 {
     let mut due: usize = 1;
@@ -113,7 +113,7 @@ fn read_words(book: &[u16], at: usize, n: usize, hand: Hand, known: usize) -> Si
             };
         }
         let w = book[i];
-        let f = side_fault(book, hand, j == 0, due, seen, w);
+        let f = side_fault(book, role, j == 0, due, seen, w);
         if f != TAKEN {
             return Side {
                 number: f,
@@ -122,7 +122,7 @@ fn read_words(book: &[u16], at: usize, n: usize, hand: Hand, known: usize) -> Si
             };
         }
         due = due - 1 + arity(book, w);
-        seen = learn(hand, seen, w);
+        seen = learn(role, seen, w);
         j += 1;
     }
     if due != 0 {
@@ -140,9 +140,9 @@ fn read_words(book: &[u16], at: usize, n: usize, hand: Hand, known: usize) -> Si
 }
 
 // A side: a length 1 to 64 and that many words.
-pub fn read_side(book: &[u16], at: usize, hand: Hand, known: usize) -> Side
+pub fn read_side(book: &[u16], at: usize, role: SideRole, known: usize) -> Side
     requires { ⌜ (at ≤ length (now book)) × (known ≤ sideWords) ⌝ }
-    ensures { λ r. ⌜ r ≡ sideOf (readSide (now (book .entry)) (signatureOf (now (book .entry))) hand known at) ⌝ }
+    ensures { λ r. ⌜ r ≡ sideOf (readSide (now (book .entry)) (signatureOf (now (book .entry))) role known at) ⌝ }
     ensures within { λ r. ⌜ (r .place ≤ length (now (book .entry))) × (r .known ≤ known + sideWords) ⌝ }
 {
     let f = check(book, at, 1, SIDE_WORDS, RANGE);
@@ -153,5 +153,5 @@ pub fn read_side(book: &[u16], at: usize, hand: Hand, known: usize) -> Side
             known: 0,
         };
     }
-    read_words(book, at + 1, wide(book[at]), hand, known)
+    read_words(book, at + 1, wide(book[at]), role, known)
 }

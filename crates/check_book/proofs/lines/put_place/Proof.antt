@@ -13,9 +13,6 @@ use Rattle.check_book.proofs.lines.put_place.Tie as tie
 digits : (c : tie.Start) → length (decimal (c .args .place)) ≤ 20
 digits c = twenty (c .args .place) (omega (arith, c .fits))
 
-put-requires : tie.Need-put-requires
-put-requires c κs = search needs
-
 put-decimal-requires : tie.Need-put-decimal-requires
 put-decimal-requires c κs =
     let p = c .before .before .before in
@@ -23,9 +20,6 @@ put-decimal-requires c κs =
     let d = digits s in
     let l = written-length (p .put .ensures) in
     omega (arith, p .put .ensures .ends, s .pre)
-
-slice-aggregate-put : tie.Need-slice-aggregate-put
-slice-aggregate-put c = search needs
 
 put-requires-2 : tie.Need-put-requires-2
 put-requires-2 c κs =
@@ -49,9 +43,6 @@ put-line-requires c κs =
     let o = written-length (k .put2 .ensures) in
     omega (arith, p .put .ensures .ends, n .put-decimal .ensures .ends, k .put2 .ensures .ends, s .pre)
 
-same-length : tie.Need-same-length
-same-length c = search needs
-
 returns : tie.Need-returns
 unfolding placed
 returns c =
@@ -63,12 +54,4 @@ returns c =
 
 pub put-place-spec : {M : Type 1} → statement M
 put-place-spec =
-    tie.close
-    (tie.spec
-    put-requires
-    put-decimal-requires
-    slice-aggregate-put
-    put-requires-2
-    put-line-requires
-    same-length
-    returns)
+    tie.close (tie.spec (λ c κs. search needs) put-decimal-requires (λ c. search needs) put-requires-2 put-line-requires (λ c. search needs) returns)

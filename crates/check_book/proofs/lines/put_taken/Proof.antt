@@ -14,12 +14,6 @@ use Rattle.check_book.proofs.lines.put_taken.Tie as tie
 digits : (c : tie.Start) → length (decimal (c .args .n)) ≤ 20
 digits c = twenty (c .args .n) (omega (arith, c .fits))
 
-slice-aggregate-put : tie.Need-slice-aggregate-put
-slice-aggregate-put c = search needs
-
-put-requires : tie.Need-put-requires
-put-requires c κs = search needs
-
 put-decimal-requires : tie.Need-put-decimal-requires
 put-decimal-requires c κs =
     let p = c .before .before .before in
@@ -27,9 +21,6 @@ put-decimal-requires c κs =
     let d = digits s in
     let l = written-length (p .put .ensures) in
     omega (arith, p .put .ensures .ends, s .pre)
-
-slice-aggregate-put-line : tie.Need-slice-aggregate-put-line
-slice-aggregate-put-line c = search needs
 
 put-line-requires : tie.Need-put-line-requires
 put-line-requires c κs =
@@ -40,9 +31,6 @@ put-line-requires c κs =
     let l = written-length (p .put .ensures) in
     let m = written-length (n .put-decimal .ensures) in
     omega (arith, p .put .ensures .ends, n .put-decimal .ensures .ends, s .pre)
-
-same-length : tie.Need-same-length
-same-length c = search needs
 
 returns : tie.Need-returns
 unfolding takenLine
@@ -59,10 +47,4 @@ pub put-taken-spec : {M : Type 1} → statement M
 put-taken-spec =
     tie.close
     (tie.spec
-    slice-aggregate-put
-    put-requires
-    put-decimal-requires
-    slice-aggregate-put-line
-    put-line-requires
-    same-length
-    returns)
+    (λ c. search needs) (λ c κs. search needs) put-decimal-requires (λ c. search needs) put-line-requires (λ c. search needs) returns)

@@ -10,27 +10,9 @@ book-loaded c =
     let s = c .before .before .before .before in
     loaded (s .args .book .now) _ (c .load .last .1 .0) (c .load .result) (s .pre .0) (c .load .ensures .0) (c .load .ensures .1)
 
-slice-aggregate-load : tie.Need-slice-aggregate-load
-slice-aggregate-load c = search needs
-
-load-requires : tie.Need-load-requires
-load-requires c κs = search needs
-
-sub-check-words : tie.Need-sub-check-words
-sub-check-words c = search needs
-
-part-check-words-start : tie.Need-part-check-words-start
-part-check-words-start c = search needs
-
 part-check-words-end : tie.Need-part-check-words-end
 part-check-words-end c =
     book-loaded (c .before .before) .fits
-
-check-words-requires : tie.Need-check-words-requires
-check-words-requires c κs = search needs
-
-same-length : tie.Need-same-length
-same-length c = search needs
 
 returns : tie.Need-returns
 returns c =
@@ -41,11 +23,5 @@ pub check-file-spec : {M : Type 1} → statement M
 check-file-spec =
     tie.close
     (tie.spec
-    slice-aggregate-load
-    load-requires
-    sub-check-words
-    part-check-words-start
-    part-check-words-end
-    check-words-requires
-    same-length
-    returns)
+    (λ c. search needs) (λ c κs. search needs) (λ c. search needs) (λ c. search needs) part-check-words-end (λ c κs. search needs)
+    (λ c. search needs) returns)

@@ -4,15 +4,6 @@ use Rattle.check_book.proofs.report.Telling.{told-refused, told-taken}
 use Rattle.check_book.proofs.report.check_words.Statement.{statement}
 use Rattle.check_book.proofs.report.check_words.Tie as tie
 
-read-requires : tie.Need-read-requires
-read-requires c κs = search needs
-
-put-fault-requires : tie.Need-put-fault-requires
-put-fault-requires c κs = search needs
-
-same-length : tie.Need-same-length
-same-length c = search needs
-
 returns : tie.Need-returns
 returns c =
     let w = c .before .before in
@@ -20,18 +11,6 @@ returns c =
     let r = f .before .before in
     let s = r .before .before .before in
     told-refused (s .args .book .now) (r .read .result) (r .read .ensures) (f .if1 .taken) (w .put-fault .ensures)
-
-put-taken-requires : tie.Need-put-taken-requires
-put-taken-requires c κs = search needs
-
-test-strategies-requires : tie.Need-test-strategies-requires
-test-strategies-requires c κs = search needs
-
-put-order-requires : tie.Need-put-order-requires
-put-order-requires c κs = search needs
-
-same-length-2 : tie.Need-same-length-2
-same-length-2 c = search needs
 
 returns-2 : tie.Need-returns-2
 returns-2 c =
@@ -48,12 +27,5 @@ pub check-words-spec : {M : Type 1} → statement M
 check-words-spec =
     tie.close
     (tie.spec
-    read-requires
-    put-fault-requires
-    same-length
-    returns
-    put-taken-requires
-    test-strategies-requires
-    put-order-requires
-    same-length-2
-    returns-2)
+    (λ c κs. search needs) (λ c κs. search needs) (λ c. search needs) returns (λ c κs. search needs) (λ c κs. search needs)
+    (λ c κs. search needs) (λ c. search needs) returns-2)

@@ -19,12 +19,6 @@ returns c =
     let a = c .before .before .before .args in
     by-room (a .there) (a .book .now) (a .text .now) (c .if1 .taken)
 
-refuse-requires : tie.Need-refuse-requires
-refuse-requires c κs = search needs
-
-same-length : tie.Need-same-length
-same-length c = search needs
-
 returns-2 : tie.Need-returns-2
 returns-2 c =
     let r = c .before .before .before in
@@ -38,9 +32,6 @@ check-file-requires c κs =
     let e = b .before .before .before .before .before in
     (book b .small, rw (book b .same) (e .if1 .left))
 
-same-length-2 : tie.Need-same-length-2
-same-length-2 c = search needs
-
 returns-3 : tie.Need-returns-3
 returns-3 c =
     let w = c .before .before in
@@ -51,12 +42,4 @@ returns-3 c =
 
 pub verdict-spec : {M : Type 1} → statement M
 verdict-spec =
-    tie.close
-    (tie.spec
-    returns
-    refuse-requires
-    same-length
-    returns-2
-    check-file-requires
-    same-length-2
-    returns-3)
+    tie.close (tie.spec returns (λ c κs. search needs) (λ c. search needs) returns-2 check-file-requires (λ c. search needs) returns-3)

@@ -4,21 +4,9 @@ use mathlib.Core.Path.{ap, _∙_}
 use borrow.Author.Needs.{needs}
 use Rattle.buffers.specs.Words.{over, zeros}
 use Rattle.system.specs.Limits.{termWords}
-use Rattle.evaluation.proofs.run.Cleared.{laid-cleared}
+use Rattle.evaluation.proofs.run.Cleared.{layout-cleared}
 use Rattle.evaluation.proofs.run.clear_state.Statement.{statement}
 use Rattle.evaluation.proofs.run.clear_state.Tie as tie
-
-clear-requires : tie.Need-clear-requires
-clear-requires c κs = search needs
-
-add-clear : tie.Need-add-clear
-add-clear c = search needs
-
-clear-requires-2 : tie.Need-clear-requires-2
-clear-requires-2 c κs = search needs
-
-same-length : tie.Need-same-length
-same-length c = search needs
 
 returns : tie.Need-returns
 returns c =
@@ -26,8 +14,8 @@ returns c =
     let k = d .before .before .before .before in
     let e = k .before .before .before in
     let a = e .args in
-    d .clear2 .ensures ∙ ap (λ ws. over ws termWords (zeros (a .level + 1))) (k .clear .ensures) ∙ laid-cleared (a .area .now) (a .n) (a .level) (e .pre)
+    d .clear2 .ensures ∙ ap (λ ws. over ws termWords (zeros (a .level + 1))) (k .clear .ensures) ∙ layout-cleared (a .area .now) (a .n) (a .level) (e .pre)
 
 pub clear-state-spec : {M : Type 1} → statement M
 clear-state-spec =
-    tie.close (tie.spec clear-requires add-clear clear-requires-2 same-length returns)
+    tie.close (tie.spec (λ c κs. search needs) (λ c. search needs) (λ c κs. search needs) (λ c. search needs) returns)

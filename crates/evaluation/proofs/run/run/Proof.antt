@@ -7,17 +7,17 @@ use lib.ListN.{length}
 use borrow.Author.Needs.{needs}
 use Rattle.system.specs.Book.{systemOf}
 use Rattle.system.specs.Numbers.{spent, overlong, nested}
-use Rattle.evaluation.proofs.run.Running.{Running, running-start, stored-length}
+use Rattle.evaluation.proofs.run.Running.{Running, running-start, represents-length}
 use Rattle.system.proofs.layout.Books.{well}
 use Rattle.evaluation.proofs.run.Rounds.{Round, Stops, Before, Comes, Goes, comes, goes, before-room, stops-spent, ends-stopped}
 use Rattle.evaluation.proofs.run.run.Statement.{statement}
 use Rattle.evaluation.proofs.run.run.Tie as tie
 
 abbrev Inv-loop : tie.InvT-loop
-Inv-loop book shape term limit area₀ marks positions₀ n₀ level₀ steps₀ area positions n level steps = Running (systemOf book) limit term area positions n level steps
+Inv-loop book shape term limit area₀ index positions₀ n₀ level₀ steps₀ area positions n level steps = Running (systemOf book) limit term area positions n level steps
 
 abbrev μ-loop : tie.MeasureT-loop
-μ-loop book shape term limit area₀ marks positions₀ n₀ level₀ steps₀ area positions n level steps = limit - steps
+μ-loop book shape term limit area₀ index positions₀ n₀ level₀ steps₀ area positions n level steps = limit - steps
 
 -- ---- the places of the code that are behind others: the entry, the loop's head, `advance`, a rewrite that is next
 
@@ -62,7 +62,7 @@ round c =
 same-area : (c : tie.After-advance Inv-loop μ-loop) → length (c .advance .last .1 .1 .1 .0) ≡ length (entry (head c) .args .area .now)
 same-area c =
     let l = head c in
-    c .advance .kept .1 .1 .1 .0 ∙ stored-length (l .loop .inv .holds .stored) ∙ sym (entry l .pre .words)
+    c .advance .kept .1 .1 .1 .0 ∙ represents-length (l .loop .inv .holds .represents) ∙ sym (entry l .pre .words)
 
 -- an argument would be opened from level 64
 deep : (c : tie.After-enum-told2 Inv-loop μ-loop) → let k = round (advanced (c .before .before)) in Stops k nested (k .ws′)
@@ -88,11 +88,8 @@ longer c = let r = c .before .before .before .before in subst (Goes (round (adva
 start-requires : tie.Need-start-requires Inv-loop μ-loop
 start-requires c κs = let q = c .before .before .before .before .pre in (omega (arith, q .bounded), q .words)
 
-slice-aggregate-mark : tie.Need-slice-aggregate-mark Inv-loop μ-loop
-slice-aggregate-mark c = search needs
-
-mark-requires : tie.Need-mark-requires Inv-loop μ-loop
-mark-requires c κs = (c .before .before .before .before .before .before .before .before .pre .accepted, refl)
+build-index-requires : tie.Need-build-index-requires Inv-loop μ-loop
+build-index-requires c κs = (c .before .before .before .before .before .before .before .before .pre .accepted, refl)
 
 loop-holds : tie.Need-loop-holds Inv-loop μ-loop
 loop-holds c =
@@ -103,7 +100,7 @@ loop-holds c =
     running-start (systemOf (a .book .now)) wf (a .limit) (a .term .now) (t .start .last .0) _ (e .pre .whole) (e .pre .bounded) (t .start .ensures) refl refl
 
 slice-aggregate-advance : tie.Need-slice-aggregate-advance Inv-loop μ-loop
-slice-aggregate-advance c = sym (c .before .before .before .mark .ensures .slots)
+slice-aggregate-advance c = sym (c .before .before .before .build-index .ensures .slots)
 
 slice-aggregate-advance-2 : tie.Need-slice-aggregate-advance-2 Inv-loop μ-loop
 slice-aggregate-advance-2 c = sym (c .before .before .before .loop .inv .holds .slots)
@@ -111,10 +108,7 @@ slice-aggregate-advance-2 c = sym (c .before .before .before .loop .inv .holds .
 advance-requires : tie.Need-advance-requires Inv-loop μ-loop
 advance-requires c κs =
     let l = c .before .before .before in
-    (entry l .pre .accepted, l .before .before .mark .ensures, l .loop .inv .holds)
-
-enum-told : tie.Need-enum-told Inv-loop μ-loop
-enum-told c = search needs
+    (entry l .pre .accepted, l .before .before .build-index .ensures, l .loop .inv .holds)
 
 outcome-requires : tie.Need-outcome-requires Inv-loop μ-loop
 outcome-requires c κs = tt
@@ -125,11 +119,8 @@ same-length c = same-area (advanced (c .before .before .before))
 returns : tie.Need-returns Inv-loop μ-loop
 returns c = let k = round (advanced (c .before .before .before)) in subst (Comes k) (c .before .enum-told .given .1) (comes k) (c .outcome .result) (c .outcome .ensures)
 
-enum-told-2 : tie.Need-enum-told-2 Inv-loop μ-loop
-enum-told-2 c = search needs
-
 clear-state-requires : tie.Need-clear-state-requires Inv-loop μ-loop
-clear-state-requires c κs = deep (c .before) .laid
+clear-state-requires c κs = deep (c .before) .layout
 
 outcome-requires-2 : tie.Need-outcome-requires-2 Inv-loop μ-loop
 outcome-requires-2 c κs = tt
@@ -140,11 +131,8 @@ same-length-2 c = let s = c .before .before .before in s .clear-state .kept .0 �
 returns-2 : tie.Need-returns-2 Inv-loop μ-loop
 returns-2 c = let s = c .before .before .before in ends-stopped (deep (s .before .before)) (c .outcome2 .result) _ (c .outcome2 .ensures) (s .clear-state .ensures)
 
-enum-told-3 : tie.Need-enum-told-3 Inv-loop μ-loop
-enum-told-3 c = search needs
-
 clear-state-requires-2 : tie.Need-clear-state-requires-2 Inv-loop μ-loop
-clear-state-requires-2 c κs = spends (c .before) .laid
+clear-state-requires-2 c κs = spends (c .before) .layout
 
 outcome-requires-3 : tie.Need-outcome-requires-3 Inv-loop μ-loop
 outcome-requires-3 c κs = tt
@@ -164,14 +152,8 @@ array-read-position c = let b = c .before .before in before-room (round (advance
 rewrite-requires : tie.Need-rewrite-requires Inv-loop μ-loop
 rewrite-requires c κs = before (c .before .before .before) .reducible
 
-enum-known-r : tie.Need-enum-known-r Inv-loop μ-loop
-enum-known-r c = search needs
-
-enum-told-4 : tie.Need-enum-told-4 Inv-loop μ-loop
-enum-told-4 c = search needs
-
 clear-state-requires-3 : tie.Need-clear-state-requires-3 Inv-loop μ-loop
-clear-state-requires-3 c κs = longer (c .before) .laid
+clear-state-requires-3 c κs = longer (c .before) .layout
 
 outcome-requires-4 : tie.Need-outcome-requires-4 Inv-loop μ-loop
 outcome-requires-4 c κs = tt
@@ -200,38 +182,8 @@ pub run-spec : {M : Type 1} → statement M
 run-spec =
     tie.close
     (tie.spec
-    Inv-loop
-    μ-loop
-    start-requires
-    slice-aggregate-mark
-    mark-requires
-    loop-holds
-    slice-aggregate-advance
-    slice-aggregate-advance-2
-    advance-requires
-    enum-told
-    outcome-requires
-    same-length
-    returns
-    enum-told-2
-    clear-state-requires
-    outcome-requires-2
-    same-length-2
-    returns-2
-    enum-told-3
-    clear-state-requires-2
-    outcome-requires-3
-    same-length-3
-    returns-3
-    mul-position
-    array-read-position
-    rewrite-requires
-    enum-known-r
-    enum-told-4
-    clear-state-requires-3
-    outcome-requires-4
-    same-length-4
-    returns-4
-    add-steps
-    loop-less
-    loop-again)
+    Inv-loop μ-loop start-requires (λ c. search needs) build-index-requires loop-holds slice-aggregate-advance slice-aggregate-advance-2
+    advance-requires (λ c. search needs) outcome-requires same-length returns (λ c. search needs) clear-state-requires outcome-requires-2
+    same-length-2 returns-2 (λ c. search needs) clear-state-requires-2 outcome-requires-3 same-length-3 returns-3 mul-position
+    array-read-position rewrite-requires (λ c. search needs) (λ c. search needs) clear-state-requires-3 outcome-requires-4 same-length-4
+    returns-4 add-steps loop-less loop-again)

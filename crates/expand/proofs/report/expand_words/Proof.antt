@@ -9,24 +9,6 @@ use Rattle.expand.proofs.report.Reports.{expanded}
 use Rattle.expand.proofs.report.expand_words.Statement.{statement}
 use Rattle.expand.proofs.report.expand_words.Tie as tie
 
-shared-slice-read-wide : tie.Need-shared-slice-read-wide
-shared-slice-read-wide c = search needs
-
-wide-requires : tie.Need-wide-requires
-wide-requires c κs = search needs
-
-sub-expand : tie.Need-sub-expand
-sub-expand c = search needs
-
-part-expand-start : tie.Need-part-expand-start
-part-expand-start c = search needs
-
-part-expand-end : tie.Need-part-expand-end
-part-expand-end c = search needs
-
-expand-requires : tie.Need-expand-requires
-expand-requires c κs = search needs
-
 put-answer-requires : tie.Need-put-answer-requires
 put-answer-requires c κs =
     let e = c .before .before .before .before .before .before in
@@ -35,15 +17,6 @@ put-answer-requires c κs =
     let a = s .args in
     let x = e .expand in
     (handed-fits (a .book .now) _ (w .wide .result) (a .out .now) (a .work .now) _ (x .ensures), rw (x .kept .1 .1 .1 .0) (s .pre .1), s .pre .2)
-
-same-length : tie.Need-same-length
-same-length c = search needs
-
-same-length-2 : tie.Need-same-length-2
-same-length-2 c = search needs
-
-same-length-3 : tie.Need-same-length-3
-same-length-3 c = search needs
 
 returns : tie.Need-returns
 returns c =
@@ -61,14 +34,5 @@ pub expand-words-spec : {M : Type 1} → statement M
 expand-words-spec =
     tie.close
     (tie.spec
-    shared-slice-read-wide
-    wide-requires
-    sub-expand
-    part-expand-start
-    part-expand-end
-    expand-requires
-    put-answer-requires
-    same-length
-    same-length-2
-    same-length-3
-    returns)
+    (λ c. search needs) (λ c κs. search needs) (λ c. search needs) (λ c. search needs) (λ c. search needs) (λ c κs. search needs)
+    put-answer-requires (λ c. search needs) (λ c. search needs) (λ c. search needs) returns)

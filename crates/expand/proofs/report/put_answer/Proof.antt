@@ -8,9 +8,6 @@ use Rattle.expand.proofs.report.Reports.{answer-refused, answer-words}
 use Rattle.expand.proofs.report.put_answer.Statement.{statement}
 use Rattle.expand.proofs.report.put_answer.Tie as tie
 
-put-heading-requires : tie.Need-put-heading-requires
-put-heading-requires c κs = search needs
-
 put-numbers-requires : tie.Need-put-numbers-requires
 put-numbers-requires c κs =
     let h = c .before .before .before .put-heading .ensures in
@@ -18,21 +15,12 @@ put-numbers-requires c κs =
     let n = heading-length in
     omega (arith, h .ends, c .before .before .before .before .before .before .before .pre .2)
 
-same-length : tie.Need-same-length
-same-length c = search needs
-
 returns : tie.Need-returns
 returns c =
     let n = c .before .before .before .before in
     let h = n .before .before .before .before in
     let a = h .before .before .before .before .args in
     answer-refused (a .a) (a .out .now) (h .put-heading .ensures) (n .put-numbers .ensures .0) (c .if1 .taken)
-
-sub-put-words : tie.Need-sub-put-words
-sub-put-words c = search needs
-
-part-put-words-start : tie.Need-part-put-words-start
-part-put-words-start c = search needs
 
 part-put-words-end : tie.Need-part-put-words-end
 part-put-words-end c =
@@ -50,9 +38,6 @@ put-words-requires c κs =
     let t = length-take (s .args .a .place - 0) (s .args .out .now) in
     omega (arith, h .put-heading .ensures .ends, n .put-numbers .ensures .1, s .pre .1, s .pre .2)
 
-same-length-2 : tie.Need-same-length-2
-same-length-2 c = search needs
-
 returns-2 : tie.Need-returns-2
 returns-2 c =
     let e = c .before .before .before .before .before in
@@ -65,13 +50,5 @@ pub put-answer-spec : {M : Type 1} → statement M
 put-answer-spec =
     tie.close
     (tie.spec
-    put-heading-requires
-    put-numbers-requires
-    same-length
-    returns
-    sub-put-words
-    part-put-words-start
-    part-put-words-end
-    put-words-requires
-    same-length-2
-    returns-2)
+    (λ c κs. search needs) put-numbers-requires (λ c. search needs) returns (λ c. search needs) (λ c. search needs) part-put-words-end
+    put-words-requires (λ c. search needs) returns-2)

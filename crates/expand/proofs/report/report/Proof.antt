@@ -32,24 +32,12 @@ returns c =
     let a = c .before .before .before .before .args in
     rw (room-none (length (a .text .now)) _ (c .if1 .taken)) (written-nothing (a .text .now) 0 (omega arith))
 
-refuse-requires : tie.Need-refuse-requires
-refuse-requires c κs = search needs
-
-same-length : tie.Need-same-length
-same-length c = search needs
-
 returns-2 : tie.Need-returns-2
 returns-2 c =
     let r = c .before .before .before in
     let e = r .before .before in
     let a = e .before .before .before .before .args in
     by-book (a .book-there) (a .book .now) (a .cue-there) (a .cue .now) (a .text .now) (e .if1 .left) (r .refuse .ensures) (c .if2 .taken)
-
-refuse-requires-2 : tie.Need-refuse-requires-2
-refuse-requires-2 c κs = search needs
-
-same-length-2 : tie.Need-same-length-2
-same-length-2 c = search needs
 
 returns-3 : tie.Need-returns-3
 returns-3 c =
@@ -58,15 +46,6 @@ returns-3 c =
     let a = e .before .before .before .before .args in
     by-cue (a .book-there) (a .book .now) (a .cue-there) (a .cue .now) (a .text .now) (e .if1 .left) (book b)
     (c .before .before .before .refuse2 .ensures) (c .if3 .taken)
-
-slice-aggregate-put-line : tie.Need-slice-aggregate-put-line
-slice-aggregate-put-line c = search needs
-
-put-line-requires : tie.Need-put-line-requires
-put-line-requires c κs = search needs
-
-same-length-3 : tie.Need-same-length-3
-same-length-3 c = search needs
 
 returns-4 : tie.Need-returns-4
 returns-4 c =
@@ -85,9 +64,6 @@ expand-files-requires c κs =
     let e = b .before .before .before .before .before in
     (book b .small, omega (arith, c .before .if4 .left), cue d .small, rw (cue d .same, book b .same) (e .if1 .left))
 
-same-length-4 : tie.Need-same-length-4
-same-length-4 c = search needs
-
 returns-5 : tie.Need-returns-5
 returns-5 c =
     let d = c .before .before .before .before .before in
@@ -101,17 +77,5 @@ pub report-spec : {M : Type 1} → statement M
 report-spec =
     tie.close
     (tie.spec
-    returns
-    refuse-requires
-    same-length
-    returns-2
-    refuse-requires-2
-    same-length-2
-    returns-3
-    slice-aggregate-put-line
-    put-line-requires
-    same-length-3
-    returns-4
-    expand-files-requires
-    same-length-4
-    returns-5)
+    returns (λ c κs. search needs) (λ c. search needs) returns-2 (λ c κs. search needs) (λ c. search needs) returns-3 (λ c. search needs)
+    (λ c κs. search needs) (λ c. search needs) returns-4 expand-files-requires (λ c. search needs) returns-5)

@@ -7,15 +7,6 @@ use Rattle.files.proofs.checks.Checks.{check-missing, check-long, check
 use Rattle.files.proofs.checks.refuse.Statement.{statement}
 use Rattle.files.proofs.checks.refuse.Tie as tie
 
-slice-aggregate-put-line : tie.Need-slice-aggregate-put-line
-slice-aggregate-put-line c = search needs
-
-put-line-requires : tie.Need-put-line-requires
-put-line-requires c κs = search needs
-
-same-length : tie.Need-same-length
-same-length c = search needs
-
 returns : tie.Need-returns
 returns c =
     let f = c .before .before .before .before .before in
@@ -23,30 +14,12 @@ returns c =
     let t = not-true (a .there) (f .if1 .taken) in
     rw (check-missing (a .most) (a .bytes .now) (a .there) t) (c .before .before .put-line .ensures)
 
-slice-aggregate-put-line-2 : tie.Need-slice-aggregate-put-line-2
-slice-aggregate-put-line-2 c = search needs
-
-put-line-requires-2 : tie.Need-put-line-requires-2
-put-line-requires-2 c κs = search needs
-
-same-length-2 : tie.Need-same-length-2
-same-length-2 c = search needs
-
 returns-2 : tie.Need-returns-2
 returns-2 c =
     let f = c .before .before .before .before .before in
     let a = f .before .before .before .before .args in
     let t = not-false (a .there) (f .before .if1 .left) in
     rw (check-long (a .most) (a .bytes .now) (a .there) t (omega arith)) (c .before .before .put-line2 .ensures)
-
-slice-aggregate-put-line-3 : tie.Need-slice-aggregate-put-line-3
-slice-aggregate-put-line-3 c = search needs
-
-put-line-requires-3 : tie.Need-put-line-requires-3
-put-line-requires-3 c κs = search needs
-
-same-length-3 : tie.Need-same-length-3
-same-length-3 c = search needs
 
 returns-3 : tie.Need-returns-3
 returns-3 c =
@@ -65,16 +38,5 @@ pub refuse-spec : {M : Type 1} → statement M
 refuse-spec =
     tie.close
     (tie.spec
-    slice-aggregate-put-line
-    put-line-requires
-    same-length
-    returns
-    slice-aggregate-put-line-2
-    put-line-requires-2
-    same-length-2
-    returns-2
-    slice-aggregate-put-line-3
-    put-line-requires-3
-    same-length-3
-    returns-3
-    returns-4)
+    (λ c. search needs) (λ c κs. search needs) (λ c. search needs) returns (λ c. search needs) (λ c κs. search needs) (λ c. search needs)
+    returns-2 (λ c. search needs) (λ c κs. search needs) (λ c. search needs) returns-3 returns-4)

@@ -6,7 +6,7 @@ use borrow.Author.Needs.{needs}
 use Rattle.system.specs.Book.{systemOf}
 use Rattle.machine.proofs.advance.Advancing.{Advancing, advancing-start, round-bounds, goes-repeated, goes-argument}
 use Rattle.machine.proofs.advance.Arriving.{arrives-end, arrives-deep, arrives-ready}
-use Rattle.machine.specs.advance.Area.{Holds}
+use Rattle.machine.specs.advance.Area.{Tracks}
 use Rattle.machine.proofs.advance.advance.Proof.Places.{Inv-loop, μ-loop, within, reading, entered, taken, round, same-area, same-positions, trying, tried, none-matches, left, left-bounds, left-down, left-inner}
 use Rattle.machine.proofs.advance.advance.Statement.{statement}
 use Rattle.machine.proofs.advance.advance.Tie as tie
@@ -22,9 +22,6 @@ mul-wide c = let w = within (reading c) in omega arith
 slice-read-wide : tie.Need-slice-read-wide Inv-loop μ-loop
 slice-read-wide c = let w = within (reading (c .before)) in omega arith
 
-wide-requires : tie.Need-wide-requires Inv-loop μ-loop
-wide-requires c κs = search needs
-
 loop-holds : tie.Need-loop-holds Inv-loop μ-loop
 loop-holds c =
     let x = reading (c .before .before) in
@@ -33,20 +30,14 @@ loop-holds c =
 
 -- ---- the transition
 
-at-level-requires : tie.Need-at-level-requires Inv-loop μ-loop
-at-level-requires c κs = search needs
-
 take-transition-requires : tie.Need-take-transition-requires Inv-loop μ-loop
 take-transition-requires c κs =
     let k = c .before .before .at-level in
     let l = c .before .before .before .loop in
     let x = entered (c .before .before .before) in
-    (x .pre .0, x .pre .1, subst (λ y. Holds (systemOf (x .args .book .now)) (l .area) (l .positions) (y .n) (y .level)) (sym (k .ensures)) (l .inv .0 .held))
+    (x .pre .0, x .pre .1, subst (λ y. Tracks (systemOf (x .args .book .now)) (l .area) (l .positions) (y .n) (y .level)) (sym (k .ensures)) (l .inv .0 .held))
 
 -- ---- an entry is repeated
-
-enum-told : tie.Need-enum-told Inv-loop μ-loop
-enum-told c = search needs
 
 loop-less : tie.Need-loop-less Inv-loop μ-loop
 loop-less c = goes-repeated (round (c .before .before)) (c .enum-told .given .1) .less
@@ -55,9 +46,6 @@ loop-again : tie.Need-loop-again Inv-loop μ-loop
 loop-again c = let m = c .before .before in (goes-repeated (round m) (c .enum-told .given .1) .on, same-area m, same-positions m)
 
 -- ---- the rules are tried
-
-enum-told-2 : tie.Need-enum-told-2 Inv-loop μ-loop
-enum-told-2 c = search needs
 
 mul-p : tie.Need-mul-p Inv-loop μ-loop
 mul-p c = let w = trying c in omega arith
@@ -77,12 +65,6 @@ part-first-rule-start c = let w = trying (c .before .before) in omega arith
 part-first-rule-end : tie.Need-part-first-rule-end Inv-loop μ-loop
 part-first-rule-end c = let w = trying (c .before .before) in omega arith
 
-first-rule-requires : tie.Need-first-rule-requires Inv-loop μ-loop
-first-rule-requires c κs = search needs
-
-enum-told-3 : tie.Need-enum-told-3 Inv-loop μ-loop
-enum-told-3 c = search needs
-
 loop-less-2 : tie.Need-loop-less-2 Inv-loop μ-loop
 loop-less-2 c = none-matches (c .before .before) (c .enum-told3 .given .1) .less
 
@@ -90,12 +72,6 @@ loop-again-2 : tie.Need-loop-again-2 Inv-loop μ-loop
 loop-again-2 c =
     let m = tried (c .before .before) .before .before in
     (none-matches (c .before .before) (c .enum-told3 .given .1) .on, same-area m, same-positions m)
-
-enum-told-4 : tie.Need-enum-told-4 Inv-loop μ-loop
-enum-told-4 c = search needs
-
-ready-requires : tie.Need-ready-requires Inv-loop μ-loop
-ready-requires c κs = search needs
 
 same-length : tie.Need-same-length Inv-loop μ-loop
 same-length c = same-area (tried (c .before .before .before) .before .before)
@@ -113,9 +89,6 @@ returns c =
 
 -- ---- an argument is opened
 
-enum-told-5 : tie.Need-enum-told-5 Inv-loop μ-loop
-enum-told-5 c = search needs
-
 add-level : tie.Need-add-level Inv-loop μ-loop
 add-level c = let w = round-bounds (round (c .before .before)) in omega arith
 
@@ -126,12 +99,6 @@ loop-again-3 : tie.Need-loop-again-3 Inv-loop μ-loop
 loop-again-3 c = let m = c .before .before in (goes-argument (round m) (c .enum-told5 .given .1) .on, same-area m, same-positions m)
 
 -- ---- the strategy is at its end
-
-enum-told-6 : tie.Need-enum-told-6 Inv-loop μ-loop
-enum-told-6 c = search needs
-
-stopped-requires : tie.Need-stopped-requires Inv-loop μ-loop
-stopped-requires c κs = search needs
 
 same-length-3 : tie.Need-same-length-3 Inv-loop μ-loop
 same-length-3 c = same-area (c .before .before .before .before)
@@ -144,9 +111,6 @@ returns-2 c =
     let x = c .before .before in
     arrives-end (round (x .before .before)) (x .enum-told6 .given .1) (c .before .if1 .taken) (c .stopped .result) (c .stopped .ensures .0)
 
-sub-level : tie.Need-sub-level Inv-loop μ-loop
-sub-level c = search needs
-
 add-wide-2 : tie.Need-add-wide-2 Inv-loop μ-loop
 add-wide-2 c = let w = left-bounds (c .before) in omega arith
 
@@ -155,9 +119,6 @@ mul-wide-2 c = let w = left-bounds (c .before) in omega arith
 
 slice-read-wide-2 : tie.Need-slice-read-wide-2 Inv-loop μ-loop
 slice-read-wide-2 c = let w = left-bounds (c .before .before) in omega arith
-
-wide-requires-2 : tie.Need-wide-requires-2 Inv-loop μ-loop
-wide-requires-2 c κs = search needs
 
 loop-less-4 : tie.Need-loop-less-4 Inv-loop μ-loop
 loop-less-4 c = left-down c .less
@@ -172,12 +133,6 @@ loop-again-5 : tie.Need-loop-again-5 Inv-loop μ-loop
 loop-again-5 c = let m = left (c .before) in (left-inner c .on, same-area m, same-positions m)
 
 -- ---- it would be too deep
-
-enum-told-7 : tie.Need-enum-told-7 Inv-loop μ-loop
-enum-told-7 c = search needs
-
-stopped-requires-2 : tie.Need-stopped-requires-2 Inv-loop μ-loop
-stopped-requires-2 c κs = search needs
 
 same-length-5 : tie.Need-same-length-5 Inv-loop μ-loop
 same-length-5 c = same-area (c .before .before .before)
@@ -194,54 +149,9 @@ pub advance-spec : {M : Type 1} → statement M
 advance-spec =
     tie.close
     (tie.spec
-    Inv-loop
-    μ-loop
-    add-wide
-    mul-wide
-    slice-read-wide
-    wide-requires
-    loop-holds
-    at-level-requires
-    take-transition-requires
-    enum-told
-    loop-less
-    loop-again
-    enum-told-2
-    mul-p
-    slice-read-p
-    mul-first-rule
-    sub-first-rule
-    part-first-rule-start
-    part-first-rule-end
-    first-rule-requires
-    enum-told-3
-    loop-less-2
-    loop-again-2
-    enum-told-4
-    ready-requires
-    same-length
-    same-length-2
-    returns
-    enum-told-5
-    add-level
-    loop-less-3
-    loop-again-3
-    enum-told-6
-    stopped-requires
-    same-length-3
-    same-length-4
-    returns-2
-    sub-level
-    add-wide-2
-    mul-wide-2
-    slice-read-wide-2
-    wide-requires-2
-    loop-less-4
-    loop-again-4
-    loop-less-5
-    loop-again-5
-    enum-told-7
-    stopped-requires-2
-    same-length-5
-    same-length-6
-    returns-3)
+    Inv-loop μ-loop add-wide mul-wide slice-read-wide (λ c κs. search needs) loop-holds (λ c κs. search needs) take-transition-requires
+    (λ c. search needs) loop-less loop-again (λ c. search needs) mul-p slice-read-p mul-first-rule sub-first-rule part-first-rule-start
+    part-first-rule-end (λ c κs. search needs) (λ c. search needs) loop-less-2 loop-again-2 (λ c. search needs) (λ c κs. search needs)
+    same-length same-length-2 returns (λ c. search needs) add-level loop-less-3 loop-again-3 (λ c. search needs) (λ c κs. search needs)
+    same-length-3 same-length-4 returns-2 (λ c. search needs) add-wide-2 mul-wide-2 slice-read-wide-2 (λ c κs. search needs) loop-less-4
+    loop-again-4 loop-less-5 loop-again-5 (λ c. search needs) (λ c κs. search needs) same-length-5 same-length-6 returns-3)

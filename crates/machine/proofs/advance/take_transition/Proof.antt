@@ -49,18 +49,6 @@ spanned c = c .before .before .before
 
 -- ---- the needs
 
-mul-p : tie.Need-mul-p
-mul-p c = search needs
-
-slice-read-p : tie.Need-slice-read-p
-slice-read-p c = search needs
-
-add-c : tie.Need-add-c
-add-c c = search needs
-
-mul-c : tie.Need-mul-c
-mul-c c = search needs
-
 slice-read-c : tie.Need-slice-read-c
 slice-read-c c = let b = within (reading c) in omega arith
 
@@ -73,68 +61,23 @@ mul-entry-of c = let b = within (reading c) in omega arith
 slice-read-entry-of : tie.Need-slice-read-entry-of
 slice-read-entry-of c = let b = within (reading (c .before)) in omega arith
 
-wide-requires : tie.Need-wide-requires
-wide-requires c κs = search needs
-
-entry-of-requires : tie.Need-entry-of-requires
-entry-of-requires c κs = search needs
-
-enum-told : tie.Need-enum-told
-enum-told c = search needs
-
-add-area : tie.Need-add-area
-add-area c = search needs
-
-mul-area : tie.Need-mul-area
-mul-area c = search needs
-
 slice-write-area : tie.Need-slice-write-area
 slice-write-area c = let b = within (asked (c .before .before)) in omega arith
-
-same-length : tie.Need-same-length
-same-length c = search needs
 
 returns : tie.Need-returns
 returns c = performed-end (taking (c .before .before)) (c .enum-told .given .1)
 
-enum-told-2 : tie.Need-enum-told-2
-enum-told-2 c = search needs
-
-add-area-2 : tie.Need-add-area-2
-add-area-2 c = search needs
-
-mul-area-2 : tie.Need-mul-area-2
-mul-area-2 c = search needs
-
 slice-write-area-2 : tie.Need-slice-write-area-2
 slice-write-area-2 c = let b = within (asked (c .before .before)) in omega arith
-
-same-length-2 : tie.Need-same-length-2
-same-length-2 c = search needs
 
 returns-2 : tie.Need-returns-2
 returns-2 c = performed-repeated (taking (c .before .before)) (c .enum-told2 .given .1)
 
-enum-told-3 : tie.Need-enum-told-3
-enum-told-3 c = search needs
-
-add-area-3 : tie.Need-add-area-3
-add-area-3 c = search needs
-
-mul-area-3 : tie.Need-mul-area-3
-mul-area-3 c = search needs
-
 slice-write-area-3 : tie.Need-slice-write-area-3
 slice-write-area-3 c = let b = within (asked (c .before .before)) in omega arith
 
-same-length-3 : tie.Need-same-length-3
-same-length-3 c = search needs
-
 returns-3 : tie.Need-returns-3
 returns-3 c = performed-rules (taking (c .before .before)) (c .enum-told3 .given .1)
-
-enum-known-e : tie.Need-enum-known-e
-enum-known-e c = search needs
 
 returns-4 : tie.Need-returns-4
 returns-4 c = let e = c .before .before .e in performed-deep (taking (c .before .before .before .before)) (e .given .0 .0) (e .given .1) (c .if1 .taken)
@@ -154,35 +97,11 @@ part-spans-start c = let b = within (asked (argument (c .before))) in omega arit
 part-spans-end : tie.Need-part-spans-end
 part-spans-end c = let b = within (asked (argument (c .before))) in omega arith
 
-spans-requires : tie.Need-spans-requires
-spans-requires c κs = search needs
-
 add-q : tie.Need-add-q
 add-q c = let b = within (asked (argument (spanned c))) in omega arith
 
-add-area-4 : tie.Need-add-area-4
-add-area-4 c = search needs
-
-mul-area-4 : tie.Need-mul-area-4
-mul-area-4 c = search needs
-
 slice-write-area-4 : tie.Need-slice-write-area-4
 slice-write-area-4 c = let b = within (asked (argument (spanned c))) in omega arith
-
-add-positions : tie.Need-add-positions
-add-positions c = search needs
-
-mul-positions : tie.Need-mul-positions
-mul-positions c = search needs
-
-slice-write-positions : tie.Need-slice-write-positions
-slice-write-positions c = search needs
-
-same-length-4 : tie.Need-same-length-4
-same-length-4 c = search needs
-
-same-length-5 : tie.Need-same-length-5
-same-length-5 c = search needs
 
 returns-5 : tie.Need-returns-5
 returns-5 c =
@@ -194,49 +113,10 @@ pub take-transition-spec : {M : Type 1} → statement M
 take-transition-spec =
     tie.close
     (tie.spec
-    mul-p
-    slice-read-p
-    add-c
-    mul-c
-    slice-read-c
-    add-begun
-    mul-entry-of
-    slice-read-entry-of
-    wide-requires
-    entry-of-requires
-    enum-told
-    add-area
-    mul-area
-    slice-write-area
-    same-length
-    returns
-    enum-told-2
-    add-area-2
-    mul-area-2
-    slice-write-area-2
-    same-length-2
-    returns-2
-    enum-told-3
-    add-area-3
-    mul-area-3
-    slice-write-area-3
-    same-length-3
-    returns-3
-    enum-known-e
-    returns-4
-    add-a
-    mul-spans
-    sub-spans
-    part-spans-start
-    part-spans-end
-    spans-requires
-    add-q
-    add-area-4
-    mul-area-4
-    slice-write-area-4
-    add-positions
-    mul-positions
-    slice-write-positions
-    same-length-4
-    same-length-5
-    returns-5)
+    (λ c. search needs) (λ c. search needs) (λ c. search needs) (λ c. search needs) slice-read-c add-begun mul-entry-of slice-read-entry-of
+    (λ c κs. search needs) (λ c κs. search needs) (λ c. search needs) (λ c. search needs) (λ c. search needs) slice-write-area
+    (λ c. search needs) returns (λ c. search needs) (λ c. search needs) (λ c. search needs) slice-write-area-2 (λ c. search needs)
+    returns-2 (λ c. search needs) (λ c. search needs) (λ c. search needs) slice-write-area-3 (λ c. search needs) returns-3
+    (λ c. search needs) returns-4 add-a mul-spans sub-spans part-spans-start part-spans-end (λ c κs. search needs) add-q
+    (λ c. search needs) (λ c. search needs) slice-write-area-4 (λ c. search needs) (λ c. search needs) (λ c. search needs)
+    (λ c. search needs) (λ c. search needs) returns-5)

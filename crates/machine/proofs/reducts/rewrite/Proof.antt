@@ -1,7 +1,7 @@
 -- `reducts::rewrite` meets its contract.
 use native.Mathlib.Omega.{arith}
 use borrow.Author.Needs.{needs}
-use Rattle.machine.proofs.reducts.Rewrites.{ends, none-found, right-side, stretch-bound, reduct-bound, too-long, replaceable, rewrites}
+use Rattle.machine.proofs.reducts.Rewrites.{ends, none-found, right-side, binding-bound, reduct-bound, too-long, replaceable, rewrites}
 use Rattle.machine.proofs.reducts.rewrite.Statement.{statement}
 use Rattle.machine.proofs.reducts.rewrite.Tie as tie
 
@@ -12,19 +12,13 @@ told c = c .before .before .before .before
 abbrev entry : tie.After-found → tie.Start
 entry c = c .before .before .before .before
 
-enum-told : tie.Need-enum-told
-enum-told c = search needs
-
 returns : tie.Need-returns
 returns c = absurd (none-found (c .before .before .before .before .pre) (c .enum-told .given .1))
-
-enum-known-found : tie.Need-enum-known-found
-enum-known-found c = search needs
 
 reduct-length-requires : tie.Need-reduct-length-requires
 reduct-length-requires c κs =
     let f = c .before .before .before in
-    (right-side (entry f .pre) (f .found .given .1), stretch-bound (entry f .pre))
+    (right-side (entry f .pre) (f .found .given .1), binding-bound (entry f .pre))
 
 sub-after : tie.Need-sub-after
 sub-after c = omega (arith, ends (entry (told (c .before)) .pre))
@@ -47,9 +41,6 @@ replace-subterm-requires c κs =
     let f = told l in
     replaceable (entry f .pre) (f .found .given .1) (l .reduct-length .result) (l .reduct-length .ensures) (omega (arith, c .before .if1 .left))
 
-same-length : tie.Need-same-length
-same-length c = search needs
-
 returns-3 : tie.Need-returns-3
 returns-3 c =
     let d = c .before .before in
@@ -61,13 +52,5 @@ pub rewrite-spec : {M : Type 1} → statement M
 rewrite-spec =
     tie.close
     (tie.spec
-    enum-told
-    returns
-    enum-known-found
-    reduct-length-requires
-    sub-after
-    add-after
-    returns-2
-    replace-subterm-requires
-    same-length
-    returns-3)
+    (λ c. search needs) returns (λ c. search needs) reduct-length-requires sub-after add-after returns-2 replace-subterm-requires
+    (λ c. search needs) returns-3)

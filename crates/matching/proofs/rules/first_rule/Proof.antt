@@ -4,7 +4,7 @@ use Rattle.matching.proofs.rules.Searches.{Searched, Walked, search-sta
 use Rattle.system.proofs.layout.Books.{Turn, room, turn-of}
 use native.Mathlib.Omega.{arith}
 use Prim.Native.Nat.{_-_}
-use Rattle.matching.specs.Stretches.{unset}
+use Rattle.matching.specs.Bindings.{noBindings}
 use borrow.Author.Needs.{needs}
 use Rattle.matching.proofs.rules.first_rule.Statement.{statement}
 use Rattle.matching.proofs.rules.first_rule.Tie as tie
@@ -30,32 +30,23 @@ turn c =
     turn-of (c6 .pre) (c .before .if1 .taken) (c .before .before .before .rules .inv .rest) (c .rule-at .ensures)
 
 rules-holds : tie.Need-rules-holds Inv-words μ-words Inv-rules μ-rules
-unfolding unset
+unfolding noBindings
 rules-holds c = search-starts (c .before .before .pre) (c .before .before .args .ws .now)
 
 rule-at-requires : tie.Need-rule-at-requires Inv-words μ-words Inv-rules μ-rules
 rule-at-requires c κs = room (c .before .before .before .before .before .pre) (c .if1 .taken) (c .before .before .rules .inv .rest)
 
-add-k : tie.Need-add-k Inv-words μ-words Inv-rules μ-rules
-add-k c = search needs
+mul-consumed : tie.Need-mul-consumed Inv-words μ-words Inv-rules μ-rules
+mul-consumed c = let w = turn c .here in omega arith
 
-mul-takes : tie.Need-mul-takes Inv-words μ-words Inv-rules μ-rules
-mul-takes c = let w = turn c .here in omega arith
-
-shared-slice-read-takes : tie.Need-shared-slice-read-takes Inv-words μ-words Inv-rules μ-rules
-shared-slice-read-takes c = let w = turn (c .before) .here in omega arith
-
-takes-requires : tie.Need-takes-requires Inv-words μ-words Inv-rules μ-rules
-takes-requires c κs = search needs
-
-rules-less : tie.Need-rules-less Inv-words μ-words Inv-rules μ-rules
-rules-less c = search needs
+shared-slice-read-consumed : tie.Need-shared-slice-read-consumed Inv-words μ-words Inv-rules μ-rules
+shared-slice-read-consumed c = let w = turn (c .before) .here in omega arith
 
 rules-again : tie.Need-rules-again Inv-words μ-words Inv-rules μ-rules
-rules-again c = root-differs (turn (c .before .before .before)) (c .before .before .before .before .before .before .rules .inv) (c .before .takes .ensures .0) (c .if2 .taken)
+rules-again c = root-differs (turn (c .before .before .before)) (c .before .before .before .before .before .before .rules .inv) (c .before .consumed .ensures .0) (c .if2 .taken)
 
 words-holds : tie.Need-words-holds Inv-words μ-words Inv-rules μ-rules
-unfolding unset
+unfolding noBindings
 words-holds c = walk-starts (turn (c .before .before .before)) (c .before .before .before .before .before .before .before .before .before .args .ws .now)
 
 add-w : tie.Need-add-w Inv-words μ-words Inv-rules μ-rules
@@ -67,37 +58,13 @@ mul-w c = let w = turn (c .before .before .before .before .before) .here in omeg
 shared-slice-read-w : tie.Need-shared-slice-read-w Inv-words μ-words Inv-rules μ-rules
 shared-slice-read-w c = let w = turn (c .before .before .before .before .before .before) .here in omega arith
 
-mul-takes-2 : tie.Need-mul-takes-2 Inv-words μ-words Inv-rules μ-rules
-mul-takes-2 c = search needs
-
-sub-takes : tie.Need-sub-takes Inv-words μ-words Inv-rules μ-rules
-sub-takes c = search needs
-
-part-takes-start : tie.Need-part-takes-start Inv-words μ-words Inv-rules μ-rules
-part-takes-start c = search needs
-
-part-takes-end : tie.Need-part-takes-end Inv-words μ-words Inv-rules μ-rules
-part-takes-end c = search needs
-
-takes-requires-2 : tie.Need-takes-requires-2 Inv-words μ-words Inv-rules μ-rules
-takes-requires-2 c κs = search needs
-
-rules-less-2 : tie.Need-rules-less-2 Inv-words μ-words Inv-rules μ-rules
-rules-less-2 c = search needs
-
 rules-again-2 : tie.Need-rules-again-2 Inv-words μ-words Inv-rules μ-rules
 rules-again-2 c =
     let c4 = c .before .before .before .before in
     let c5 = c4 .before in
     let c9 = c5 .before .before .before .before in
     let c12 = c9 .before .before .before in
-    word-differs (turn c9) (c12 .rules .inv) (c5 .words .inv) (c4 .words-test .taken) (c .before .takes2 .ensures .0) (c .if3 .taken)
-
-wide-requires : tie.Need-wide-requires Inv-words μ-words Inv-rules μ-rules
-wide-requires c κs = search needs
-
-mul-s : tie.Need-mul-s Inv-words μ-words Inv-rules μ-rules
-mul-s c = search needs
+    word-differs (turn c9) (c12 .rules .inv) (c5 .words .inv) (c4 .words-test .taken) (c .before .consumed2 .ensures .0) (c .if3 .taken)
 
 array-write-s : tie.Need-array-write-s Inv-words μ-words Inv-rules μ-rules
 array-write-s c =
@@ -106,9 +73,6 @@ array-write-s c =
     let c11 = c7 .before .before .before .before in
     let w = turn c11 .here in omega (arith, w .low (c7 .words .j) (c6 .words-test .taken))
 
-mul-l : tie.Need-mul-l Inv-words μ-words Inv-rules μ-rules
-mul-l c = search needs
-
 array-write-l : tie.Need-array-write-l Inv-words μ-words Inv-rules μ-rules
 array-write-l c =
     let c6 = c .before .before .before .before .before .before in
@@ -116,20 +80,11 @@ array-write-l c =
     let c11 = c7 .before .before .before .before in
     let w = turn c11 .here in omega (arith, w .low (c7 .words .j) (c6 .words-test .taken))
 
-add-q : tie.Need-add-q Inv-words μ-words Inv-rules μ-rules
-add-q c = search needs
-
-add-j : tie.Need-add-j Inv-words μ-words Inv-rules μ-rules
-add-j c = search needs
-
-words-less : tie.Need-words-less Inv-words μ-words Inv-rules μ-rules
-words-less c = search needs
-
 words-again : tie.Need-words-again Inv-words μ-words Inv-rules μ-rules
 words-again c = let t = turn (c .before .before .before .before .before .before .before .before .before .before .before) in
     let wo = c .before .before .before .before .before .before .before .words .inv in
     let here = c .before .before .before .before .before .before .words-test .taken in
-    let n = c .before .before .before .takes2 in
+    let n = c .before .before .before .consumed2 in
     let v = c .before .wide in
     ⊎-elim
     (λ e. variable-matched t wo here (n .ensures) (c .before .before .if3 .left) (v .ensures .0) (e .0 .taken) (e .1) (e .2))
@@ -149,37 +104,8 @@ pub first-rule-spec : {M : Type 1} → statement M
 first-rule-spec =
     tie.close
     (tie.spec
-    Inv-words
-    μ-words
-    Inv-rules
-    μ-rules
-    rules-holds
-    rule-at-requires
-    add-k
-    mul-takes
-    shared-slice-read-takes
-    takes-requires
-    rules-less
-    rules-again
-    words-holds
-    add-w
-    mul-w
-    shared-slice-read-w
-    mul-takes-2
-    sub-takes
-    part-takes-start
-    part-takes-end
-    takes-requires-2
-    rules-less-2
-    rules-again-2
-    wide-requires
-    mul-s
-    array-write-s
-    mul-l
-    array-write-l
-    add-q
-    add-j
-    words-less
-    words-again
-    returns
-    returns-2)
+    Inv-words μ-words Inv-rules μ-rules rules-holds rule-at-requires (λ c. search needs) mul-consumed shared-slice-read-consumed
+    (λ c κs. search needs) (λ c. search needs) rules-again words-holds add-w mul-w shared-slice-read-w (λ c. search needs)
+    (λ c. search needs) (λ c. search needs) (λ c. search needs) (λ c κs. search needs) (λ c. search needs) rules-again-2
+    (λ c κs. search needs) (λ c. search needs) array-write-s (λ c. search needs) array-write-l (λ c. search needs) (λ c. search needs)
+    (λ c. search needs) words-again returns returns-2)

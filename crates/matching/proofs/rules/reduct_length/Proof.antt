@@ -3,7 +3,7 @@ use mathlib.Core.Path.{_≡_}
 use native.Mathlib.Omega.{arith}
 use Prim.Native.Nat.{_+_, _-_, _*_, _≤_}
 use lib.ListN.{drop, take}
-use Rattle.matching.specs.rules.Fits.{reductLength}
+use Rattle.matching.specs.rules.Searches.{reductLength}
 use Rattle.matching.proofs.Reducts.{length-done, length-symbol, length-variable}
 use borrow.Author.Needs.{needs}
 use Rattle.matching.proofs.rules.reduct_length.Statement.{statement}
@@ -15,30 +15,6 @@ Inv-loop book rhs size lengths total₀ j₀ total j = (j ≤ size) × (total �
 
 abbrev μ-loop : tie.MeasureT-loop
 μ-loop book rhs size lengths total₀ j₀ total j = size - j
-
-loop-holds : tie.Need-loop-holds Inv-loop μ-loop
-loop-holds c = search needs
-
-add-wide : tie.Need-add-wide Inv-loop μ-loop
-add-wide c = search needs
-
-mul-wide : tie.Need-mul-wide Inv-loop μ-loop
-mul-wide c = search needs
-
-shared-slice-read-wide : tie.Need-shared-slice-read-wide Inv-loop μ-loop
-shared-slice-read-wide c = search needs
-
-wide-requires : tie.Need-wide-requires Inv-loop μ-loop
-wide-requires c κs = search needs
-
-add-j : tie.Need-add-j Inv-loop μ-loop
-add-j c = search needs
-
-add-total : tie.Need-add-total Inv-loop μ-loop
-add-total c = search needs
-
-loop-less : tie.Need-loop-less Inv-loop μ-loop
-loop-less c = search needs
 
 loop-again : tie.Need-loop-again Inv-loop μ-loop
 loop-again c =
@@ -54,9 +30,6 @@ loop-again c =
       ),
     )
 
-mul-total : tie.Need-mul-total Inv-loop μ-loop
-mul-total c = search needs
-
 array-read-total : tie.Need-array-read-total Inv-loop μ-loop
 array-read-total c =
     let c4 = c .before .before .before .before in
@@ -65,9 +38,6 @@ array-read-total c =
 
 add-total-2 : tie.Need-add-total-2 Inv-loop μ-loop
 add-total-2 c = let w = c .before .wide in omega (arith, c .before .before .before .before .before .before .pre .1 (w .result - 32768))
-
-loop-less-2 : tie.Need-loop-less-2 Inv-loop μ-loop
-loop-less-2 c = search needs
 
 loop-again-2 : tie.Need-loop-again-2 Inv-loop μ-loop
 loop-again-2 c =
@@ -91,20 +61,6 @@ pub reduct-length-spec : {M : Type 1} → statement M
 reduct-length-spec =
     tie.close
     (tie.spec
-    Inv-loop
-    μ-loop
-    loop-holds
-    add-wide
-    mul-wide
-    shared-slice-read-wide
-    wide-requires
-    add-j
-    add-total
-    loop-less
-    loop-again
-    mul-total
-    array-read-total
-    add-total-2
-    loop-less-2
-    loop-again-2
-    returns)
+    Inv-loop μ-loop (λ c. search needs) (λ c. search needs) (λ c. search needs) (λ c. search needs) (λ c κs. search needs)
+    (λ c. search needs) (λ c. search needs) (λ c. search needs) loop-again (λ c. search needs) array-read-total add-total-2
+    (λ c. search needs) loop-again-2 returns)

@@ -14,29 +14,8 @@ Inv-loop book shape f at i₀ i = Looked book f at (idleTest (systemOf book) f) 
 abbrev μ-loop : tie.MeasureT-loop
 μ-loop book shape f at i₀ i = i
 
-mul-wide : tie.Need-mul-wide Inv-loop μ-loop
-mul-wide c = search needs
-
-shared-slice-read-wide : tie.Need-shared-slice-read-wide Inv-loop μ-loop
-shared-slice-read-wide c = search needs
-
-wide-requires : tie.Need-wide-requires Inv-loop μ-loop
-wide-requires c κs = search needs
-
 loop-holds : tie.Need-loop-holds Inv-loop μ-loop
 loop-holds c = let a = c .before .before .before .args in look-starts (c .before .before .before .pre .1) (idleTest (systemOf (a .book .now)) (a .f)) (c .wide .ensures .0)
-
-add-wide : tie.Need-add-wide Inv-loop μ-loop
-add-wide c = search needs
-
-mul-wide-2 : tie.Need-mul-wide-2 Inv-loop μ-loop
-mul-wide-2 c = search needs
-
-shared-slice-read-wide-2 : tie.Need-shared-slice-read-wide-2 Inv-loop μ-loop
-shared-slice-read-wide-2 c = search needs
-
-wide-requires-2 : tie.Need-wide-requires-2 Inv-loop μ-loop
-wide-requires-2 c κs = search needs
 
 returns : tie.Need-returns Inv-loop μ-loop
 returns c =
@@ -44,9 +23,6 @@ returns c =
     let c8 = c4 .before .before .before .before in
     let a = c8 .args in
     sym (look-zero (c8 .pre .1) (idleTest (systemOf (a .book .now)) (a .f)) (c4 .loop .inv) (c .before .before .before .loop-test .taken) (c .before .wide2 .ensures .0) (c .if1 .taken))
-
-sub-idle : tie.Need-sub-idle Inv-loop μ-loop
-sub-idle c = search needs
 
 idle-requires : tie.Need-idle-requires Inv-loop μ-loop
 idle-requires c κs = c .before .before .before .before .before .before .before .before .pre .0
@@ -59,12 +35,6 @@ returns-2 c =
     let a = c10 .args in
     sym (look-busy (c10 .pre .1) (idleTest (systemOf (a .book .now)) (a .f)) (c6 .loop .inv) (c5 .loop-test .taken) (c .before .before .before .wide2 .ensures .0)
     (c .before .before .if1 .left) (sym (c .before .idle .ensures) ∙ not-true _ (c .if2 .taken)))
-
-sub-i : tie.Need-sub-i Inv-loop μ-loop
-sub-i c = search needs
-
-loop-less : tie.Need-loop-less Inv-loop μ-loop
-loop-less c = search needs
 
 loop-again : tie.Need-loop-again Inv-loop μ-loop
 loop-again c =
@@ -84,21 +54,6 @@ pub closes-spec : {M : Type 1} → statement M
 closes-spec =
     tie.close
     (tie.spec
-    Inv-loop
-    μ-loop
-    mul-wide
-    shared-slice-read-wide
-    wide-requires
-    loop-holds
-    add-wide
-    mul-wide-2
-    shared-slice-read-wide-2
-    wide-requires-2
-    returns
-    sub-idle
-    idle-requires
-    returns-2
-    sub-i
-    loop-less
-    loop-again
-    returns-3)
+    Inv-loop μ-loop (λ c. search needs) (λ c. search needs) (λ c κs. search needs) loop-holds (λ c. search needs) (λ c. search needs)
+    (λ c. search needs) (λ c κs. search needs) returns (λ c. search needs) idle-requires returns-2 (λ c. search needs) (λ c. search needs)
+    loop-again returns-3)

@@ -30,17 +30,11 @@ loop-holds c = every-starts (otherHead (c .before .args .f)) (c .before .pre)
 rule-at-requires : tie.Need-rule-at-requires Inv-loop μ-loop
 rule-at-requires c κs = room (c .before .before .before .before .pre) (c .if1 .taken) (c .before .before .loop .inv .rest)
 
-add-k : tie.Need-add-k Inv-loop μ-loop
-add-k c = search needs
-
 mul-wide : tie.Need-mul-wide Inv-loop μ-loop
 mul-wide c = let w = turn c .here in omega arith
 
 shared-slice-read-wide : tie.Need-shared-slice-read-wide Inv-loop μ-loop
 shared-slice-read-wide c = let w = turn (c .before) .here in omega arith
-
-wide-requires : tie.Need-wide-requires Inv-loop μ-loop
-wide-requires c κs = search needs
 
 returns : tie.Need-returns Inv-loop μ-loop
 returns c =
@@ -48,9 +42,6 @@ returns c =
     let c8 = c6 .before .before in
     let f = c8 .args .f in let t = turn (c .before .before .before) in
     sym (defined-every (systemOf (c8 .args .book .now)) f false (every-fails (otherHead f) t (c6 .loop .inv) (head-same t f (c .before .wide .ensures .0) (c .if2 .taken))))
-
-loop-less : tie.Need-loop-less Inv-loop μ-loop
-loop-less c = search needs
 
 loop-again : tie.Need-loop-again Inv-loop μ-loop
 loop-again c =
@@ -67,15 +58,5 @@ pub defined-spec : {M : Type 1} → statement M
 defined-spec =
     tie.close
     (tie.spec
-    Inv-loop
-    μ-loop
-    loop-holds
-    rule-at-requires
-    add-k
-    mul-wide
-    shared-slice-read-wide
-    wide-requires
-    returns
-    loop-less
-    loop-again
-    returns-2)
+    Inv-loop μ-loop loop-holds rule-at-requires (λ c. search needs) mul-wide shared-slice-read-wide (λ c κs. search needs) returns
+    (λ c. search needs) loop-again returns-2)

@@ -33,32 +33,17 @@ rule-at-requires c κs = room (c .before .before .before .before .pre) (c .if1 .
 add-end : tie.Need-add-end Inv-loop μ-loop
 add-end c = let w = turn (c .before) .here in omega arith
 
-add-k : tie.Need-add-k Inv-loop μ-loop
-add-k c = search needs
-
 mul-wide : tie.Need-mul-wide Inv-loop μ-loop
 mul-wide c = let w = turn (c .before) .here in omega arith
 
 shared-slice-read-wide : tie.Need-shared-slice-read-wide Inv-loop μ-loop
 shared-slice-read-wide c = let w = turn (c .before .before) .here in omega arith
 
-wide-requires : tie.Need-wide-requires Inv-loop μ-loop
-wide-requires c κs = search needs
-
 mul-is-variable : tie.Need-mul-is-variable Inv-loop μ-loop
 mul-is-variable c = let w = turn (c .before .before .before .before) .here in omega arith
 
-sub-is-variable : tie.Need-sub-is-variable Inv-loop μ-loop
-sub-is-variable c = search needs
-
-part-is-variable-start : tie.Need-part-is-variable-start Inv-loop μ-loop
-part-is-variable-start c = search needs
-
 part-is-variable-end : tie.Need-part-is-variable-end Inv-loop μ-loop
 part-is-variable-end c = let w = turn (c .before .before .before .before) .here in omega arith
-
-is-variable-requires : tie.Need-is-variable-requires Inv-loop μ-loop
-is-variable-requires c κs = search needs
 
 returns : tie.Need-returns Inv-loop μ-loop
 returns c =
@@ -70,9 +55,6 @@ returns c =
     sym (idle-every (c12 .pre) (a .f) (a .i) ∙ every-fails (idleIn (signatureOf (a .book .now)) (a .f) (a .i)) t (c10 .loop .inv)
     (idle-same t (a .f) (c4 .wide .ensures .0) (a .i) (c .before .before .before .if2 .taken) (c .before .is-variable .ensures) (not-true _ (c .if3 .taken))))
 
-loop-less : tie.Need-loop-less Inv-loop μ-loop
-loop-less c = search needs
-
 loop-again : tie.Need-loop-again Inv-loop μ-loop
 loop-again c =
     let c4 = c .before .before .before .before in
@@ -82,9 +64,6 @@ loop-again c =
     let a = c12 .args in let t = turn c7 in
     every-goes (idleIn (signatureOf (a .book .now)) (a .f) (a .i)) t (c10 .loop .inv)
     (idle-same t (a .f) (c4 .wide .ensures .0) (a .i) (c .before .before .before .if2 .taken) (c .before .is-variable .ensures) (not-false _ (c .if3 .left)))
-
-loop-less-2 : tie.Need-loop-less-2 Inv-loop μ-loop
-loop-less-2 c = search needs
 
 loop-again-2 : tie.Need-loop-again-2 Inv-loop μ-loop
 loop-again-2 c =
@@ -104,23 +83,6 @@ pub idle-spec : {M : Type 1} → statement M
 idle-spec =
     tie.close
     (tie.spec
-    Inv-loop
-    μ-loop
-    loop-holds
-    rule-at-requires
-    add-end
-    add-k
-    mul-wide
-    shared-slice-read-wide
-    wide-requires
-    mul-is-variable
-    sub-is-variable
-    part-is-variable-start
-    part-is-variable-end
-    is-variable-requires
-    returns
-    loop-less
-    loop-again
-    loop-less-2
-    loop-again-2
-    returns-2)
+    Inv-loop μ-loop loop-holds rule-at-requires add-end (λ c. search needs) mul-wide shared-slice-read-wide (λ c κs. search needs)
+    mul-is-variable (λ c. search needs) (λ c. search needs) part-is-variable-end (λ c κs. search needs) returns (λ c. search needs)
+    loop-again (λ c. search needs) loop-again-2 returns-2)

@@ -10,34 +10,10 @@ use Rattle.matching.proofs.safety.is_variable.Tie as tie
 returns : tie.Need-returns
 returns c = let a = c .before .before .before .args in sym (variable-none (signatureOf (a .book .now)) (a .lhs .now) (a .i) (c .if1 .taken))
 
-sub-spans : tie.Need-sub-spans
-sub-spans c = search needs
-
-part-spans-start : tie.Need-part-spans-start
-part-spans-start c = search needs
-
-part-spans-end : tie.Need-part-spans-end
-part-spans-end c = search needs
-
-spans-requires : tie.Need-spans-requires
-spans-requires c κs = search needs
-
-add-p : tie.Need-add-p
-add-p c = search needs
-
 returns-2 : tie.Need-returns-2
 returns-2 c =
     let c6 = c .before .before .before .before .before .before in
     let a = c6 .args in let x = c .before .spans in sym (variable-past (signatureOf (a .book .now)) (a .lhs .now) (a .i) (x .result) (x .ensures .0) (c .if2 .taken))
-
-mul-wide : tie.Need-mul-wide
-mul-wide c = search needs
-
-shared-slice-read-wide : tie.Need-shared-slice-read-wide
-shared-slice-read-wide c = search needs
-
-wide-requires : tie.Need-wide-requires
-wide-requires c κs = search needs
 
 returns-3 : tie.Need-returns-3
 returns-3 c =
@@ -49,14 +25,5 @@ pub is-variable-spec : {M : Type 1} → statement M
 is-variable-spec =
     tie.close
     (tie.spec
-    returns
-    sub-spans
-    part-spans-start
-    part-spans-end
-    spans-requires
-    add-p
-    returns-2
-    mul-wide
-    shared-slice-read-wide
-    wide-requires
-    returns-3)
+    returns (λ c. search needs) (λ c. search needs) (λ c. search needs) (λ c κs. search needs) (λ c. search needs) returns-2
+    (λ c. search needs) (λ c. search needs) (λ c κs. search needs) returns-3)

@@ -37,21 +37,12 @@ shared-slice-read-wide c =
     let c7 = c5 .before .before in
     let w = test-strategy (c7 .pre) (c5 .loop .inv) (c .before .before .before .if1 .taken) in omega arith
 
-wide-requires : tie.Need-wide-requires Inv-loop μ-loop
-wide-requires c κs = search needs
-
 add-at-2 : tie.Need-add-at-2 Inv-loop μ-loop
 add-at-2 c =
     let c4 = c .before .before .before .before in
     let c6 = c4 .before .before in
     let c8 = c6 .before .before in
     let w = test-strategy (c8 .pre) (c6 .loop .inv) (c4 .if1 .taken) in omega arith
-
-add-f : tie.Need-add-f Inv-loop μ-loop
-add-f c = search needs
-
-loop-less : tie.Need-loop-less Inv-loop μ-loop
-loop-less c = search needs
 
 loop-again : tie.Need-loop-again Inv-loop μ-loop
 loop-again c =
@@ -67,17 +58,5 @@ pub tested-spec : {M : Type 1} → statement M
 tested-spec =
     tie.close
     (tie.spec
-    Inv-loop
-    μ-loop
-    loop-holds
-    passes-requires
-    returns
-    add-at
-    mul-wide
-    shared-slice-read-wide
-    wide-requires
-    add-at-2
-    add-f
-    loop-less
-    loop-again
-    returns-2)
+    Inv-loop μ-loop loop-holds passes-requires returns add-at mul-wide shared-slice-read-wide (λ c κs. search needs) add-at-2
+    (λ c. search needs) (λ c. search needs) loop-again returns-2)

@@ -12,9 +12,9 @@ use Rattle.system.specs.declared.Shape.{Shape}
 use Rattle.system.specs.System.{strategy}
 use Rattle.system.specs.Book.{systemOf}
 use Rattle.system.specs.layout.Accepted.{Accepted, StrategyAt}
-use Rattle.system.proofs.layout.Standings.{strategy-count}
+use Rattle.system.proofs.layout.Suffixes.{strategy-count}
 use Rattle.system.specs.declared.layout.entries.Entry.{Entry}
-use Rattle.system.specs.declared.layout.entries.Entry.the-variants.{End, Again, Rules, Argument}
+use Rattle.system.specs.declared.layout.entries.Entry.the-variants.{End, Repeated, Rules, Argument}
 use Rattle.system.specs.layout.Entries.{entryFrom, between, among, entryOf}
 use Rattle.system.proofs.layout.entries.Repeats.{between-take}
 
@@ -30,7 +30,7 @@ module _ (es : List ℕ) (f c : ℕ) where
   stood = among (getD es c 0) (between es f c)
 
   module _ (h : c < length es) where
-    pub entry-again : stood ≡ true → entryOf es f c ≡ Again
+    pub entry-again : stood ≡ true → entryOf es f c ≡ Repeated
     unfolding entryOf
     entry-again b = rw (lt-ltb c (length es) h, b, entryOf)
 
@@ -47,7 +47,7 @@ module _ (es : List ℕ) (f c : ℕ) where
   -- what it asks for, with what that tells of it
   pub data Asks : Entry → Type 0 where
     end : length es ≤ c → Asks End
-    again : c < length es → stood ≡ true → Asks Again
+    again : c < length es → stood ≡ true → Asks Repeated
     rules : c < length es → stood ≡ false → getD es c 0 ≡ 0 → Asks Rules
     opens : (i : ℕ) → c < length es → stood ≡ false → getD es c 0 ≡ suc i → Asks (Argument i)
 
@@ -62,7 +62,7 @@ module _ (es : List ℕ) (f c : ℕ) where
   pub asked-end : Asks End → length es ≤ c
   asked-end (end h) = h
 
-  pub asked-again : Asks Again → (c < length es) × (stood ≡ true)
+  pub asked-again : Asks Repeated → (c < length es) × (stood ≡ true)
   asked-again (again h b) = (h, b)
 
   pub asked-rules : Asks Rules → (c < length es) × (stood ≡ false) × (getD es c 0 ≡ 0)
@@ -108,8 +108,8 @@ module _ (b : List ℕ) (w k at f c n : ℕ) (is : k ≡ w) (st : StrategyAt b k
         let e : between es f c ≡ between (drop (at + 1) b) f c = ap (λ y. between y f c) (sym (st .entries)) ∙ between-take (getD b at 0) f c (drop (at + 1) b) (omega arith) in
         (λ j. among (entry-word j) (e j)) ∙ sym before
 
-    pub entry-repeated : r ≡ true → Again ≡ entryOf (strategy (systemOf b) w) f c
-    entry-repeated q = same Again (entry-again es f c inside (entry-stood ∙ q))
+    pub entry-repeated : r ≡ true → Repeated ≡ entryOf (strategy (systemOf b) w) f c
+    entry-repeated q = same Repeated (entry-again es f c inside (entry-stood ∙ q))
 
     module _ (new : r ≡ false) (e : ℕ) (word : e ≡ getD b (at + 1 + c) 0) where
       pub entry-zero : e ≡ 0 → Rules ≡ entryOf (strategy (systemOf b) w) f c

@@ -10,25 +10,25 @@ use lib.ListN.{length, getD, take, drop, length-drop}
 use lib.Seq.{take-nil, take-all, take-suc, take-take, drop-cons, getD-drop}
 use lib.Dec.{eqb}
 use borrow.Author.Tests.{eqb-true, eq-eqb, ne-eqb}
-use Rattle.system.specs.Terms.{Stands, first, later}
+use Rattle.system.specs.Terms.{Member, first, later}
 use Rattle.system.specs.layout.Entries.{between, among}
-use Rattle.system.proofs.Members.{stands-nil, stands-snoc}
+use Rattle.system.proofs.Members.{member-nil, member-snoc}
 
-pub among-stands : (e : ℕ) (ds : List ℕ) → among e ds ≡ true → Stands e ds
+pub among-member : (e : ℕ) (ds : List ℕ) → among e ds ≡ true → Member e ds
 unfolding among
-among-stands e [] q = absurd (let z : _≡_ {A = ℕ} 0 1 = cc in omega arith)
-among-stands e (d ∷ ds) q = go (λ k. among-stands e ds k) (eqb e d) refl q
+among-member e [] q = absurd (let z : _≡_ {A = ℕ} 0 1 = cc in omega arith)
+among-member e (d ∷ ds) q = go (λ k. among-member e ds k) (eqb e d) refl q
   where
-    go : (among e ds ≡ true → Stands e ds) → (b : Bool) → eqb e d ≡ b → b || among e ds ≡ true → Stands e (d ∷ ds)
-    go on true h k = subst (λ y. Stands e (y ∷ ds)) (eqb-true e d h) first
+    go : (among e ds ≡ true → Member e ds) → (b : Bool) → eqb e d ≡ b → b || among e ds ≡ true → Member e (d ∷ ds)
+    go on true h k = subst (λ y. Member e (y ∷ ds)) (eqb-true e d h) first
     go on false h k = later (on k)
 
 -- none between f and what is not above it
-pub between-none {ℓ} : {X : Type ℓ} (es : List ℕ) (f c e : ℕ) → c ≤ f → Stands e (between es f c) → X
-between-none es f c e h st = stands-nil (subst (λ y. Stands e (take y (drop f es))) (let z : c - f ≡ 0 = omega arith in z) st)
+pub between-none {ℓ} : {X : Type ℓ} (es : List ℕ) (f c e : ℕ) → c ≤ f → Member e (between es f c) → X
+between-none es f c e h st = member-nil (subst (λ y. Member e (take y (drop f es))) (let z : c - f ≡ 0 = omega arith in z) st)
 
 -- one more
-pub between-more : (es : List ℕ) (f c e : ℕ) → c < length es → Stands e (between es f (suc c)) → (e ≡ getD es c 0) ⊎ Stands e (between es f c)
+pub between-more : (es : List ℕ) (f c e : ℕ) → c < length es → Member e (between es f (suc c)) → (e ≡ getD es c 0) ⊎ Member e (between es f c)
 between-more es f c e more st = elim (decLt c f) [
   | yes h ↦ between-none es f (suc c) e h st
   | no h ↦
@@ -36,7 +36,7 @@ between-more es f c e more st = elim (decLt c f) [
       let y : take (suc c - f) (drop f es) ≡ between es f c ++ getD es c 0 ∷ [] =
       ap (λ k. take k (drop f es)) z ∙ take-suc (drop f es) (c - f) 0 (rw (length-drop f es) (omega arith))
       ∙ ap (λ k. between es f c ++ k ∷ []) (getD-drop f es (c - f) 0 ∙ ap (λ k. getD es k 0) (let w : f + (c - f) ≡ c = omega arith in w)) in
-      stands-snoc e (getD es c 0) (between es f c) (subst (Stands e) y st)
+      member-snoc e (getD es c 0) (between es f c) (subst (Member e) y st)
 ]
 
 -- all of them

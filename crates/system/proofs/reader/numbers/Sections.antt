@@ -8,10 +8,10 @@ use lib.ListN.{length, getD, drop, drop-of-length-le}
 use lib.Seq.{drop-cons}
 use Rattle.system.specs.declared.reader.numbers.Section.{Section}
 use Rattle.system.specs.Numbers.{Fault, faultNumber}
-use Rattle.system.specs.Parser.{Parsed, ok, fault, Parser, after, times, each}
+use Rattle.system.specs.Parser.{Parsed, ok, fault, Parser, andThen, times, each}
 use Rattle.system.specs.reader.Sections.{sectionOf}
 use Rattle.system.proofs.FaultNumbers.{number-positive}
-use Rattle.system.proofs.Parsed.{fault-after}
+use Rattle.system.proofs.Parsed.{fault-then}
 use Rattle.system.proofs.ParsesMany.{none-times, times-step, times-fault, none-each, each-step, each-fault}
 
 -- what was read, where the number is 0; the fault, where it is not
@@ -37,11 +37,11 @@ told : {A : Type 0} {o : Parsed A} {t : Section} (v : Refused o t) → record { 
 told {t} v = λ j. record { number = v .number j; place = t .place }
 
 -- a part that is refused refuses what it is a part of
-pub stop : {A B : Type 0} (o : Parsed A) (t : Section) → t ≡ sectionOf o → (on : A → ℕ → Parsed B) → (t .number ≡ 0 → ⊥) → sectionOf (after o on) ≡ t
-stop o t is on bad = let v = refused o t is bad in ap sectionOf (fault-after (v .equal) on) ∙ told v
+pub stop : {A B : Type 0} (o : Parsed A) (t : Section) → t ≡ sectionOf o → (on : A → ℕ → Parsed B) → (t .number ≡ 0 → ⊥) → sectionOf (andThen o on) ≡ t
+stop o t is on bad = let v = refused o t is bad in ap sectionOf (fault-then (v .equal) on) ∙ told v
 
 -- what is done to the value does not show in a section
-keep : {A B : Type 0} (o : Parsed A) (f : A → B) → sectionOf (after o (λ a i. ok (f a) i)) ≡ sectionOf o
+keep : {A B : Type 0} (o : Parsed A) (f : A → B) → sectionOf (andThen o (λ a i. ok (f a) i)) ≡ sectionOf o
 keep (ok a i) f = refl
 keep (fault g i) f = refl
 

@@ -12,14 +12,8 @@ use Rattle.system.proofs.reader.scan_book.Tie as tie
 within : (c : tie.Else1) → c .before .before .read-sections .result .rules < length (c .before .before .before .before .args .book .now)
 within c = rules-within _ _ (c .before .before .read-sections .ensures) (c .if1 .left)
 
-read-sections-requires : tie.Need-read-sections-requires
-read-sections-requires c κs = search needs
-
 returns : tie.Need-returns
 returns c = scan-refused _ _ (c .before .before .read-sections .ensures) (c .if1 .taken)
-
-symbols-requires : tie.Need-symbols-requires
-symbols-requires c κs = search needs
 
 add-strategies : tie.Need-add-strategies
 add-strategies c = let n = c .symbols .ensures in omega (arith, signature-within (c .before .before .before .before .before .args .book .now))
@@ -29,9 +23,6 @@ mul-wide c = let h = within (c .before) in omega arith
 
 shared-slice-read-wide : tie.Need-shared-slice-read-wide
 shared-slice-read-wide c = within (c .before .before)
-
-wide-requires : tie.Need-wide-requires
-wide-requires c κs = search needs
 
 add-first-rule : tie.Need-add-first-rule
 add-first-rule c = let h = within (c .before .before .before) in omega arith
@@ -44,12 +35,5 @@ pub scan-book-spec : {M : Type 1} → statement M
 scan-book-spec =
     tie.close
     (tie.spec
-    read-sections-requires
-    returns
-    symbols-requires
-    add-strategies
-    mul-wide
-    shared-slice-read-wide
-    wide-requires
-    add-first-rule
-    returns-2)
+    (λ c κs. search needs) returns (λ c κs. search needs) add-strategies mul-wide shared-slice-read-wide (λ c κs. search needs)
+    add-first-rule returns-2)

@@ -9,39 +9,39 @@ use Rattle.system.specs.Signature.{Signature}
 use Rattle.system.specs.System.{System}
 use Rattle.system.specs.Format.{encodeStrategies}
 use Rattle.system.specs.Numbers.{Fault, range}
-use Rattle.system.specs.Parser.{Parsed, ok, after, times, each, number, readStrategy, readRules, readSystem, read}
+use Rattle.system.specs.Parser.{Parsed, ok, andThen, times, each, number, readStrategy, readRules, readSystem, read}
 use Rattle.system.specs.Answers.{signatureOf}
 use Rattle.system.specs.reader.Sections.{sectionOf, sectionsOf, Inside}
-use Rattle.system.proofs.Parsed.{ok-after, fault-after}
+use Rattle.system.proofs.Parsed.{ok-then, fault-then}
 use Rattle.system.proofs.reader.numbers.Sections.{success, refused}
 use Rattle.system.proofs.reader.numbers.NumberSteps.{number-refused}
-use Rattle.system.proofs.reader.sections.SectionSteps.{after-inside}
+use Rattle.system.proofs.reader.sections.SectionSteps.{then-inside}
 use Rattle.system.proofs.Located.{numbers-signature, strategies-end}
 
 module _ (ws : List ℕ) where
   -- ---- what follows each section
 
   abbrev pub afterStrategies : Signature → List (List ℕ) → ℕ → Parsed System
-  afterStrategies g ess i = after (readRules ws g i) (λ rs j. ok (record { arities = g; strategies = ess; rules = rs }) j)
+  afterStrategies g ess i = andThen (readRules ws g i) (λ rs j. ok (record { arities = g; strategies = ess; rules = rs }) j)
 
   abbrev pub afterCount : Signature → ℕ → ℕ → Parsed System
-  afterCount g n i = after (each (readStrategy ws) g i) (afterStrategies g)
+  afterCount g n i = andThen (each (readStrategy ws) g i) (afterStrategies g)
 
   abbrev pub afterArities : ℕ → Signature → ℕ → Parsed System
-  afterArities n g i = after (number ws range n n i) (afterCount g)
+  afterArities n g i = andThen (number ws range n n i) (afterCount g)
 
   abbrev pub afterFirst : ℕ → ℕ → Parsed System
-  afterFirst n i = after (times n (number ws range 0 8) i) (afterArities n)
+  afterFirst n i = andThen (times n (number ws range 0 8) i) (afterArities n)
 
   -- ---- a section that is refused
 
-  pub scan-refused : {A : Type 0} (o : Parsed A) (on : A → ℕ → Parsed System) → read ws ≡ after o on → (t : Section) → t ≡ sectionOf o → (t .number ≡ 0 → ⊥) →
+  pub scan-refused : {A : Type 0} (o : Parsed A) (on : A → ℕ → Parsed System) → read ws ≡ andThen o on → (t : Section) → t ≡ sectionOf o → (t .number ≡ 0 → ⊥) →
       sectionsOf (read ws) ≡ record { number = t .number; place = t .place; rules = 0 }
   scan-refused o on e t is bad =
       let v = refused o t is bad in
-      ap sectionsOf (e ∙ fault-after (v .equal) on) ∙ (λ j. record { number = v .number j; place = t .place; rules = 0 })
+      ap sectionsOf (e ∙ fault-then (v .equal) on) ∙ (λ j. record { number = v .number j; place = t .place; rules = 0 })
 
-  pub number-bad : (f : Fault) (low high i : ℕ) (on : ℕ → ℕ → Parsed System) → read ws ≡ after (number ws f low high i) on → (r : ℕ) → r ≡ sectionOf (number ws f low high i) .number →
+  pub number-bad : (f : Fault) (low high i : ℕ) (on : ℕ → ℕ → Parsed System) → read ws ≡ andThen (number ws f low high i) on → (r : ℕ) → r ≡ sectionOf (number ws f low high i) .number →
       (r ≡ 0 → ⊥) → sectionsOf (read ws) ≡ record { number = r; place = i; rules = 0 }
   number-bad f low high i on e r is bad =
       scan-refused (number ws f low high i) on e (record { number = r; place = i }) (sym (number-refused ws f low high i r is bad)) bad
@@ -65,12 +65,12 @@ module _ (ws : List ℕ) where
 
   -- ---- the sections in turn
 
-  pub scan-start : read ws ≡ after (number ws range 1 256 0) afterFirst
+  pub scan-start : read ws ≡ andThen (number ws range 1 256 0) afterFirst
   unfolding read readSystem
   scan-start = refl
 
   pub scan-count : (n : ℕ) → n ≡ getD ws 0 0 → Inside ws 0 1 256 → AfterFirst n
-  scan-count n many some = rw many (scan-start ∙ after-inside ws range 1 256 0 afterFirst some)
+  scan-count n many some = rw many (scan-start ∙ then-inside ws range 1 256 0 afterFirst some)
 
   module _ (n : ℕ) where
     pub scan-arities : n ≡ getD ws 0 0 → AfterFirst n → (a : Section) → a ≡ sectionOf (times n (number ws range 0 8) 1) → a .number ≡ 0 → AfterArities n
@@ -78,17 +78,17 @@ module _ (ws : List ℕ) where
         let x = success (times n (number ws range 0 8) 1) a ia good in
         let s = numbers-signature ws n (x .equal) (sym many) in
         let q = x .equal ∙ ap (λ g. ok g (a .place)) (s .0) ∙ ap (λ j. ok (signatureOf ws) j) (s .1) in
-        (e ∙ ok-after q (afterArities n), ap length (sym (s .0)) ∙ s .2)
+        (e ∙ ok-then q (afterArities n), ap length (sym (s .0)) ∙ s .2)
 
     pub scan-strategies-count : AfterArities n → Inside ws (n + 1) n n → AfterCount n
     scan-strategies-count e same =
         let i : n + 1 + 1 ≡ n + 2 = omega arith in
-        e .0 ∙ after-inside ws range n n (n + 1) (afterCount (signatureOf ws)) same ∙ ap (λ i. afterCount (signatureOf ws) n i) i
+        e .0 ∙ then-inside ws range n n (n + 1) (afterCount (signatureOf ws)) same ∙ ap (λ i. afterCount (signatureOf ws) n i) i
 
     pub scan-strategies : AfterCount n → (o : Section) → o ≡ sectionOf (each (readStrategy ws) (signatureOf ws) (n + 2)) → o .number ≡ 0 → AfterStrategies n o
     scan-strategies e o io fine =
         let x = success (each (readStrategy ws) (signatureOf ws) (n + 2)) o io fine in
-        record { strategies = x .value; rest = e ∙ ok-after (x .equal) (afterStrategies (signatureOf ws)); place = strategies-end ws (signatureOf ws) (n + 2) (x .equal) .0 }
+        record { strategies = x .value; rest = e ∙ ok-then (x .equal) (afterStrategies (signatureOf ws)); place = strategies-end ws (signatureOf ws) (n + 2) (x .equal) .0 }
 
     pub scan-whole : AfterArities n → (o : Section) → AfterStrategies n o → (t : Section) → t ≡ sectionOf (readRules ws (signatureOf ws) (o .place)) → t .number ≡ 0 →
         sectionsOf (read ws) ≡ record { number = 0; place = t .place; rules = o .place }
@@ -97,4 +97,4 @@ module _ (ws : List ℕ) where
         let l = h .1 in
         let q = s .place in
         let e : length (signatureOf ws) + 2 + length (encodeStrategies (s .strategies)) ≡ o .place = omega arith in
-        ap sectionsOf (s .rest ∙ ok-after (x .equal) _) ∙ (λ j. record { number = 0; place = t .place; rules = e j })
+        ap sectionsOf (s .rest ∙ ok-then (x .equal) _) ∙ (λ j. record { number = 0; place = t .place; rules = e j })

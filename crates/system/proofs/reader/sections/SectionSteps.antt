@@ -6,16 +6,16 @@ use mathlib.Core.Bool.{true}
 use mathlib.Core.List.{List}
 use lib.ListN.{length, getD}
 use borrow.Author.Tests.{lt-ltb, le-ltb}
-use Rattle.system.specs.declared.reader.sides.Hand.{Hand}
-use Rattle.system.specs.declared.reader.sides.Hand.the-variants.{Left, Right}
+use Rattle.system.specs.declared.reader.sides.SideRole.{SideRole}
+use Rattle.system.specs.declared.reader.sides.SideRole.the-variants.{Left, Right}
 use Rattle.system.specs.declared.reader.numbers.Section.{Section}
 use Rattle.system.specs.declared.reader.sides.Side.{Side}
 use Rattle.system.specs.Signature.{Signature}
 use Rattle.system.specs.System.{Rule}
 use Rattle.system.specs.Numbers.{Fault, range, entry}
-use Rattle.system.specs.Parser.{Parsed, ok, fault, after, Reading, times, number, readStrategy, readWords, readSide, readRule, readRules, readEnd}
+use Rattle.system.specs.Parser.{Parsed, ok, fault, andThen, Reading, times, number, readStrategy, readWords, readSide, readRule, readRules, readEnd}
 use Rattle.system.specs.reader.Sections.{sectionOf, sideOf, Inside}
-use Rattle.system.proofs.Parsed.{ok-after, fault-after}
+use Rattle.system.proofs.Parsed.{ok-then, fault-then}
 use Rattle.system.proofs.FaultNumbers.{number-positive}
 use Rattle.system.proofs.reader.numbers.Sections.{success, refused, stop}
 use Rattle.system.proofs.reader.numbers.NumberSteps.{number-inside, number-refused}
@@ -23,10 +23,10 @@ use Rattle.system.proofs.reader.numbers.NumberSteps.{number-inside, num
 -- ---- after a number
 
 module _ {B : Type 0} (ws : List ℕ) (f : Fault) (low high i : ℕ) (on : ℕ → ℕ → Parsed B) where
-  pub after-inside : Inside ws i low high → after (number ws f low high i) on ≡ on (getD ws i 0) (i + 1)
-  after-inside n = ok-after (number-inside ws f low high i n) on
+  pub then-inside : Inside ws i low high → andThen (number ws f low high i) on ≡ on (getD ws i 0) (i + 1)
+  then-inside n = ok-then (number-inside ws f low high i n) on
 
-  pub section-bad : (r : ℕ) → r ≡ sectionOf (number ws f low high i) .number → (r ≡ 0 → ⊥) → sectionOf (after (number ws f low high i) on) ≡ record { number = r; place = i }
+  pub section-bad : (r : ℕ) → r ≡ sectionOf (number ws f low high i) .number → (r ≡ 0 → ⊥) → sectionOf (andThen (number ws f low high i) on) ≡ record { number = r; place = i }
   section-bad r is bad = stop (number ws f low high i) (record { number = r; place = i }) (sym (number-refused ws f low high i r is bad)) on bad
 
 -- ---- a strategy
@@ -38,34 +38,34 @@ module _ (ws : List ℕ) (a i : ℕ) where
 
   pub strategy-entries : Inside ws i 0 16 → sectionOf (readStrategy ws a i) ≡ sectionOf (times (getD ws i 0) (number ws entry 0 a) (i + 1))
   unfolding readStrategy
-  strategy-entries n = ap sectionOf (after-inside ws range 0 16 i (λ n. times n (number ws entry 0 a)) n)
+  strategy-entries n = ap sectionOf (then-inside ws range 0 16 i (λ n. times n (number ws entry 0 a)) n)
 
 -- ---- a side
 
-module _ (ws : List ℕ) (g : Signature) (hand : Hand) (known i : ℕ) where
-  pub side-refused : (r : ℕ) → r ≡ sectionOf (number ws range 1 64 i) .number → (r ≡ 0 → ⊥) → sideOf (readSide ws g hand known i) ≡ record { number = r; place = i; known = 0 }
+module _ (ws : List ℕ) (g : Signature) (role : SideRole) (known i : ℕ) where
+  pub side-refused : (r : ℕ) → r ≡ sectionOf (number ws range 1 64 i) .number → (r ≡ 0 → ⊥) → sideOf (readSide ws g role known i) ≡ record { number = r; place = i; known = 0 }
   unfolding readSide
   side-refused r is bad =
       let x = refused (number ws range 1 64 i) (record { number = r; place = i }) (sym (number-refused ws range 1 64 i r is bad)) bad in
-      ap sideOf (fault-after (x .equal) _) ∙ (λ j. record { number = x .number j; place = i; known = 0 })
+      ap sideOf (fault-then (x .equal) _) ∙ (λ j. record { number = x .number j; place = i; known = 0 })
 
-  pub side-words : Inside ws i 1 64 → sideOf (readSide ws g hand known i) ≡ sideOf (readWords ws g hand true (getD ws i 0) 1 known (i + 1))
+  pub side-words : Inside ws i 1 64 → sideOf (readSide ws g role known i) ≡ sideOf (readWords ws g role true (getD ws i 0) 1 known (i + 1))
   unfolding readSide
-  side-words n = ap sideOf (after-inside ws range 1 64 i (λ n. readWords ws g hand true n 1 known) n)
+  side-words n = ap sideOf (then-inside ws range 1 64 i (λ n. readWords ws g role true n 1 known) n)
 
 -- ---- a rule
 
-side-stop : {B : Type 0} (o : Parsed Reading) (on : Reading → ℕ → Parsed B) → (sideOf o .number ≡ 0 → ⊥) → sectionOf (after o on) ≡ record { number = sideOf o .number; place = sideOf o .place }
+side-stop : {B : Type 0} (o : Parsed Reading) (on : Reading → ℕ → Parsed B) → (sideOf o .number ≡ 0 → ⊥) → sectionOf (andThen o on) ≡ record { number = sideOf o .number; place = sideOf o .place }
 side-stop (ok r i) on n = absurd (n refl)
 side-stop (fault f i) on n = refl
 
 side-next : {B : Type 0} (o : Parsed Reading) (on : ℕ → Reading → ℕ → Parsed B) → sideOf o .number ≡ 0 →
-    (r : Reading) × (after o (λ r. on (r .known) r) ≡ on (sideOf o .known) r (sideOf o .place))
+    (r : Reading) × (andThen o (λ r. on (r .known) r) ≡ on (sideOf o .known) r (sideOf o .place))
 side-next (ok r i) on e = (r, refl)
 side-next (fault f i) on e = absurd (omega (arith, number-positive f))
 
 side-last : (o : Parsed Reading) (l : List ℕ) →
-    sectionOf (after {B = Rule} o (λ r i. ok (record { lhs = l; rhs = r .words }) i)) ≡ record { number = sideOf o .number; place = sideOf o .place }
+    sectionOf (andThen {B = Rule} o (λ r i. ok (record { lhs = l; rhs = r .words }) i)) ≡ record { number = sideOf o .number; place = sideOf o .place }
 side-last (ok r i) l = refl
 side-last (fault f i) l = refl
 
@@ -77,7 +77,7 @@ module _ (ws : List ℕ) (g : Signature) (i : ℕ) (l : Side) (is : l ≡ sideOf
   pub rule-right : l .number ≡ 0 → (r : Side) → r ≡ sideOf (readSide ws g Right (l .known) (l .place)) → sectionOf (readRule ws g i) ≡ record { number = r .number; place = r .place }
   unfolding readRule
   rule-right good r ir =
-      let c = side-next {B = Rule} (readSide ws g Left 0 i) (λ k x j. after (readSide ws g Right k j) (λ y m. ok (record { lhs = x .words; rhs = y .words }) m))
+      let c = side-next {B = Rule} (readSide ws g Left 0 i) (λ k x j. andThen (readSide ws g Right k j) (λ y m. ok (record { lhs = x .words; rhs = y .words }) m))
       (sym (ap (λ s. s .number) is) ∙ good) in
       ap sectionOf (c .1)
       ∙ side-last (readSide ws g Right (sideOf (readSide ws g Left 0 i) .known) (sideOf (readSide ws g Left 0 i) .place)) (c .0 .words)
@@ -87,10 +87,10 @@ module _ (ws : List ℕ) (g : Signature) (i : ℕ) (l : Side) (is : l ≡ sideOf
 
 module _ (ws : List ℕ) (g : Signature) (i : ℕ) where
   abbrev ending : List Rule → ℕ → Parsed (List Rule)
-  ending rules j = after (readEnd ws j) (λ x k. ok rules k)
+  ending rules j = andThen (readEnd ws j) (λ x k. ok rules k)
 
   abbrev rulesOf : ℕ → ℕ → Parsed (List Rule)
-  rulesOf n j = after (times n (readRule ws g) j) ending
+  rulesOf n j = andThen (times n (readRule ws g) j) ending
 
   pub rules-refused : (r : ℕ) → r ≡ sectionOf (number ws range 0 128 i) .number → (r ≡ 0 → ⊥) → sectionOf (readRules ws g i) ≡ record { number = r; place = i }
   unfolding readRules
@@ -99,13 +99,13 @@ module _ (ws : List ℕ) (g : Signature) (i : ℕ) where
   module _ (n : Inside ws i 0 128) (t : Section) (is : t ≡ sectionOf (times (getD ws i 0) (readRule ws g) (i + 1))) where
     here : readRules ws g i ≡ rulesOf (getD ws i 0) (i + 1)
     unfolding readRules
-    here = after-inside ws range 0 128 i rulesOf n
+    here = then-inside ws range 0 128 i rulesOf n
 
     pub rules-bad : (t .number ≡ 0 → ⊥) → sectionOf (readRules ws g i) ≡ t
     rules-bad bad = ap sectionOf here ∙ stop (times (getD ws i 0) (readRule ws g) (i + 1)) t is ending bad
 
     read-all : t .number ≡ 0 → (rules : List Rule) × (readRules ws g i ≡ ending rules (t .place))
-    read-all good = let x = success (times (getD ws i 0) (readRule ws g) (i + 1)) t is good in (x .value, here ∙ ok-after (x .equal) ending)
+    read-all good = let x = success (times (getD ws i 0) (readRule ws g) (i + 1)) t is good in (x .value, here ∙ ok-then (x .equal) ending)
 
     pub rules-surplus : t .number ≡ 0 → t .place < length ws → sectionOf (readRules ws g i) ≡ record { number = 8; place = t .place }
     unfolding readEnd

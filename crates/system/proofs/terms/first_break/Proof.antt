@@ -21,33 +21,15 @@ abbrev μ-loop : tie.MeasureT-loop
 loop-holds : tie.Need-loop-holds Inv-loop μ-loop
 loop-holds c = (omega arith, omega arith, omega arith, refl)
 
-broken-requires : tie.Need-broken-requires Inv-loop μ-loop
-broken-requires c κs = search needs
-
 returns : tie.Need-returns Inv-loop μ-loop
 returns c = let l = c .before .before .before .loop in
     let a = c .before .before .before .before .before .before .args in
     c .broken .ensures ∙ ap (wholeAnswer (a .term .now)) (sym (break-complete (signatureOf (a .book .now)) (a .term .now) (l .due) (l .i) (omega arith) (c .before .if1 .taken)) ∙ l .inv .3)
 
-broken-requires-2 : tie.Need-broken-requires-2 Inv-loop μ-loop
-broken-requires-2 c κs = search needs
-
 returns-2 : tie.Need-returns-2 Inv-loop μ-loop
 returns-2 c = let l = c .before .before .before .before .loop in
     let a = c .before .before .before .before .before .before .before .args in
     c .broken2 .ensures ∙ ap (wholeAnswer (a .term .now)) (sym (break-long (signatureOf (a .book .now)) (a .term .now) (l .due) (l .i) (omega arith) (omega arith)) ∙ l .inv .3)
-
-mul-w : tie.Need-mul-w Inv-loop μ-loop
-mul-w c = search needs
-
-shared-slice-read-w : tie.Need-shared-slice-read-w Inv-loop μ-loop
-shared-slice-read-w c = search needs
-
-is-symbol-requires : tie.Need-is-symbol-requires Inv-loop μ-loop
-is-symbol-requires c κs = search needs
-
-broken-requires-3 : tie.Need-broken-requires-3 Inv-loop μ-loop
-broken-requires-3 c κs = search needs
 
 returns-3 : tie.Need-returns-3 Inv-loop μ-loop
 returns-3 c =
@@ -57,21 +39,6 @@ returns-3 c =
     let a = c10 .args in
     c .broken3 .ensures ∙ ap (wholeAnswer (a .term .now)) (sym (break-unknown (signatureOf (a .book .now)) (a .term .now) (l .due) (l .i) (omega arith)
     (sym (c .before .before .is-symbol .ensures) ∙ not-true _ (c .before .if3 .taken))) ∙ l .inv .3)
-
-sub-due : tie.Need-sub-due Inv-loop μ-loop
-sub-due c = search needs
-
-arity-requires : tie.Need-arity-requires Inv-loop μ-loop
-arity-requires c κs = search needs
-
-add-due : tie.Need-add-due Inv-loop μ-loop
-add-due c = search needs
-
-add-i : tie.Need-add-i Inv-loop μ-loop
-add-i c = search needs
-
-loop-less : tie.Need-loop-less Inv-loop μ-loop
-loop-less c = search needs
 
 loop-again : tie.Need-loop-again Inv-loop μ-loop
 loop-again c =
@@ -85,9 +52,6 @@ loop-again c =
       rw (c .arity .ensures .0) (sym (break-next (signatureOf (a .book .now)) (a .term .now) (l .due) (l .i) (omega arith) (omega arith) (omega arith)
           (sym (c .before .before .is-symbol .ensures) ∙ not-false _ (c .before .if3 .left))) ∙ l .inv .3),
     )
-
-broken-requires-4 : tie.Need-broken-requires-4 Inv-loop μ-loop
-broken-requires-4 c κs = search needs
 
 returns-4 : tie.Need-returns-4 Inv-loop μ-loop
 returns-4 c = let l = c .before .before .before .loop in
@@ -104,24 +68,6 @@ pub first-break-spec : {M : Type 1} → statement M
 first-break-spec =
     tie.close
     (tie.spec
-    Inv-loop
-    μ-loop
-    loop-holds
-    broken-requires
-    returns
-    broken-requires-2
-    returns-2
-    mul-w
-    shared-slice-read-w
-    is-symbol-requires
-    broken-requires-3
-    returns-3
-    sub-due
-    arity-requires
-    add-due
-    add-i
-    loop-less
-    loop-again
-    broken-requires-4
-    returns-4
-    returns-5)
+    Inv-loop μ-loop loop-holds (λ c κs. search needs) returns (λ c κs. search needs) returns-2 (λ c. search needs) (λ c. search needs)
+    (λ c κs. search needs) (λ c κs. search needs) returns-3 (λ c. search needs) (λ c κs. search needs) (λ c. search needs)
+    (λ c. search needs) (λ c. search needs) loop-again (λ c κs. search needs) returns-4 returns-5)

@@ -11,24 +11,9 @@ use borrow.Author.Needs.{needs}
 use Rattle.system.proofs.words.arity.Statement.{statement}
 use Rattle.system.proofs.words.arity.Tie as tie
 
-wide-requires : tie.Need-wide-requires
-wide-requires c κs = search needs
-
-symbols-requires : tie.Need-symbols-requires
-symbols-requires c κs = search needs
-
-add-wide : tie.Need-add-wide
-add-wide c = search needs
-
-mul-wide : tie.Need-mul-wide
-mul-wide c = search needs
-
 shared-slice-read-wide : tie.Need-shared-slice-read-wide
 shared-slice-read-wide c = let ws = c .before .before .before .before .before .args .book .now in
     signature-room ws (c .before .before .before .wide .result) (omega arith)
-
-wide-requires-2 : tie.Need-wide-requires-2
-wide-requires-2 c κs = search needs
 
 returns : tie.Need-returns
 returns c = let a = c .before .before .before .before .before .before .args in
@@ -46,11 +31,5 @@ pub arity-spec : {M : Type 1} → statement M
 arity-spec =
     tie.close
     (tie.spec
-    wide-requires
-    symbols-requires
-    add-wide
-    mul-wide
-    shared-slice-read-wide
-    wide-requires-2
-    returns
-    returns-2)
+    (λ c κs. search needs) (λ c κs. search needs) (λ c. search needs) (λ c. search needs) shared-slice-read-wide (λ c κs. search needs)
+    returns returns-2)

@@ -8,15 +8,6 @@ use Rattle.system.proofs.words.symbols.Tie as tie
 returns : tie.Need-returns
 returns c = omega (arith, signature-length (c .before .before .args .book .now))
 
-shared-slice-read-wide : tie.Need-shared-slice-read-wide
-shared-slice-read-wide c = search needs
-
-wide-requires : tie.Need-wide-requires
-wide-requires c κs = search needs
-
-sub-room : tie.Need-sub-room
-sub-room c = search needs
-
 returns-2 : tie.Need-returns-2
 returns-2 c = omega (arith, signature-length (c .before .before .before .before .before .args .book .now))
 
@@ -25,4 +16,4 @@ returns-3 c = omega (arith, signature-length (c .before .before .before .before 
 
 pub symbols-spec : {M : Type 1} → statement M
 symbols-spec =
-    tie.close (tie.spec returns shared-slice-read-wide wide-requires sub-room returns-2 returns-3)
+    tie.close (tie.spec returns (λ c. search needs) (λ c κs. search needs) (λ c. search needs) returns-2 returns-3)

@@ -6,19 +6,19 @@ use native.Mathlib.Omega.{arith}
 use mathlib.Core.Path.{_≡_, _∙_, subst}
 use lib.ListN.{length}
 use Rattle.system.specs.Book.{systemOf}
-use Rattle.matching.specs.declared.Found.the-variants.{Nothing}
+use Rattle.matching.specs.declared.FirstRule.the-variants.{Nothing}
 use Rattle.machine.specs.advance.Transition.{Performed}
 use Rattle.machine.proofs.advance.Bounds.{Bounds, bounds}
 use Rattle.machine.proofs.advance.Advancing.{remainingIn, Advancing, Round, Goes, round-bounds, goes-left, goes-down, goes-rules, rules-bounds}
 use Rattle.machine.proofs.advance.advance.Tie as tie
 
 abbrev pub Inv-loop : tie.InvT-loop
-Inv-loop book shape marks area₀ positions₀ n level₀ floor₀ since₀ area positions level floor since =
+Inv-loop book shape index area₀ positions₀ n level₀ floor₀ since₀ area positions level floor since =
     Advancing (systemOf book) (record { n = n; level = level₀ }) area₀ area positions level floor since ×
     (length area ≡ length area₀) × (length positions ≡ length positions₀)
 
 abbrev pub μ-loop : tie.MeasureT-loop
-μ-loop book shape marks area₀ positions₀ n level₀ floor₀ since₀ area positions level floor since = remainingIn (systemOf book) area n level
+μ-loop book shape index area₀ positions₀ n level₀ floor₀ since₀ area positions level floor since = remainingIn (systemOf book) area n level
 
 -- ---- the places of the code
 
@@ -82,7 +82,7 @@ trying c = rules-bounds (round (c .before .before)) (c .enum-told2 .given .1)
 abbrev pub tried : tie.After-m Inv-loop μ-loop → tie.After-enum-told2 Inv-loop μ-loop
 tried c = c .before .before .before .before .before
 
-pub none-matches : (c : tie.After-m Inv-loop μ-loop) → c .before .first-rule .result .found .found ≡ Nothing →
+pub none-matches : (c : tie.After-m Inv-loop μ-loop) → c .before .first-rule .result .matched .rule ≡ Nothing →
     let τ = round (tried c .before .before) in Goes τ (τ .level) (τ .floor) (τ .since)
 none-matches c q =
     let k = c .before .first-rule in

@@ -2,7 +2,7 @@
 use Prim.Native.Nat.{_≤_, _/_}
 use native.Mathlib.Omega.{arith}
 use borrow.Author.Needs.{needs}
-use Rattle.system.proofs.layout.Standings.{symbols-few, standing-strategy}
+use Rattle.system.proofs.layout.Suffixes.{symbols-few, suffix-strategy}
 use Rattle.system.proofs.layout.index.strategy_at.Statement.{statement}
 use Rattle.system.proofs.layout.index.strategy_at.Tie as tie
 
@@ -15,22 +15,18 @@ mul-walk-on c = let n = few (c .before .before) in omega arith
 shared-slice-read-walk-on : tie.Need-shared-slice-read-walk-on
 shared-slice-read-walk-on c = let n = few (c .before .before .before) in omega arith
 
-mul-walk-on-2 : tie.Need-mul-walk-on-2
-mul-walk-on-2 c = search needs
-
 walk-on-requires : tie.Need-walk-on-requires
 walk-on-requires c κs =
     let a = c .before .before .before .args in
     let p = c .before .before .before .pre in
-    (p .0, p .1 .standing (a .f / 4) (omega arith), omega arith, p .2)
+    (p .0, p .1 .suffix (a .f / 4) (omega arith), omega arith, p .2)
 
 returns : tie.Need-returns
 returns c =
     let a = c .before .before .before .before .args in
     let p = c .before .before .before .before .pre in
-    standing-strategy (a .book .now) (a .shape) (p .0) (a .f) (c .walk-on .result) (p .2) (c .walk-on .ensures)
+    suffix-strategy (a .book .now) (a .shape) (p .0) (a .f) (c .walk-on .result) (p .2) (c .walk-on .ensures)
 
 pub strategy-at-spec : {M : Type 1} → statement M
 strategy-at-spec =
-    tie.close
-    (tie.spec mul-walk-on shared-slice-read-walk-on mul-walk-on-2 walk-on-requires returns)
+    tie.close (tie.spec mul-walk-on shared-slice-read-walk-on (λ c. search needs) walk-on-requires returns)

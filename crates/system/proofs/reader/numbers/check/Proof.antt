@@ -12,15 +12,6 @@ returns : tie.Need-returns
 returns c = let a = c .before .before .args in
     (λ f e. sym (ap (λ o. sectionOf o .number) (number-missing (a .book .now) f (a .low) (a .high) (a .at) (c .if1 .taken))), λ z. absurd (omega arith))
 
-mul-wide : tie.Need-mul-wide
-mul-wide c = search needs
-
-shared-slice-read-wide : tie.Need-shared-slice-read-wide
-shared-slice-read-wide c = search needs
-
-wide-requires : tie.Need-wide-requires
-wide-requires c κs = search needs
-
 returns-2 : tie.Need-returns-2
 returns-2 c = let a = c .before .before .before .before .before .args in
     let w = c .before .wide .ensures in
@@ -39,5 +30,4 @@ returns-4 c = let a = c .before .before .before .before .before .before .args in
 
 pub check-spec : {M : Type 1} → statement M
 check-spec =
-    tie.close
-    (tie.spec returns mul-wide shared-slice-read-wide wide-requires returns-2 returns-3 returns-4)
+    tie.close (tie.spec returns (λ c. search needs) (λ c. search needs) (λ c κs. search needs) returns-2 returns-3 returns-4)

@@ -41,12 +41,6 @@ rules-left c =
 
 -- ---- the needs
 
-check-requires : tie.Need-check-requires
-check-requires c κs = search needs
-
-refused-requires : tie.Need-refused-requires
-refused-requires c κs = search needs
-
 returns : tie.Need-returns
 returns c = let ws = c .before .before .before .before .args .book .now in
     let k = c .before .before .check in
@@ -55,14 +49,8 @@ returns c = let ws = c .before .before .before .before .args .book .now in
 shared-slice-read-wide : tie.Need-shared-slice-read-wide
 shared-slice-read-wide c = let n = c .before .before .check .ensures .1 (c .before .if1 .left) in let h = n .here in omega arith
 
-wide-requires : tie.Need-wide-requires
-wide-requires c κs = search needs
-
 read-numbers-requires : tie.Need-read-numbers-requires
 read-numbers-requires c κs = let n = c .before .before .before .check .ensures .1 (c .before .before .if1 .left) in let h = n .here in let w = c .wide .ensures in omega arith
-
-refused-requires-2 : tie.Need-refused-requires-2
-refused-requires-2 c κs = search needs
 
 returns-2 : tie.Need-returns-2
 returns-2 c = let w = c .before .before .before .before in
@@ -79,9 +67,6 @@ check-requires-2 c κs = omega arith
 add-refused : tie.Need-add-refused
 add-refused c = let w = c .before .before .before .before .before .wide .ensures in omega arith
 
-refused-requires-3 : tie.Need-refused-requires-3
-refused-requires-3 c κs = search needs
-
 returns-3 : tie.Need-returns-3
 returns-3 c =
     let c6 = c .before .before .before .before .before .before in
@@ -97,9 +82,6 @@ add-read-strategies c = let w = c .before .before .before .before .before .wide 
 read-strategies-requires : tie.Need-read-strategies-requires
 read-strategies-requires c κs = let s = c .before .check2 .ensures .1 (c .if3 .left) in let h = s .here in omega arith
 
-refused-requires-4 : tie.Need-refused-requires-4
-refused-requires-4 c κs = search needs
-
 returns-4 : tie.Need-returns-4
 returns-4 c =
     let c4 = c .before .before .before .before in
@@ -112,9 +94,6 @@ returns-4 c =
 
 read-tail-requires : tie.Need-read-tail-requires
 read-tail-requires c κs = c .before .before .read-strategies .ensures .1
-
-refused-requires-5 : tie.Need-refused-requires-5
-refused-requires-5 c κs = search needs
 
 returns-5 : tie.Need-returns-5
 returns-5 c = let ws = book (c .before .before .before .before .before .before .before .before .before .before .before .before) in
@@ -135,24 +114,6 @@ pub read-sections-spec : {M : Type 1} → statement M
 read-sections-spec =
     tie.close
     (tie.spec
-    check-requires
-    refused-requires
-    returns
-    shared-slice-read-wide
-    wide-requires
-    read-numbers-requires
-    refused-requires-2
-    returns-2
-    add-check
-    check-requires-2
-    add-refused
-    refused-requires-3
-    returns-3
-    add-read-strategies
-    read-strategies-requires
-    refused-requires-4
-    returns-4
-    read-tail-requires
-    refused-requires-5
-    returns-5
-    returns-6)
+    (λ c κs. search needs) (λ c κs. search needs) returns shared-slice-read-wide (λ c κs. search needs) read-numbers-requires
+    (λ c κs. search needs) returns-2 add-check check-requires-2 add-refused (λ c κs. search needs) returns-3 add-read-strategies
+    read-strategies-requires (λ c κs. search needs) returns-4 read-tail-requires (λ c κs. search needs) returns-5 returns-6)

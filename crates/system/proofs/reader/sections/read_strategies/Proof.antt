@@ -19,14 +19,8 @@ Inv-loop book at n i₀ k₀ i k = (k ≤ n) × (n ≡ length (signatureOf book)
 abbrev μ-loop : tie.MeasureT-loop
 μ-loop book at n i₀ k₀ i k = n - k
 
-symbols-requires : tie.Need-symbols-requires Inv-loop μ-loop
-symbols-requires c κs = search needs
-
 loop-holds : tie.Need-loop-holds Inv-loop μ-loop
 loop-holds c = (omega arith, c .symbols .ensures, omega arith, refl)
-
-add-wide : tie.Need-add-wide Inv-loop μ-loop
-add-wide c = search needs
 
 mul-wide : tie.Need-mul-wide Inv-loop μ-loop
 mul-wide c = let l = c .before .loop in
@@ -39,12 +33,6 @@ shared-slice-read-wide c = let l = c .before .before .loop in
     let a = c .before .before .before .before .before .args in
     signature-room (a .book .now) (l .k) (omega arith)
 
-wide-requires : tie.Need-wide-requires Inv-loop μ-loop
-wide-requires c κs = search needs
-
-read-strategy-requires : tie.Need-read-strategy-requires Inv-loop μ-loop
-read-strategy-requires c κs = search needs
-
 returns : tie.Need-returns Inv-loop μ-loop
 returns c = let l = c .before .before .before .before .before .before .loop in
     let a = c .before .before .before .before .before .before .before .before .before .args in
@@ -52,12 +40,6 @@ returns c = let l = c .before .before .before .before .before .before .loop in
     let h : l .k < length (signatureOf ws) = omega arith in
     let e = c .before .before .read-strategy .ensures .0 ∙ ap (λ n. sectionOf (readStrategy ws n (l .i))) (c .before .before .before .wide .ensures .0 ∙ sym (signature-word ws (l .k) h)) in
     (sym (each-stop (readStrategy ws) (signatureOf ws) (l .k) (l .i) h (c .before .before .read-strategy .result) e (c .if1 .taken)) ∙ l .inv .3, c .before .before .read-strategy .ensures .1)
-
-add-k : tie.Need-add-k Inv-loop μ-loop
-add-k c = search needs
-
-loop-less : tie.Need-loop-less Inv-loop μ-loop
-loop-less c = search needs
 
 loop-again : tie.Need-loop-again Inv-loop μ-loop
 loop-again c = let l = c .before .before .before .before .before .before .loop in
@@ -80,17 +62,5 @@ pub read-strategies-spec : {M : Type 1} → statement M
 read-strategies-spec =
     tie.close
     (tie.spec
-    Inv-loop
-    μ-loop
-    symbols-requires
-    loop-holds
-    add-wide
-    mul-wide
-    shared-slice-read-wide
-    wide-requires
-    read-strategy-requires
-    returns
-    add-k
-    loop-less
-    loop-again
-    returns-2)
+    Inv-loop μ-loop (λ c κs. search needs) loop-holds (λ c. search needs) mul-wide shared-slice-read-wide (λ c κs. search needs)
+    (λ c κs. search needs) returns (λ c. search needs) (λ c. search needs) loop-again returns-2)

@@ -14,9 +14,6 @@ use Rattle.system.proofs.reader.sections.read_strategy.Tie as tie
 size : (c : tie.Else1) → Inside (c .before .before .before .args .book .now) (c .before .before .before .args .at) 0 16
 size c = c .before .check .ensures .1 (c .if1 .left)
 
-check-requires : tie.Need-check-requires
-check-requires c κs = search needs
-
 returns : tie.Need-returns
 returns c = let a = c .before .before .before .args in
     (sym (strategy-refused (a .book .now) (a .arity) (a .at) (c .before .check .result) (c .before .check .ensures .0 range refl) (c .if1 .taken)), omega arith)
@@ -29,9 +26,6 @@ mul-wide c = let h = size c .here in search needs
 
 shared-slice-read-wide : tie.Need-shared-slice-read-wide
 shared-slice-read-wide c = size (c .before) .here
-
-wide-requires : tie.Need-wide-requires
-wide-requires c κs = search needs
 
 read-numbers-requires : tie.Need-read-numbers-requires
 read-numbers-requires c κs = let h = size (c .before .before) .here in
@@ -51,11 +45,4 @@ pub read-strategy-spec : {M : Type 1} → statement M
 read-strategy-spec =
     tie.close
     (tie.spec
-    check-requires
-    returns
-    add-read-numbers
-    mul-wide
-    shared-slice-read-wide
-    wide-requires
-    read-numbers-requires
-    returns-2)
+    (λ c κs. search needs) returns add-read-numbers mul-wide shared-slice-read-wide (λ c κs. search needs) read-numbers-requires returns-2)

@@ -25,9 +25,6 @@ rules c =
     let a = c .before .before .before .before .before .before .args in
     c .read-rules .ensures .0 ∙ ap (λ k. sectionOf (times k (readRule (a .book .now) (signatureOf (a .book .now))) (a .at + 1))) (c .before .wide .ensures .0)
 
-check-requires : tie.Need-check-requires
-check-requires c κs = search needs
-
 returns : tie.Need-returns
 returns c = let a = c .before .before .before .args in
     (sym (rules-refused (a .book .now) (signatureOf (a .book .now)) (a .at) (c .before .check .result) (c .before .check .ensures .0 range refl) (c .if1 .taken)), omega arith)
@@ -40,9 +37,6 @@ mul-wide c = let h = count c .here in search needs
 
 shared-slice-read-wide : tie.Need-shared-slice-read-wide
 shared-slice-read-wide c = count (c .before) .here
-
-wide-requires : tie.Need-wide-requires
-wide-requires c κs = search needs
 
 read-rules-requires : tie.Need-read-rules-requires
 read-rules-requires c κs = let h = count (c .before .before) .here in
@@ -76,13 +70,5 @@ pub read-tail-spec : {M : Type 1} → statement M
 read-tail-spec =
     tie.close
     (tie.spec
-    check-requires
-    returns
-    add-read-rules
-    mul-wide
-    shared-slice-read-wide
-    wide-requires
-    read-rules-requires
-    returns-2
-    returns-3
-    returns-4)
+    (λ c κs. search needs) returns add-read-rules mul-wide shared-slice-read-wide (λ c κs. search needs) read-rules-requires returns-2
+    returns-3 returns-4)

@@ -15,18 +15,18 @@ add-result c = search needs
 
 returns : tie.Need-returns
 returns c = let a = c .before .before .before .args in
-    (add-one (a .known) ∙ sym (learn-variable (a .hand) (a .known) (a .w) (c .before .enum-told .given .1) (c .if1 .taken)), omega arith)
+    (add-one (a .known) ∙ sym (learn-variable (a .role) (a .known) (a .w) (c .before .enum-told .given .1) (c .if1 .taken)), omega arith)
 
 enum-told-2 : tie.Need-enum-told-2
 enum-told-2 c = search needs
 
 returns-2 : tie.Need-returns-2
 returns-2 c = let a = c .before .before .before .args in
-    (sym (learn-symbol (a .hand) (a .known) (a .w) (c .if1 .left)), omega arith)
+    (sym (learn-symbol (a .role) (a .known) (a .w) (c .if1 .left)), omega arith)
 
 returns-3 : tie.Need-returns-3
 returns-3 c = let a = c .before .before .args in
-    (sym (learn-right (a .hand) (a .known) (a .w) (c .enum-told2 .given .1)), omega arith)
+    (sym (learn-right (a .role) (a .known) (a .w) (c .enum-told2 .given .1)), omega arith)
 
 pub learn-spec : {M : Type 1} → statement M
 learn-spec = tie.close (tie.spec enum-told add-result returns enum-told-2 returns-2 returns-3)

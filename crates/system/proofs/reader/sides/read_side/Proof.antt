@@ -16,12 +16,9 @@ use Rattle.system.proofs.reader.sides.read_side.Tie as tie
 size : (c : tie.Else1) → Inside (c .before .before .before .args .book .now) (c .before .before .before .args .at) 1 64
 size c = c .before .check .ensures .1 (c .if1 .left)
 
-check-requires : tie.Need-check-requires
-check-requires c κs = search needs
-
 returns : tie.Need-returns
 returns c = let a = c .before .before .before .args in (
-  sym (side-refused (a .book .now) (signatureOf (a .book .now)) (a .hand) (a .known) (a .at) (c .before .check .result) (c .before .check .ensures .0 range refl) (c .if1 .taken)),
+  sym (side-refused (a .book .now) (signatureOf (a .book .now)) (a .role) (a .known) (a .at) (c .before .check .result) (c .before .check .ensures .0 range refl) (c .if1 .taken)),
   (omega arith, omega arith),
 )
 
@@ -34,9 +31,6 @@ mul-wide c = let h = size c .here in search needs
 shared-slice-read-wide : tie.Need-shared-slice-read-wide
 shared-slice-read-wide c = size (c .before) .here
 
-wide-requires : tie.Need-wide-requires
-wide-requires c κs = search needs
-
 read-words-requires : tie.Need-read-words-requires
 read-words-requires c κs = let h = size (c .before .before) .here in
     let b = size (c .before .before) .below in
@@ -47,8 +41,8 @@ returns-2 : tie.Need-returns-2
 returns-2 c = let a = c .before .before .before .before .before .before .args in
     let w = c .before .wide .ensures .0 in (
       c .read-words .ensures .0
-          ∙ ap (λ k. sideOf (readWords (a .book .now) (signatureOf (a .book .now)) (a .hand) true k 1 (a .known) (a .at + 1))) w
-          ∙ sym (side-words (a .book .now) (signatureOf (a .book .now)) (a .hand) (a .known) (a .at) (size (c .before .before .before))),
+          ∙ ap (λ k. sideOf (readWords (a .book .now) (signatureOf (a .book .now)) (a .role) true k 1 (a .known) (a .at + 1))) w
+          ∙ sym (side-words (a .book .now) (signatureOf (a .book .now)) (a .role) (a .known) (a .at) (size (c .before .before .before))),
       c .read-words .ensures .1,
     )
 
@@ -56,11 +50,4 @@ pub read-side-spec : {M : Type 1} → statement M
 read-side-spec =
     tie.close
     (tie.spec
-    check-requires
-    returns
-    add-read-words
-    mul-wide
-    shared-slice-read-wide
-    wide-requires
-    read-words-requires
-    returns-2)
+    (λ c κs. search needs) returns add-read-words mul-wide shared-slice-read-wide (λ c κs. search needs) read-words-requires returns-2)

@@ -15,36 +15,24 @@ use Rattle.system.proofs.reader.sides.read_words.Statement.{statement}
 use Rattle.system.proofs.reader.sides.read_words.Tie as tie
 
 abbrev Inv-loop : tie.InvT-loop
-Inv-loop book at n hand known due₀ seen₀ j₀ due seen j = (j ≤ n) × (at + j ≤ length book) × (due ≤ 1 + 65535 * j) × (seen ≤ known + j) ×
-    (sideOf (readWords book (signatureOf book) hand (eqb j 0) (n - j) due seen (at + j)) ≡ sideOf (readWords book (signatureOf book) hand true n 1 known at))
+Inv-loop book at n role known due₀ seen₀ j₀ due seen j = (j ≤ n) × (at + j ≤ length book) × (due ≤ 1 + 65535 * j) × (seen ≤ known + j) ×
+    (sideOf (readWords book (signatureOf book) role (eqb j 0) (n - j) due seen (at + j)) ≡ sideOf (readWords book (signatureOf book) role true n 1 known at))
 
 abbrev μ-loop : tie.MeasureT-loop
-μ-loop book at n hand known due₀ seen₀ j₀ due seen j = n - j
+μ-loop book at n role known due₀ seen₀ j₀ due seen j = n - j
 
 loop-holds : tie.Need-loop-holds Inv-loop μ-loop
 loop-holds c = let a = c .before .args in
-    (omega arith, omega arith, omega arith, omega arith, words-start (a .book .now) (signatureOf (a .book .now)) (a .hand) (a .n) 1 (a .known) (a .at) 0 refl)
-
-add-i : tie.Need-add-i Inv-loop μ-loop
-add-i c = search needs
+    (omega arith, omega arith, omega arith, omega arith, words-start (a .book .now) (signatureOf (a .book .now)) (a .role) (a .n) 1 (a .known) (a .at) 0 refl)
 
 returns : tie.Need-returns Inv-loop μ-loop
 returns c =
     let c4 = c .before .before .before .before in
     let l = c .before .before .loop in
     let a = c4 .args in (
-      sym (words-missing (a .book .now) (signatureOf (a .book .now)) (a .hand) (eqb (l .j) 0) (a .n - l .j) (l .due) (l .seen) (a .at + l .j) (omega arith) (c .if1 .taken)) ∙ l .inv .4,
+      sym (words-missing (a .book .now) (signatureOf (a .book .now)) (a .role) (eqb (l .j) 0) (a .n - l .j) (l .due) (l .seen) (a .at + l .j) (omega arith) (c .if1 .taken)) ∙ l .inv .4,
       (omega arith, omega arith),
     )
-
-mul-w : tie.Need-mul-w Inv-loop μ-loop
-mul-w c = search needs
-
-shared-slice-read-w : tie.Need-shared-slice-read-w Inv-loop μ-loop
-shared-slice-read-w c = search needs
-
-side-fault-requires : tie.Need-side-fault-requires Inv-loop μ-loop
-side-fault-requires c κs = search needs
 
 returns-2 : tie.Need-returns-2 Inv-loop μ-loop
 returns-2 c =
@@ -52,7 +40,7 @@ returns-2 c =
     let c7 = c5 .before .before in
     let l = c5 .loop in
     let a = c7 .args in (
-      sym (words-fault (a .book .now) (signatureOf (a .book .now)) (a .hand) (eqb (l .j) 0) (a .n - l .j) (l .due) (l .seen) (a .at + l .j) (omega arith) (omega arith)
+      sym (words-fault (a .book .now) (signatureOf (a .book .now)) (a .role) (eqb (l .j) 0) (a .n - l .j) (l .due) (l .seen) (a .at + l .j) (omega arith) (omega arith)
           (c .before .side-fault .result) (c .before .side-fault .ensures) (c .if2 .taken)) ∙ l .inv .4,
       (omega arith, omega arith),
     )
@@ -60,23 +48,8 @@ returns-2 c =
 sub-due : tie.Need-sub-due Inv-loop μ-loop
 sub-due c = let l = c .before .before .before .before .before .loop in
     let a = c .before .before .before .before .before .before .before .args in
-    let h = side-open (signatureOf (a .book .now)) (a .hand) (eqb (l .j) 0) (l .due) (l .seen) (getD (a .book .now) (a .at + l .j) 0) (sym (c .before .side-fault .ensures) ∙ c .if2 .left) in
+    let h = side-open (signatureOf (a .book .now)) (a .role) (eqb (l .j) 0) (l .due) (l .seen) (getD (a .book .now) (a .at + l .j) 0) (sym (c .before .side-fault .ensures) ∙ c .if2 .left) in
     omega arith
-
-arity-requires : tie.Need-arity-requires Inv-loop μ-loop
-arity-requires c κs = search needs
-
-add-due : tie.Need-add-due Inv-loop μ-loop
-add-due c = search needs
-
-learn-requires : tie.Need-learn-requires Inv-loop μ-loop
-learn-requires c κs = search needs
-
-add-j : tie.Need-add-j Inv-loop μ-loop
-add-j c = search needs
-
-loop-less : tie.Need-loop-less Inv-loop μ-loop
-loop-less c = search needs
 
 loop-again : tie.Need-loop-again Inv-loop μ-loop
 loop-again c =
@@ -86,16 +59,13 @@ loop-again c =
     let a = c9 .args in
     let g = signatureOf (a .book .now) in
     let w = getD (a .book .now) (a .at + l .j) 0 in
-    let h = side-open g (a .hand) (eqb (l .j) 0) (l .due) (l .seen) w (sym (c .before .before .before .side-fault .ensures) ∙ c .before .before .if2 .left) in
-    let t = words-turn (a .book .now) g (a .hand) (a .n) (l .due) (l .seen) (a .at) (l .j) (omega arith) (omega arith) (c .before .before .before .side-fault .result)
+    let h = side-open g (a .role) (eqb (l .j) 0) (l .due) (l .seen) w (sym (c .before .before .before .side-fault .ensures) ∙ c .before .before .if2 .left) in
+    let t = words-turn (a .book .now) g (a .role) (a .n) (l .due) (l .seen) (a .at) (l .j) (omega arith) (omega arith) (c .before .before .before .side-fault .result)
     (c .before .arity .result) (c .learn .result)
     (c .before .before .before .side-fault .ensures) (c .before .before .if2 .left) (c .before .arity .ensures .0) (c .learn .ensures .0) in
     let k = c .learn .ensures .1 in
     let r = c .before .arity .ensures .1 in
     (omega arith, omega arith, omega arith, omega arith, sym t ∙ l .inv .4)
-
-add-t18 : tie.Need-add-t18 Inv-loop μ-loop
-add-t18 c = search needs
 
 returns-3 : tie.Need-returns-3 Inv-loop μ-loop
 returns-3 c =
@@ -103,13 +73,10 @@ returns-3 c =
     let l = c .before .before .loop in
     let a = c4 .args in
     let e : a .at + l .j ≡ a .at + a .n = omega arith in (
-      rw (← e) (sym (words-short (a .book .now) (signatureOf (a .book .now)) (a .hand) (eqb (l .j) 0) (a .n - l .j) (l .due) (l .seen) (a .at + l .j) (omega arith) (omega arith))
+      rw (← e) (sym (words-short (a .book .now) (signatureOf (a .book .now)) (a .role) (eqb (l .j) 0) (a .n - l .j) (l .due) (l .seen) (a .at + l .j) (omega arith) (omega arith))
           ∙ l .inv .4),
       (omega arith, omega arith),
     )
-
-add-t19 : tie.Need-add-t19 Inv-loop μ-loop
-add-t19 c = search needs
 
 returns-4 : tie.Need-returns-4 Inv-loop μ-loop
 returns-4 c =
@@ -117,7 +84,7 @@ returns-4 c =
     let l = c .before .before .loop in
     let a = c4 .args in
     let e : a .at + l .j ≡ a .at + a .n = omega arith in (
-      rw (← e) (sym (words-done (a .book .now) (signatureOf (a .book .now)) (a .hand) (eqb (l .j) 0) (a .n - l .j) (l .due) (l .seen) (a .at + l .j) (omega arith) (omega arith))
+      rw (← e) (sym (words-done (a .book .now) (signatureOf (a .book .now)) (a .role) (eqb (l .j) 0) (a .n - l .j) (l .due) (l .seen) (a .at + l .j) (omega arith) (omega arith))
           ∙ l .inv .4),
       (omega arith, omega arith),
     )
@@ -126,23 +93,6 @@ pub read-words-spec : {M : Type 1} → statement M
 read-words-spec =
     tie.close
     (tie.spec
-    Inv-loop
-    μ-loop
-    loop-holds
-    add-i
-    returns
-    mul-w
-    shared-slice-read-w
-    side-fault-requires
-    returns-2
-    sub-due
-    arity-requires
-    add-due
-    learn-requires
-    add-j
-    loop-less
-    loop-again
-    add-t18
-    returns-3
-    add-t19
-    returns-4)
+    Inv-loop μ-loop loop-holds (λ c. search needs) returns (λ c. search needs) (λ c. search needs) (λ c κs. search needs) returns-2 sub-due
+    (λ c κs. search needs) (λ c. search needs) (λ c κs. search needs) (λ c. search needs) (λ c. search needs) loop-again
+    (λ c. search needs) returns-3 (λ c. search needs) returns-4)

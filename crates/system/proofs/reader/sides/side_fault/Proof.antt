@@ -12,24 +12,18 @@ use Rattle.system.proofs.reader.sides.side_fault.Tie as tie
 
 returns : tie.Need-returns
 returns c = let a = c .before .before .args in
-    sym (ap numberOr0 (side-complete (signatureOf (a .book .now)) (a .hand) (a .first) (a .due) (a .known) (a .w) (c .if1 .taken)))
-
-is-symbol-requires : tie.Need-is-symbol-requires
-is-symbol-requires c κs = search needs
+    sym (ap numberOr0 (side-complete (signatureOf (a .book .now)) (a .role) (a .first) (a .due) (a .known) (a .w) (c .if1 .taken)))
 
 returns-2 : tie.Need-returns-2
 returns-2 c = let a = c .before .before .before .before .args in
-    sym (ap numberOr0 (side-symbol (signatureOf (a .book .now)) (a .hand) (a .first) (a .due) (a .known) (a .w) (omega arith) (sym (c .before .is-symbol .ensures) ∙ c .if2 .taken)))
-
-wide-requires : tie.Need-wide-requires
-wide-requires c κs = search needs
+    sym (ap numberOr0 (side-symbol (signatureOf (a .book .now)) (a .role) (a .first) (a .due) (a .known) (a .w) (omega arith) (sym (c .before .is-symbol .ensures) ∙ c .if2 .taken)))
 
 returns-3 : tie.Need-returns-3
 returns-3 c =
     let c6 = c .before .before .before .before .before .before in
     let a = c6 .args in
     let w = c .before .wide .ensures in
-    sym (ap numberOr0 (side-low (signatureOf (a .book .now)) (a .hand) (a .first) (a .due) (a .known) (a .w) (omega arith)
+    sym (ap numberOr0 (side-low (signatureOf (a .book .now)) (a .role) (a .first) (a .due) (a .known) (a .w) (omega arith)
     (sym (c .before .before .before .is-symbol .ensures) ∙ c .before .before .if2 .left) (omega arith)))
 
 returns-4 : tie.Need-returns-4
@@ -38,11 +32,8 @@ returns-4 c =
     let c7 = c4 .before .before .before in
     let a = c7 .args in
     let w = c .before .before .wide .ensures in
-    sym (ap numberOr0 (side-high (signatureOf (a .book .now)) (a .hand) (a .first) (a .due) (a .known) (a .w) (omega arith)
+    sym (ap numberOr0 (side-high (signatureOf (a .book .now)) (a .role) (a .first) (a .due) (a .known) (a .w) (omega arith)
     (sym (c4 .is-symbol .ensures) ∙ c .before .before .before .if2 .left) (omega arith)))
-
-variable-fault-requires : tie.Need-variable-fault-requires
-variable-fault-requires c κs = search needs
 
 returns-5 : tie.Need-returns-5
 returns-5 c =
@@ -52,19 +43,10 @@ returns-5 c =
     let a = c8 .args in
     let w = c .before .before .before .wide .ensures in
     c .variable-fault .ensures
-    ∙ ap (λ k. numberOr0 (variableFault (a .hand) (a .first) (a .known) (k - 32768))) (w .0)
-    ∙ sym (ap numberOr0 (side-variable (signatureOf (a .book .now)) (a .hand) (a .first) (a .due) (a .known) (a .w) (omega arith) (sym (c5 .is-symbol .ensures) ∙ c4 .if2 .left)
+    ∙ ap (λ k. numberOr0 (variableFault (a .role) (a .first) (a .known) (k - 32768))) (w .0)
+    ∙ sym (ap numberOr0 (side-variable (signatureOf (a .book .now)) (a .role) (a .first) (a .due) (a .known) (a .w) (omega arith) (sym (c5 .is-symbol .ensures) ∙ c4 .if2 .left)
     (omega arith) (omega arith)))
 
 pub side-fault-spec : {M : Type 1} → statement M
 side-fault-spec =
-    tie.close
-    (tie.spec
-    returns
-    is-symbol-requires
-    returns-2
-    wide-requires
-    returns-3
-    returns-4
-    variable-fault-requires
-    returns-5)
+    tie.close (tie.spec returns (λ c κs. search needs) returns-2 (λ c κs. search needs) returns-3 returns-4 (λ c κs. search needs) returns-5)

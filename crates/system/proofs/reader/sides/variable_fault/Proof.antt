@@ -6,32 +6,26 @@ use borrow.Author.Needs.{needs}
 use Rattle.system.proofs.reader.sides.variable_fault.Statement.{statement}
 use Rattle.system.proofs.reader.sides.variable_fault.Tie as tie
 
-enum-told : tie.Need-enum-told
-enum-told c = search needs
-
 returns : tie.Need-returns
 returns c = let a = c .before .before .before .args in
-    sym (ap numberOr0 (variable-head (a .hand) (a .first) (a .known) (a .k) (c .before .enum-told .given .1) (c .if1 .taken)))
+    sym (ap numberOr0 (variable-head (a .role) (a .first) (a .known) (a .k) (c .before .enum-told .given .1) (c .if1 .taken)))
 
 returns-2 : tie.Need-returns-2
 returns-2 c = let a = c .before .before .before .before .args in
-    sym (ap numberOr0 (variable-next (a .hand) (a .first) (a .known) (a .k) (c .before .before .enum-told .given .1) (c .before .if1 .left) (c .if2 .taken)))
-
-enum-told-2 : tie.Need-enum-told-2
-enum-told-2 c = search needs
+    sym (ap numberOr0 (variable-next (a .role) (a .first) (a .known) (a .k) (c .before .before .enum-told .given .1) (c .before .if1 .left) (c .if2 .taken)))
 
 returns-3 : tie.Need-returns-3
 returns-3 c = let a = c .before .before .before .args in
-    sym (ap numberOr0 (variable-known (a .hand) (a .first) (a .known) (a .k) (c .before .enum-told2 .given .1) (c .if3 .taken)))
+    sym (ap numberOr0 (variable-known (a .role) (a .first) (a .known) (a .k) (c .before .enum-told2 .given .1) (c .if3 .taken)))
 
 returns-4 : tie.Need-returns-4
 returns-4 c = let a = c .before .before .before .before .args in
-    sym (ap numberOr0 (variable-skips (a .hand) (a .first) (a .known) (a .k) (c .before .before .enum-told .given .1) (c .before .if1 .left) (c .if2 .left)))
+    sym (ap numberOr0 (variable-skips (a .role) (a .first) (a .known) (a .k) (c .before .before .enum-told .given .1) (c .before .if1 .left) (c .if2 .left)))
 
 returns-5 : tie.Need-returns-5
 returns-5 c = let a = c .before .before .before .args in
-    sym (ap numberOr0 (variable-unbound (a .hand) (a .first) (a .known) (a .k) (c .before .enum-told2 .given .1) (c .if3 .left)))
+    sym (ap numberOr0 (variable-unbound (a .role) (a .first) (a .known) (a .k) (c .before .enum-told2 .given .1) (c .if3 .left)))
 
 pub variable-fault-spec : {M : Type 1} → statement M
 variable-fault-spec =
-    tie.close (tie.spec enum-told returns returns-2 enum-told-2 returns-3 returns-4 returns-5)
+    tie.close (tie.spec (λ c. search needs) returns returns-2 (λ c. search needs) returns-3 returns-4 returns-5)

@@ -13,57 +13,57 @@ use lib.Seq.{take-append-le, take-append-seam, getD-append-seam}
 use borrow.Author.Tests.{lt-ltb, le-ltb}
 use Rattle.system.specs.Signature.{argument}
 use Rattle.system.specs.System.{System}
-use Rattle.system.specs.Terms.{Stands, first, later}
-use Rattle.matching.specs.Matching.{redex}
-use Rattle.rewriting.specs.Machine.{strategyAt, down, position, Opened, level, finished, around, scan, enter}
+use Rattle.system.specs.Terms.{Member, first, later}
+use Rattle.matching.specs.Matching.{contraction}
+use Rattle.rewriting.specs.Machine.{strategyAt, down, position, Opened, level, final, around, scan, enter}
 use Rattle.system.specs.layout.Entries.{between, among}
 use Rattle.machine.specs.advance.Transition.{sinceAt}
 use Rattle.rewriting.proofs.Laws.{position-snoc}
 use Rattle.rewriting.proofs.Iterate.{scan-pass}
-use Rattle.system.proofs.layout.entries.Repeats.{among-stands, between-none, between-more, between-all}
+use Rattle.system.proofs.layout.entries.Repeats.{among-member, between-none, between-more, between-all}
 
 module _ (s : System) (t : List ℕ) where
   -- at p, with l levels left below
-  abbrev pub Passes : ℕ → ℕ → ℕ → Type 0
-  Passes l p zero = redex s (drop p t) ≡ none
-  Passes l p (suc i) = enter s l t (argument (s .arities) t p i) ≡ finished
+  abbrev pub Skips : ℕ → ℕ → ℕ → Type 0
+  Skips l p zero = contraction s (drop p t) ≡ none
+  Skips l p (suc i) = enter s l t (argument (s .arities) t p i) ≡ final
 
-  abbrev pub AllPass : ℕ → ℕ → List ℕ → Type 0
-  AllPass l p es = (e : ℕ) → Stands e es → Passes l p e
+  abbrev pub AllSkip : ℕ → ℕ → List ℕ → Type 0
+  AllSkip l p es = (e : ℕ) → Member e es → Skips l p e
 
-  pub scan-over : (l p e : ℕ) (es : List ℕ) (c : ℕ) → Passes l p e → scan s (enter s l t) t (e ∷ es) c p ≡ scan s (enter s l t) t es (suc c) p
+  pub scan-over : (l p e : ℕ) (es : List ℕ) (c : ℕ) → Skips l p e → scan s (enter s l t) t (e ∷ es) c p ≡ scan s (enter s l t) t es (suc c) p
   unfolding scan
   scan-over l p zero es c h = scan-pass s (enter s l t) t es c p h
   scan-over l p (suc i) es c h = ap (λ n. around (suc c) n (scan s (enter s l t) t es (suc c) p)) h
 
-  scan-all : (l p : ℕ) (es : List ℕ) (c : ℕ) → AllPass l p es → scan s (enter s l t) t es c p ≡ finished
+  scan-all : (l p : ℕ) (es : List ℕ) (c : ℕ) → AllSkip l p es → scan s (enter s l t) t es c p ≡ final
   unfolding scan
   scan-all l p [] c h = refl
   scan-all l p (e ∷ es) c h = scan-over l p e es c (h e first) ∙ scan-all l p es (suc c) (λ d k. h d (later k))
 
-  enter-all : (l p : ℕ) → AllPass l p (strategyAt s t p) → enter s (suc l) t p ≡ finished
+  enter-all : (l p : ℕ) → AllSkip l p (strategyAt s t p) → enter s (suc l) t p ≡ final
   unfolding enter
   enter-all l p h = scan-all l p (strategyAt s t p) 0 h
 
   -- the entries from f up to c of the level with the levels `outer` around it
   abbrev pub Known : List ℕ → ℕ → ℕ → Type 0
-  Known outer f c = AllPass (63 - length outer) (position s t outer 0) (between (strategyAt s t (position s t outer 0)) f c)
+  Known outer f c = AllSkip (63 - length outer) (position s t outer 0) (between (strategyAt s t (position s t outer 0)) f c)
 
   -- what is known in a run of transitions: of each level from `floor` on, that those of its entries that were ended in this run of transitions pass
-  pub record Passed (outer : List ℕ) (c floor since : ℕ) : Type 0 where
+  pub record Skipped (outer : List ℕ) (c floor since : ℕ) : Type 0 where
     pub floored : floor ≤ length outer
     pub around : (k : ℕ) → floor ≤ k → k < length outer → Known (take k outer) (sinceAt floor since k) (getD outer k 0 - 1)
     pub here : Known outer (sinceAt floor since (length outer)) c
 
   -- nothing yet, at the level where it starts or which is left to
-  pub passed-start : (outer : List ℕ) (c floor : ℕ) → floor ≡ length outer → Passed outer c floor c
-  passed-start outer c floor q = record {
+  pub skipped-start : (outer : List ℕ) (c floor : ℕ) → floor ≡ length outer → Skipped outer c floor c
+  skipped-start outer c floor q = record {
     floored = omega arith;
     around = λ k f h. absurd (omega arith);
     here = λ e st. between-none _ c c e (omega arith) (rw (le-ltb floor (length outer) (omega arith), sinceAt) at st);
   }
 
-  module _ (outer : List ℕ) (c floor since : ℕ) (v : Passed outer c floor since) where
+  module _ (outer : List ℕ) (c floor since : ℕ) (v : Skipped outer c floor since) where
     abbrev here : ℕ
     here = position s t outer 0
 
@@ -71,23 +71,23 @@ module _ (s : System) (t : List ℕ) where
     entries = strategyAt s t here
 
     -- an entry that stood before
-    pub passed-again : among (getD entries c 0) (between entries (sinceAt floor since (length outer)) c) ≡ true → Passes (63 - length outer) here (getD entries c 0)
-    passed-again q = v .here (getD entries c 0) (among-stands (getD entries c 0) _ q)
+    pub skipped-again : among (getD entries c 0) (between entries (sinceAt floor since (length outer)) c) ≡ true → Skips (63 - length outer) here (getD entries c 0)
+    skipped-again q = v .here (getD entries c 0) (among-member (getD entries c 0) _ q)
 
     -- one entry more
-    pub passed-more : c < length entries → Passes (63 - length outer) here (getD entries c 0) → Passed outer (suc c) floor since
-    passed-more more h = record {
+    pub skipped-more : c < length entries → Skips (63 - length outer) here (getD entries c 0) → Skipped outer (suc c) floor since
+    skipped-more more h = record {
       floored = v .floored;
       around = v .around;
       here = λ e st. elim (between-more entries (sinceAt floor since (length outer)) c e more st) [
-        | inl q ↦ subst (Passes (63 - length outer) here) (sym q) h
+        | inl q ↦ subst (Skips (63 - length outer) here) (sym q) h
         | inr k ↦ v .here e k
       ];
     }
 
     -- an argument is opened
-    pub passed-open : Passed (outer ++ suc c ∷ []) 0 floor since
-    passed-open = record {
+    pub skipped-open : Skipped (outer ++ suc c ∷ []) 0 floor since
+    skipped-open = record {
       floored = rw (length-append outer (suc c ∷ [])) (let z = v .floored in omega arith);
       around = go;
       here = λ e st. between-none (strategyAt s t (position s t (outer ++ suc c ∷ []) 0)) (sinceAt floor since (length (outer ++ suc c ∷ []))) 0 e (omega arith) st;
@@ -110,7 +110,7 @@ module _ (s : System) (t : List ℕ) where
   opened-last (d ∷ cs) c (level h e o) = opened-last cs c o
 
   -- a level is left that was opened in this run of transitions: the entry that opened it passes
-  module _ (ds : List ℕ) (d c floor since : ℕ) (v : Passed (ds ++ d ∷ []) c floor since) (o : Opened s t 0 (ds ++ d ∷ [])) where
+  module _ (ds : List ℕ) (d c floor since : ℕ) (v : Skipped (ds ++ d ∷ []) c floor since) (o : Opened s t 0 (ds ++ d ∷ [])) where
     depth : length (ds ++ d ∷ []) ≡ suc (length ds)
     depth = let z = length-append ds (d ∷ []) in omega arith
 
@@ -122,16 +122,16 @@ module _ (s : System) (t : List ℕ) where
 
     module _ (room : length ds < 63) (f : floor ≤ length ds) (h : length (strategyAt s t (position s t (ds ++ d ∷ []) 0)) ≤ c) where
       -- all of its entries pass
-      ended : enter s (63 - length ds) t (down s t above d) ≡ finished
-      ended =
+      expansionOf : enter s (63 - length ds) t (down s t above d) ≡ final
+      expansionOf =
           let x = v .here in
           let y = rw (lt-ltb floor (length (ds ++ d ∷ [])) (omega (arith, depth)), sinceAt, between-all (strategyAt s t (position s t (ds ++ d ∷ []) 0)) c h) at x in
           let z : suc (63 - length (ds ++ d ∷ [])) ≡ 63 - length ds = omega (arith, depth) in
           rw (position-snoc s t ds d 0, z) at (enter-all (63 - length (ds ++ d ∷ [])) (position s t (ds ++ d ∷ []) 0) y)
 
-      pub passed-left : Passed ds d floor since
+      pub skipped-left : Skipped ds d floor since
       unfolding down
-      passed-left = record { floored = f; around = outside; here = inside (opened-last ds d o) }
+      skipped-left = record { floored = f; around = outside; here = inside (opened-last ds d o) }
         where
           outside : (k : ℕ) → floor ≤ k → k < length ds → Known (take k ds) (sinceAt floor since k) (getD ds k 0 - 1)
           outside k g l = rw (take-append-le k ds (d ∷ []) (omega arith), List·getD-append ds (d ∷ []) 0 k l) at (v .around k g (omega (arith, depth)))
@@ -140,8 +140,8 @@ module _ (s : System) (t : List ℕ) where
           inside (b, i, q, more, e) g st =
               let x : Known ds (sinceAt floor since (length ds)) (d - 1) =
               rw (take-append-seam ds (d ∷ []), getD-append-seam ds d [] 0) at (v .around (length ds) f (omega (arith, depth))) in
-              let w : Passes (63 - length ds) above (getD over b 0) = rw e (rw (q, e) at ended) in
+              let w : Skips (63 - length ds) above (getD over b 0) = rw e (rw (q, e) at expansionOf) in
               elim (between-more over (sinceAt floor since (length ds)) b g more (rw q at st)) [
-                | inl r ↦ subst (Passes (63 - length ds) above) (sym r) w
-                | inr k ↦ x g (subst (λ y. Stands g (between over (sinceAt floor since (length ds)) y)) (let z : b ≡ d - 1 = omega arith in z) k)
+                | inl r ↦ subst (Skips (63 - length ds) above) (sym r) w
+                | inr k ↦ x g (subst (λ y. Member g (between over (sinceAt floor since (length ds)) y)) (let z : b ≡ d - 1 = omega arith in z) k)
               ]

@@ -12,21 +12,21 @@ use lib.Seq.{getD-take, getD-drop, getD-at, getD-set-same, getD-set-other, drop-
 use Rattle.system.specs.Limits.{variable, variables}
 use Rattle.system.specs.Signature.{Signature, span, subterm}
 use Rattle.system.specs.System.{Rule, noRule, instance}
-use Rattle.system.specs.Terms.{Numbered, end, name, next, Lawful}
+use Rattle.system.specs.Terms.{Numbered, end, symbol, next, WellFormedRule}
 use Rattle.system.specs.Format.{encodeRules}
 use Rattle.system.proofs.Accepts.{forest-some}
-use Rattle.system.proofs.Members.{stands-getD, numbered-le}
+use Rattle.system.proofs.Members.{member-getD, numbered-le}
 use Rattle.system.proofs.Located.{RuleAt, rule-listed}
 use Rattle.system.proofs.words.SpanSteps.{span-le}
-use Rattle.matching.specs.Matching.{bind, Redex, firstMatch}
+use Rattle.matching.specs.Matching.{bind, Contraction, firstMatch}
 use Rattle.matching.specs.declared.Match.{Match}
-use Rattle.matching.specs.declared.Found.the-variants.{First}
-use Rattle.matching.specs.Stretches.{Stretches, unset, stretches, nothing, matchFrom}
-use Rattle.matching.specs.rules.Fits.{value, stretchesOf, redexOf, RightSide, Within}
+use Rattle.matching.specs.declared.FirstRule.the-variants.{First}
+use Rattle.matching.specs.Bindings.{Bindings, noBindings, bindings, noMatch, matchFrom}
+use Rattle.matching.specs.rules.Searches.{value, bindingsOf, contractionOf, RightSide, Within}
 use Rattle.matching.proofs.Matched.{bind-nil, instance-cong}
 use Rattle.matching.proofs.Firsts.{first-here, first-next, first-nil}
 use Rattle.matching.proofs.Words.{match-end, match-symbol, match-differ, match-variable}
-use Rattle.matching.proofs.rules.MatchSteps.{takes-end, takes-variable, takes-differ, takes-same, note-symbol, note-variable, words-end, words-stop, words-next, from-nil, from-here, from-next}
+use Rattle.matching.proofs.rules.MatchSteps.{consumed-end, consumed-variable, consumed-differ, consumed-same, withBinding-symbol, withBinding-variable, words-end, words-stop, words-next, from-nil, from-here, from-next}
 
 -- a list of zeros
 pub zero-at : (n v : ℕ) → _≡_ {A = ℕ} (getD (replicate n 0) v 0) 0
@@ -34,24 +34,24 @@ zero-at n v = elim (decLt v n) [ yes h ↦ getD-replicate n v 0 0 h | no h ↦ L
 
 module _ (t : List ℕ) where
   -- the values that were bound are the words of the stretches
-  pub record Reads (σ : List (List ℕ)) (a : Stretches) : Type 0 where
+  pub record Reads (σ : List (List ℕ)) (a : Bindings) : Type 0 where
     pub values : (v : ℕ) → getD σ v [] ≡ value t a v
     pub within : Within t (a .starts) (a .lengths)
 
-  pub data Agree : Option (List (List ℕ)) → Option Stretches → Type 0 where
+  pub data Agree : Option (List (List ℕ)) → Option Bindings → Type 0 where
     neither : Agree none none
-    both : {σ : List (List ℕ)} {a : Stretches} → Reads σ a → Agree (some σ) (some a)
+    both : {σ : List (List ℕ)} {a : Bindings} → Reads σ a → Agree (some σ) (some a)
 
-  reads-none : Reads [] unset
-  unfolding unset value
+  reads-none : Reads [] noBindings
+  unfolding noBindings value
   reads-none = record {
     values = λ v. rw (zero-at variables v);
     within = record { size-starts = refl; size-lengths = refl; inside = λ v. rw (zero-at variables v) (omega arith) };
   }
 
   -- one stretch more
-  module _ (σ : List (List ℕ)) (a : Stretches) (n q m : ℕ) (count : length σ ≡ n) (few : n < variables) (fits : q + m ≤ length t) (before : Reads σ a) where
-    abbrev a′ : Stretches
+  module _ (σ : List (List ℕ)) (a : Bindings) (n q m : ℕ) (count : length σ ≡ n) (few : n < variables) (fits : q + m ≤ length t) (before : Reads σ a) where
+    abbrev a′ : Bindings
     a′ = record { starts = set (a .starts) n q; lengths = set (a .lengths) n m }
 
     abbrev x : List ℕ
@@ -107,18 +107,18 @@ module _ (t : List ℕ) where
     span-some [] h = absurd (omega arith)
     span-some (w ∷ ws) h = omega arith
 
-    agree : {n m : ℕ} {ls : List ℕ} → Numbered n m ls → m ≤ variables → (q : ℕ) → q ≤ length t → (σ : List (List ℕ)) (a : Stretches) → length σ ≡ n → Reads σ a →
-        Agree (bind g ls (drop q t) σ) (stretches g ls (drop q t) q a)
+    agree : {n m : ℕ} {ls : List ℕ} → Numbered n m ls → m ≤ variables → (q : ℕ) → q ≤ length t → (σ : List (List ℕ)) (a : Bindings) → length σ ≡ n → Reads σ a →
+        Agree (bind g ls (drop q t) σ) (bindings g ls (drop q t) q a)
     unfolding subterm
     agree end few q h σ a c r = rw (bind-nil g (drop q t) σ, words-end g [] t 0 q a (omega arith)) (both r)
-    agree (name {w = l} {ws = ls} v nb) few q h σ a c r =
+    agree (symbol {w = l} {ws = ls} v nb) few q h σ a c r =
         elim (decLt q (length t)) [
           | no past ↦
               let past′ : length t ≤ q = omega arith in
               let e : length (drop q t) ≡ 0 = rw (length-drop q t) (omega arith) in
               rw (
                 match-end g (l ∷ ls) t 0 q σ (omega arith) past′,
-                words-stop g (l ∷ ls) t 0 q a (omega arith) l refl 0 (sym (takes-end g l (drop q t) e)) refl,
+                words-stop g (l ∷ ls) t 0 q a (omega arith) l refl 0 (sym (consumed-end g l (drop q t) e)) refl,
               ) neither
           | yes here ↦
               let some : 0 < length (drop q t) = rw (length-drop q t) (omega arith) in
@@ -128,14 +128,14 @@ module _ (t : List ℕ) where
                     rw (
                       match-symbol g (l ∷ ls) t 0 q σ (omega arith) here v e,
                       ← add-one q,
-                      words-next g (l ∷ ls) t 0 q a (omega arith) l refl 1 (sym (takes-same g l (drop q t) some v (e ∙ sym front))) (omega arith),
-                      note-symbol l q 1 a v,
+                      words-next g (l ∷ ls) t 0 q a (omega arith) l refl 1 (sym (consumed-same g l (drop q t) some v (e ∙ sym front))) (omega arith),
+                      withBinding-symbol l q 1 a v,
                     )
                     (agree nb few (q + 1) (omega arith) σ a c r)
                 | no d ↦
                     rw (
                       match-differ g (l ∷ ls) t 0 q σ (omega arith) here v d,
-                      words-stop g (l ∷ ls) t 0 q a (omega arith) l refl 0 (sym (takes-differ g l (drop q t) some v (λ e. d (e ∙ front)))) refl,
+                      words-stop g (l ∷ ls) t 0 q a (omega arith) l refl 0 (sym (consumed-differ g l (drop q t) some v (λ e. d (e ∙ front)))) refl,
                     ) neither
               ]
         ]
@@ -147,7 +147,7 @@ module _ (t : List ℕ) where
               let e : length (drop q t) ≡ 0 = rw (length-drop q t) (omega arith) in
               rw (
                 match-end g (l ∷ ls) t 0 q σ (omega arith) past′,
-                words-stop g (l ∷ ls) t 0 q a (omega arith) l refl 0 (sym (takes-end g l (drop q t) e)) refl,
+                words-stop g (l ∷ ls) t 0 q a (omega arith) l refl 0 (sym (consumed-end g l (drop q t) e)) refl,
               ) neither
           | yes here ↦
               let some : 0 < length (drop q t) = rw (length-drop q t) (omega arith) in
@@ -156,8 +156,8 @@ module _ (t : List ℕ) where
               let i : l - variable ≡ n = omega arith in
               rw (
                 match-variable g (l ∷ ls) t 0 q σ (omega arith) here v,
-                words-next g (l ∷ ls) t 0 q a (omega arith) l refl k (sym (takes-variable g l (drop q t) some v)) (span-some (drop q t) some),
-                note-variable l q k a v,
+                words-next g (l ∷ ls) t 0 q a (omega arith) l refl k (sym (consumed-variable g l (drop q t) some v)) (span-some (drop q t) some),
+                withBinding-variable l q k a v,
                 i,
               )
               (agree nb few (q + k) fits (σ ++ take k (drop q t) ∷ []) _ (rw (length-append σ (take k (drop q t) ∷ [])) (omega arith))
@@ -165,24 +165,24 @@ module _ (t : List ℕ) where
         ]
 
     -- the left side of a rule
-    pub rule-agree : {r : Rule} → Lawful g r → Agree (bind g (r .lhs) t []) (stretches g (r .lhs) t 0 unset)
-    rule-agree law = agree (law .numbered) (law .few) 0 (omega arith) [] unset refl reads-none
+    pub rule-agree : {r : Rule} → WellFormedRule g r → Agree (bind g (r .lhs) t []) (bindings g (r .lhs) t 0 noBindings)
+    rule-agree law = agree (law .numbered) (law .variableBound) 0 (omega arith) [] noBindings refl reads-none
 
 -- ---- the answer of the search
 
 module _ (b ws : List ℕ) where
-  redex-nothing : redexOf b ws nothing ≡ none
-  unfolding redexOf
-  redex-nothing = refl
+  contraction-nothing : contractionOf b ws noMatch ≡ none
+  unfolding contractionOf
+  contraction-nothing = refl
 
-  redex-found : (k rhs size : ℕ) (a : Stretches) →
-      redexOf b ws (record { found = First k rhs size; starts = a .starts; lengths = a .lengths }) ≡ some (record { number = k; reduct = instance (value ws a) (take size (drop rhs b)) })
-  unfolding redexOf
-  redex-found k rhs size a = refl
+  contraction-found : (k rhs size : ℕ) (a : Bindings) →
+      contractionOf b ws (record { rule = First k rhs size; starts = a .starts; lengths = a .lengths }) ≡ some (record { number = k; reduct = instance (value ws a) (take size (drop rhs b)) })
+  unfolding contractionOf
+  contraction-found k rhs size a = refl
 
   module _ (g : Signature) where
     -- a rule that stands at `at`
-    module _ (r : Rule) (rs : List Rule) (k at : ℕ) (stands : RuleAt b at r rs) (law : Lawful g r) where
+    module _ (r : Rule) (rs : List Rule) (k at : ℕ) (stands : RuleAt b at r rs) (law : WellFormedRule g r) where
       abbrev rhs : ℕ
       rhs = at + 1 + length (r .lhs) + 1
 
@@ -194,18 +194,18 @@ module _ (b ws : List ℕ) where
         known = λ j h.
             let e : getD b (rhs + j) 0 ≡ getD (r .rhs) j 0 =
             sym (getD-drop rhs b j 0) ∙ sym (getD-take (length (r .rhs)) (drop rhs b) j 0 h) ∙ ap (λ y. getD y j 0) (stands .right-words) in
-            let z = law .known (getD (r .rhs) j 0) (stands-getD (r .rhs) j h) in
-            omega (arith, law .few);
+            let z = law .known (getD (r .rhs) j 0) (member-getD (r .rhs) j h) in
+            omega (arith, law .variableBound);
       }
 
       -- the same reduct
-      found-redex : (σ : List (List ℕ)) (a : Stretches) → Reads ws σ a →
+      found-contraction : (σ : List (List ℕ)) (a : Bindings) → Reads ws σ a →
           instance (value ws a) (take (length (r .rhs)) (drop rhs b)) ≡ instance (λ v. getD σ v []) (r .rhs)
-      found-redex σ a h =
+      found-contraction σ a h =
           (ap (instance (value ws a)) (stands .right-words) ∙ instance-cong (value ws a) (λ v. getD σ v []) (r .rhs) (λ w n st e. sym (h .values n)))
 
     -- the rule that was found is bound, by the words of the stretches
-    pub record Chosen (rs : List Rule) (k n : ℕ) (a : Stretches) : Type 0 where
+    pub record Chosen (rs : List Rule) (k n : ℕ) (a : Bindings) : Type 0 where
       pub index : ℕ
       pub number : n ≡ k + index
       pub σ : List (List ℕ)
@@ -214,33 +214,33 @@ module _ (b ws : List ℕ) where
 
     -- what the search found: the first redex, with its right side and stretches
     pub record Answers (rs : List Rule) (k : ℕ) (m : Match) : Type 0 where
-      pub redex : redexOf b ws m ≡ firstMatch g rs k ws
-      pub right : (n rhs size : ℕ) → m .found ≡ First n rhs size → RightSide b rhs size
+      pub contraction : contractionOf b ws m ≡ firstMatch g rs k ws
+      pub right : (n rhs size : ℕ) → m .rule ≡ First n rhs size → RightSide b rhs size
       pub within : Within ws (m .starts) (m .lengths)
-      pub chosen : (n rhs size : ℕ) → m .found ≡ First n rhs size → Chosen rs k n (stretchesOf m)
+      pub chosen : (n rhs size : ℕ) → m .rule ≡ First n rhs size → Chosen rs k n (bindingsOf m)
 
-    answers-nothing : (k : ℕ) → Answers [] k nothing
+    answers-nothing : (k : ℕ) → Answers [] k noMatch
     answers-nothing k = record {
-      redex = redex-nothing ∙ sym (first-nil g k ws);
+      contraction = contraction-nothing ∙ sym (first-nil g k ws);
       right = λ n rhs size e. absurd (let z : _≡_ {A = ℕ} 0 1 = cc in omega arith);
       within = reads-none ws .within;
       chosen = λ n rhs size e. absurd (let z : _≡_ {A = ℕ} 0 1 = cc in omega arith);
     }
 
-    pub answers : (rs : List Rule) (k at : ℕ) → drop at b ≡ encodeRules rs → ((j : ℕ) → j < length rs → Lawful g (getD rs j noRule)) → Answers rs k (matchFrom g rs k at ws)
+    pub answers : (rs : List Rule) (k at : ℕ) → drop at b ≡ encodeRules rs → ((j : ℕ) → j < length rs → WellFormedRule g (getD rs j noRule)) → Answers rs k (matchFrom g rs k at ws)
     answers [] k at e law = rw (from-nil g k at ws) (answers-nothing k)
     answers (r ∷ rs) k at e law = go (rule-agree ws g l) refl refl (answers rs (suc k) (at + 1 + length (r .lhs) + 1 + length (r .rhs)) (stands .rests) (λ j h. law (suc j) (omega arith)))
       where
         stands : RuleAt b at r rs
         stands = rule-listed b at r rs e
 
-        l : Lawful g r
+        l : WellFormedRule g r
         l = law 0 (omega arith)
 
-        go : {o : Option (List (List ℕ))} {p : Option Stretches} → Agree ws o p → bind g (r .lhs) ws [] ≡ o → stretches g (r .lhs) ws 0 unset ≡ p →
+        go : {o : Option (List (List ℕ))} {p : Option Bindings} → Agree ws o p → bind g (r .lhs) ws [] ≡ o → bindings g (r .lhs) ws 0 noBindings ≡ p →
             Answers rs (suc k) (matchFrom g rs (suc k) (at + 1 + length (r .lhs) + 1 + length (r .rhs)) ws) → Answers (r ∷ rs) k (matchFrom g (r ∷ rs) k at ws)
         go neither d q ih = rw (from-next g r rs k at ws q) (record {
-          redex = ih .redex ∙ sym (first-next g r rs k ws d);
+          contraction = ih .contraction ∙ sym (first-next g r rs k ws d);
           right = ih .right;
           within = ih .within;
           chosen = λ n rhs size e. let c = ih .chosen n rhs size e in record {
@@ -253,9 +253,9 @@ module _ (b ws : List ℕ) where
         })
         go (both {σ} {a} h) d q ih =
             let x : ℕ = at + 1 + length (r .lhs) + 1 in
-            let f : List ℕ → Option Redex = λ y. some (record { number = k; reduct = y }) in
+            let f : List ℕ → Option Contraction = λ y. some (record { number = k; reduct = y }) in
             rw (from-here g r rs k at ws a q) (record {
-              redex = redex-found k x (length (r .rhs)) a ∙ ap f (found-redex r rs k at stands l σ a h) ∙ sym (first-here g r rs k ws σ d);
+              contraction = contraction-found k x (length (r .rhs)) a ∙ ap f (found-contraction r rs k at stands l σ a h) ∙ sym (first-here g r rs k ws σ d);
               right = λ n rhs size e.
                   let e₁ : x ≡ rhs = cc in
                   let e₂ : length (r .rhs) ≡ size = cc in

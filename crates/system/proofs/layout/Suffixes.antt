@@ -9,7 +9,7 @@ use Rattle.system.specs.System.{System, strategy}
 use Rattle.system.specs.Answers.{signatureOf}
 use Rattle.system.proofs.Located.{Listed, strategy-at}
 use Rattle.system.specs.Book.{systemOf}
-use Rattle.system.specs.layout.Accepted.{Accepted, StrategyAt, wordsFrom, Standing}
+use Rattle.system.specs.layout.Accepted.{Accepted, StrategyAt, suffixFrom, SuffixAt}
 use Rattle.system.proofs.layout.Books.{well, sections, signature, symbol-count, strategy-index}
 
 module _ (b : List ℕ) (sh : Shape) (acc : Accepted b sh) where
@@ -19,23 +19,23 @@ module _ (b : List ℕ) (sh : Shape) (acc : Accepted b sh) where
   pub strategy-count : length (s .strategies) ≡ sh .symbols
   strategy-count =
       let m : length (s .arities) ≡ length (signatureOf b) = ap length (signature b sh acc) in
-      omega (arith, symbol-count b sh acc, well b sh acc .orders)
+      omega (arith, symbol-count b sh acc, well b sh acc .strategyCount)
 
   pub symbols-few : sh .symbols ≤ 256
-  symbols-few = let w = well b sh acc in let few = w .names in let same = w .orders in omega (arith, strategy-count)
+  symbols-few = let w = well b sh acc in let few = w .symbolBound in let same = w .strategyCount in omega (arith, strategy-count)
 
-  listed : (k at : ℕ) → k < sh .symbols → Standing b k at → Listed b at (strategy s k) (wordsFrom s (k + 1))
+  listed : (k at : ℕ) → k < sh .symbols → SuffixAt b k at → Listed b at (strategy s k) (suffixFrom s (k + 1))
   unfolding strategy
   listed k at more so = strategy-at b at k (s .strategies) _ (omega (arith, strategy-count)) (so .words)
 
   -- the words there are its own
-  pub standing-strategy : (k at : ℕ) → k < sh .symbols → Standing b k at → StrategyAt b k at
-  standing-strategy k at more so =
+  pub suffix-strategy : (k at : ℕ) → k < sh .symbols → SuffixAt b k at → StrategyAt b k at
+  suffix-strategy k at more so =
       let h = listed k at more so in
       record { fits = (let z = h .fits in omega (arith, h .counted)); entries = rw (h .counted) (h .words) }
 
-  pub standing-start : Standing b 0 (sh .strategies)
-  standing-start = record { words = rw (strategy-index b sh acc) (sections b sh acc .strategies) }
+  pub suffix-start : SuffixAt b 0 (sh .strategies)
+  suffix-start = record { words = rw (strategy-index b sh acc) (sections b sh acc .strategies) }
 
-  pub standing-next : (k at n : ℕ) → k < sh .symbols → Standing b k at → n ≡ getD b at 0 → Standing b (k + 1) (at + 1 + n)
-  standing-next k at n more so q = let h = listed k at more so in record { words = rw (q, h .counted) (h .rests) }
+  pub suffix-next : (k at n : ℕ) → k < sh .symbols → SuffixAt b k at → n ≡ getD b at 0 → SuffixAt b (k + 1) (at + 1 + n)
+  suffix-next k at n more so q = let h = listed k at more so in record { words = rw (q, h .counted) (h .rests) }

@@ -8,13 +8,13 @@ use lib.ListN.{length, getD, drop, length-append}
 use Rattle.system.specs.Signature.{Symbol, replace}
 use Rattle.system.specs.System.{System}
 use Rattle.system.specs.Terms.{Whole, WellFormed}
-use Rattle.matching.specs.Matching.{Redex, redex}
+use Rattle.matching.specs.Matching.{Contraction, contraction}
 use Rattle.rewriting.specs.Rewriting.{Active, root, below}
 use Rattle.rewriting.specs.Machine.{strategyAt, down, position, Opened, base, level}
-use Rattle.machine.specs.advance.Area.{Going}
-use Rattle.system.proofs.Members.{stands-getD}
+use Rattle.machine.specs.advance.Area.{Valid}
+use Rattle.system.proofs.Members.{member-getD}
 use Rattle.system.proofs.Places.{patch, at-replace}
-use Rattle.matching.proofs.Firsts.{redex-at, fired}
+use Rattle.matching.proofs.Firsts.{contraction-at, fired}
 use Rattle.rewriting.proofs.Actives.{At, active-whole}
 use Rattle.rewriting.proofs.Done.{whole-within}
 use Rattle.rewriting.proofs.Laws.{position-le, replace-strategy, replace-down}
@@ -25,7 +25,7 @@ module _ (s : System) (t : List ℕ) where
   unfolding position down
   opened-active act base = act
   opened-active act (level {p} {c} {i} h e o) =
-      opened-active (rw e (below i act (rw e at (stands-getD (strategyAt s t p) c h)))) o
+      opened-active (rw e (below i act (rw e at (member-getD (strategyAt s t p) c h)))) o
 
   -- one level more
   pub opened-open : {p : ℕ} {cs : List ℕ} (c i : ℕ) → Opened s t p cs → c < length (strategyAt s t (position s t cs p)) → getD (strategyAt s t (position s t cs p)) c 0 ≡ suc i →
@@ -53,18 +53,18 @@ module _ (s : System) (t : List ℕ) where
       (level {p = p} {c = c} {i = i} {cs = cs} (rw qo l) (rw qo e) (rw qd (x .0)), rw qd (x .1))
 
 -- the state that an evaluation starts in
-pub going-start : (s : System) (t : List ℕ) → Whole (s .arities) t → length t ≤ 4096 → Going s t [] 0
-going-start s t h f = record { whole = h; bounded = f; room = omega arith; opened = base; begun = omega arith }
+pub valid-start : (s : System) (t : List ℕ) → Whole (s .arities) t → length t ≤ 4096 → Valid s t [] 0
+valid-start s t h f = record { whole = h; bounded = f; room = omega arith; opened = base; begun = omega arith }
 
 module _ (s : System) (wf : WellFormed s) where
   -- a rewrite at a whole subterm leaves a whole term
-  pub whole-replaced : (t : List ℕ) (q : ℕ) (a u b : List ℕ) (x : Redex) → t ≡ a ++ (u ++ b) → q ≡ length a → Whole (s .arities) t → Whole (s .arities) u →
-      redex s (drop q t) ≡ some x → Whole (s .arities) (replace (s .arities) t q (x .reduct))
+  pub whole-replaced : (t : List ℕ) (q : ℕ) (a u b : List ℕ) (x : Contraction) → t ≡ a ++ (u ++ b) → q ≡ length a → Whole (s .arities) t → Whole (s .arities) u →
+      contraction s (drop q t) ≡ some x → Whole (s .arities) (replace (s .arities) t q (x .reduct))
   whole-replaced t q a u b x e p ht h f =
       rw (e, p, at-replace (s .arities) (Symbol (s .arities)) a b (x .reduct) h)
-      (patch (s .arities) (Symbol (s .arities)) a b (rw e at ht) h (fired s wf h a b x (sym (redex-at s wf h a b) ∙ (rw (e, p) at f)) .left))
+      (patch (s .arities) (Symbol (s .arities)) a b (rw e at ht) h (fired s wf h a b x (sym (contraction-at s wf h a b) ∙ (rw (e, p) at f)) .left))
 
-  module _ (t cs : List ℕ) (c : ℕ) (v : Going s t cs c) where
+  module _ (t cs : List ℕ) (c : ℕ) (v : Valid s t cs c) where
     abbrev here : ℕ
     here = position s t cs 0
 
@@ -72,15 +72,15 @@ module _ (s : System) (wf : WellFormed s) where
     entries = strategyAt s t here
 
     -- the whole subterm at this level
-    pub going-here : At s (λ _. Unit {0}) t here
-    going-here = active-whole s wf (v .whole) (opened-active s t root (v .opened))
+    pub valid-here : At s (λ _. Unit {0}) t here
+    valid-here = active-whole s wf (v .whole) (opened-active s t root (v .opened))
 
-    pub going-within : here < length t
-    going-within = let x = going-here in rw (x .position) (subst (λ y. length (x .before) < length y) (sym (x .equal)) (whole-within s (x .before) (x .behind) (x .whole)))
+    pub valid-within : here < length t
+    valid-within = let x = valid-here in rw (x .position) (subst (λ y. length (x .before) < length y) (sym (x .equal)) (whole-within s (x .before) (x .behind) (x .whole)))
 
     -- a level is left
-    pub going-pop : (ds : List ℕ) (d : ℕ) → cs ≡ ds ++ d ∷ [] → Going s t ds d
-    going-pop ds d e =
+    pub valid-pop : (ds : List ℕ) (d : ℕ) → cs ≡ ds ++ d ∷ [] → Valid s t ds d
+    valid-pop ds d e =
         let x = opened-pop s t ds d (subst (Opened s t 0) e (v .opened)) in
         record {
           whole = v .whole;
@@ -91,12 +91,12 @@ module _ (s : System) (wf : WellFormed s) where
         }
 
     -- one more entry is begun
-    pub going-pass : c < length entries → Going s t cs (suc c)
-    going-pass more = record { whole = v .whole; bounded = v .bounded; room = v .room; opened = v .opened; begun = more }
+    pub valid-pass : c < length entries → Valid s t cs (suc c)
+    valid-pass more = record { whole = v .whole; bounded = v .bounded; room = v .room; opened = v .opened; begun = more }
 
     -- an argument is opened
-    pub going-open : c < length entries → (i : ℕ) → getD entries c 0 ≡ suc i → suc (length cs) < 64 → Going s t (cs ++ suc c ∷ []) 0
-    going-open more i e h = record {
+    pub valid-open : c < length entries → (i : ℕ) → getD entries c 0 ≡ suc i → suc (length cs) < 64 → Valid s t (cs ++ suc c ∷ []) 0
+    valid-open more i e h = record {
       whole = v .whole;
       bounded = v .bounded;
       room = rw (length-append cs (suc c ∷ [])) (omega arith);
@@ -105,11 +105,11 @@ module _ (s : System) (wf : WellFormed s) where
     }
 
     -- a step
-    pub going-fire : (x : Redex) → redex s (drop here t) ≡ some x → length (replace (s .arities) t here (x .reduct)) ≤ 4096 →
-        Going s (replace (s .arities) t here (x .reduct)) cs 0
-    going-fire x f m =
-        let x′ = going-here in
-        let o = opened-replace s t (x .reduct) here (v .opened) (omega arith) going-within in
+    pub valid-fire : (x : Contraction) → contraction s (drop here t) ≡ some x → length (replace (s .arities) t here (x .reduct)) ≤ 4096 →
+        Valid s (replace (s .arities) t here (x .reduct)) cs 0
+    valid-fire x f m =
+        let x′ = valid-here in
+        let o = opened-replace s t (x .reduct) here (v .opened) (omega arith) valid-within in
         record {
           whole = whole-replaced t here (x′ .before) (x′ .here) (x′ .behind) x (x′ .equal) (x′ .position) (v .whole) (x′ .whole) f;
           bounded = m;

@@ -7,32 +7,32 @@ use mathlib.Core.List.{List, [], _∷_}
 use lib.ListN.{getD, drop}
 use Rattle.system.specs.Signature.{argument}
 use Rattle.system.specs.System.{System, strategy}
-use Rattle.matching.specs.Matching.{Redex, redex}
-use Rattle.rewriting.specs.Evaluation.{Run, Outcome, settled, stopped, after, follow, atRoot, evaluate}
+use Rattle.matching.specs.Matching.{Contraction, contraction}
+use Rattle.rewriting.specs.Evaluation.{Config, Outcome, finished, stopped, andThen, follow, atRoot, evaluate}
 use Rattle.system.specs.Numbers.{spent, nested}
-use Rattle.rewriting.proofs.Walks.{never, after-settled, rewrite-settled, rewrite-same, follow-end, follow-pass, follow-fire, follow-open}
+use Rattle.rewriting.proofs.Walks.{never, after-finished, rewrite-finished, rewrite-same, follow-end, follow-pass, follow-fire, follow-open}
 
 module _ (s : System) (limit : ℕ) where
   -- the count of steps never falls
-  abbrev pub Mono : (ℕ → Run → Outcome) → Type 0
-  Mono ev = (p : ℕ) (r r′ : Run) → ev p r ≡ settled r′ → r .steps ≤ r′ .steps
+  abbrev pub Mono : (ℕ → Config → Outcome) → Type 0
+  Mono ev = (p : ℕ) (r r′ : Config) → ev p r ≡ finished r′ → r .steps ≤ r′ .steps
 
-  follow-mono : (inner again : ℕ → Run → Outcome) → Mono inner → Mono again → (es : List ℕ) → Mono (follow s limit inner again es)
+  follow-mono : (inner again : ℕ → Config → Outcome) → Mono inner → Mono again → (es : List ℕ) → Mono (follow s limit inner again es)
   follow-mono inner again hi ha [] p r r′ e =
       let q : r ≡ r′ = cc (follow-end s limit inner again p r) in let z = ap (λ y. y .steps) q in omega arith
-  follow-mono inner again hi ha (zero ∷ es) p r r′ e = go (redex s (drop p (r .term))) refl (follow-mono inner again hi ha es p r r′)
+  follow-mono inner again hi ha (zero ∷ es) p r r′ e = go (contraction s (drop p (r .term))) refl (follow-mono inner again hi ha es p r r′)
     where
-      go : (o : Option Redex) → redex s (drop p (r .term)) ≡ o → (follow s limit inner again es p r ≡ settled r′ → r .steps ≤ r′ .steps) → r .steps ≤ r′ .steps
+      go : (o : Option Contraction) → contraction s (drop p (r .term)) ≡ o → (follow s limit inner again es p r ≡ finished r′ → r .steps ≤ r′ .steps) → r .steps ≤ r′ .steps
       go none q ih = ih (sym (follow-pass s limit inner again es p r q) ∙ e)
       go (some x) q ih =
-          let c = rewrite-settled s limit p r x (again p) r′ (sym (follow-fire s limit inner again es p r x q) ∙ e) in
+          let c = rewrite-finished s limit p r x (again p) r′ (sym (follow-fire s limit inner again es p r x q) ∙ e) in
           let z = ha p _ r′ (c .2) in omega arith
   follow-mono inner again hi ha (suc i ∷ es) p r r′ e =
-      let c = after-settled (inner (argument (s .arities) (r .term) p i) r) _ r′ (sym (follow-open s limit inner again i es p r) ∙ e) in
+      let c = after-finished (inner (argument (s .arities) (r .term) p i) r) _ r′ (sym (follow-open s limit inner again i es p r) ∙ e) in
       let z = hi _ r (c .0) (c .1) in
       let z′ = follow-mono inner again hi ha es p (c .0) r′ (c .2) in omega arith
 
-  atRoot-mono : (inner : ℕ → Run → Outcome) → Mono inner → (left : ℕ) → Mono (atRoot s limit inner left)
+  atRoot-mono : (inner : ℕ → Config → Outcome) → Mono inner → (left : ℕ) → Mono (atRoot s limit inner left)
   unfolding atRoot
   atRoot-mono inner hi zero p r = follow-mono inner (λ p r. stopped spent (r .steps)) hi (λ p r r′ e. never spent (r .steps) r′ e) _ p r
   atRoot-mono inner hi (suc left) p r = follow-mono inner (atRoot s limit inner left) hi (atRoot-mono inner hi left) _ p r
@@ -43,15 +43,15 @@ module _ (s : System) (limit : ℕ) where
   evaluate-mono (suc l) p r r′ e = atRoot-mono (evaluate s limit l) (evaluate-mono l) limit p r r′ e
 
   -- two ways to start anew that agree on later runs within the limit
-  abbrev Agree : ℕ → (ℕ → Run → Outcome) → (ℕ → Run → Outcome) → Type 0
-  Agree n f g = (p : ℕ) (r : Run) → n < r .steps → r .steps ≤ limit → f p r ≡ g p r
+  abbrev Agree : ℕ → (ℕ → Config → Outcome) → (ℕ → Config → Outcome) → Type 0
+  Agree n f g = (p : ℕ) (r : Config) → n < r .steps → r .steps ≤ limit → f p r ≡ g p r
 
-  follow-same : (n : ℕ) (inner again again′ : ℕ → Run → Outcome) → Mono inner → Agree n again again′ → (es : List ℕ) (p : ℕ) (r : Run) → n ≤ r .steps →
+  follow-same : (n : ℕ) (inner again again′ : ℕ → Config → Outcome) → Mono inner → Agree n again again′ → (es : List ℕ) (p : ℕ) (r : Config) → n ≤ r .steps →
       follow s limit inner again es p r ≡ follow s limit inner again′ es p r
   follow-same n inner again again′ hi ha [] p r l = follow-end s limit inner again p r ∙ sym (follow-end s limit inner again′ p r)
-  follow-same n inner again again′ hi ha (zero ∷ es) p r l = go (redex s (drop p (r .term))) refl (follow-same n inner again again′ hi ha es p r l)
+  follow-same n inner again again′ hi ha (zero ∷ es) p r l = go (contraction s (drop p (r .term))) refl (follow-same n inner again again′ hi ha es p r l)
     where
-      go : (o : Option Redex) → redex s (drop p (r .term)) ≡ o → follow s limit inner again es p r ≡ follow s limit inner again′ es p r →
+      go : (o : Option Contraction) → contraction s (drop p (r .term)) ≡ o → follow s limit inner again es p r ≡ follow s limit inner again′ es p r →
           follow s limit inner again (0 ∷ es) p r ≡ follow s limit inner again′ (0 ∷ es) p r
       go none q ih = follow-pass s limit inner again es p r q ∙ ih ∙ sym (follow-pass s limit inner again′ es p r q)
       go (some x) q ih = follow-fire s limit inner again es p r x q
@@ -63,14 +63,14 @@ module _ (s : System) (limit : ℕ) where
       ∙ sym (follow-open s limit inner again′ i es p r)
     where
       go : (o : Outcome) → inner (argument (s .arities) (r .term) p i) r ≡ o →
-          ((r′ : Run) → n ≤ r′ .steps → follow s limit inner again es p r′ ≡ follow s limit inner again′ es p r′) →
-          after (inner (argument (s .arities) (r .term) p i) r) (λ r′. follow s limit inner again es p r′) ≡ after (inner (argument (s .arities) (r .term) p i) r) (λ r′. follow s limit inner again′ es p r′)
-      go (settled r′) q ih = rw q (ih r′ (let z = hi _ r r′ q in omega arith))
+          ((r′ : Config) → n ≤ r′ .steps → follow s limit inner again es p r′ ≡ follow s limit inner again′ es p r′) →
+          andThen (inner (argument (s .arities) (r .term) p i) r) (λ r′. follow s limit inner again es p r′) ≡ andThen (inner (argument (s .arities) (r .term) p i) r) (λ r′. follow s limit inner again′ es p r′)
+      go (finished r′) q ih = rw q (ih r′ (let z = hi _ r r′ q in omega arith))
       go (stopped k m) q ih = rw q
 
-  module _ (inner : ℕ → Run → Outcome) (hi : Mono inner) where
+  module _ (inner : ℕ → Config → Outcome) (hi : Mono inner) where
     -- the bound does not count once it reaches what the limit leaves
-    pub atRoot-left : (left left′ p : ℕ) (r : Run) → limit ≤ left + r .steps → limit ≤ left′ + r .steps →
+    pub atRoot-left : (left left′ p : ℕ) (r : Config) → limit ≤ left + r .steps → limit ≤ left′ + r .steps →
         atRoot s limit inner left p r ≡ atRoot s limit inner left′ p r
     unfolding atRoot
     atRoot-left zero zero p r h h′ = refl
@@ -79,7 +79,7 @@ module _ (s : System) (limit : ℕ) where
     atRoot-left (suc left) (suc left′) p r h h′ =
         follow-same (r .steps) inner _ _ hi (λ p′ r′ l m. atRoot-left left left′ p′ r′ (omega arith) (omega arith)) _ p r (omega arith)
 
-    pub atRoot-again : (left p : ℕ) (r : Run) → limit ≤ left →
+    pub atRoot-again : (left p : ℕ) (r : Config) → limit ≤ left →
         atRoot s limit inner left p r ≡ follow s limit inner (atRoot s limit inner left) (strategy s (getD (r .term) p 0)) p r
     unfolding atRoot
     atRoot-again zero p r h = follow-same (r .steps) inner _ _ hi (λ p′ r′ l m. absurd (omega arith)) _ p r (omega arith)
@@ -87,7 +87,7 @@ module _ (s : System) (limit : ℕ) where
         follow-same (r .steps) inner _ _ hi (λ p′ r′ l m. atRoot-left left (suc left) p′ r′ (omega arith) (omega arith)) _ p r (omega arith)
 
   -- evaluating is following the strategy, and starting anew is evaluating
-  pub evaluate-again : (l p : ℕ) (r : Run) →
+  pub evaluate-again : (l p : ℕ) (r : Config) →
       evaluate s limit (suc l) p r ≡ follow s limit (evaluate s limit l) (evaluate s limit (suc l)) (strategy s (getD (r .term) p 0)) p r
   unfolding evaluate
   evaluate-again l p r = atRoot-again (evaluate s limit l) (evaluate-mono l) limit p r (omega arith)

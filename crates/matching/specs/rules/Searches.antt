@@ -10,41 +10,41 @@ use Rattle.system.specs.Limits.{sideWords, variable, variables}
 use Rattle.system.specs.Signature.{Signature}
 use Rattle.system.specs.System.{System, rule, instance}
 use Rattle.matching.specs.declared.Match.{Match}
-use Rattle.matching.specs.declared.rules.Fit.{Fit}
-use Rattle.matching.specs.declared.Found.{Found}
-use Rattle.matching.specs.declared.Found.the-variants.{Nothing, First}
-use Rattle.matching.specs.Matching.{Redex}
-use Rattle.matching.specs.Stretches.{Stretches, takes, matchOf}
+use Rattle.matching.specs.declared.rules.Search.{Search}
+use Rattle.matching.specs.declared.FirstRule.{FirstRule}
+use Rattle.matching.specs.declared.FirstRule.the-variants.{Nothing, First}
+use Rattle.matching.specs.Matching.{Contraction}
+use Rattle.matching.specs.Bindings.{Bindings, consumed, matchOf}
 
 -- where a left side ends among the words, of which the first q come before ws
-unfoldable pub ends : Signature → List ℕ → List ℕ → ℕ → ℕ
-ends g [] ws q = q
-ends g (l ∷ ls) ws q = ends g ls (drop (takes g l ws) ws) (q + takes g l ws)
+unfoldable pub lhsEnd : Signature → List ℕ → List ℕ → ℕ → ℕ
+lhsEnd g [] ws q = q
+lhsEnd g (l ∷ ls) ws q = lhsEnd g ls (drop (consumed g l ws) ws) (q + consumed g l ws)
 
 -- where the left side of the rule that was found ends among the words ws; 0 where none matches
-abbrev pub widthOf : System → List ℕ → Found → ℕ
-widthOf s ws Nothing = 0
-widthOf s ws (First k rhs size) = ends (s .arities) (rule s k .lhs) ws 0
+abbrev pub searchWidth : System → List ℕ → FirstRule → ℕ
+searchWidth s ws Nothing = 0
+searchWidth s ws (First k rhs size) = lhsEnd (s .arities) (rule s k .lhs) ws 0
 
 -- the match, and how many words the left side takes: what the layers above are handed
-unfoldable pub fitOf : System → List ℕ → Fit
-fitOf s ws = record { found = matchOf s ws; width = widthOf s ws (matchOf s ws .found) }
+unfoldable pub searchOf : System → List ℕ → Search
+searchOf s ws = record { matched = matchOf s ws; width = searchWidth s ws (matchOf s ws .rule) }
 
 -- ---- the reduct
 
 -- what variable v stands for
-unfoldable pub value : List ℕ → Stretches → ℕ → List ℕ
+unfoldable pub value : List ℕ → Bindings → ℕ → List ℕ
 value ws a v = take (getD (a .lengths) v 0) (drop (getD (a .starts) v 0) ws)
 
-abbrev pub stretchesOf : Match → Stretches
-stretchesOf m = record { starts = m .starts; lengths = m .lengths }
+abbrev pub bindingsOf : Match → Bindings
+bindingsOf m = record { starts = m .starts; lengths = m .lengths }
 
 -- the rule that was found, by its number, and its reduct: "the right side, so filled"
-unfoldable pub redexOf : List ℕ → List ℕ → Match → Option Redex
-redexOf book ws m =
-    elim (m .found) [
+unfoldable pub contractionOf : List ℕ → List ℕ → Match → Option Contraction
+contractionOf book ws m =
+    elim (m .rule) [
       | Nothing ↦ none
-      | First k rhs size ↦ some (record { number = k; reduct = instance (value ws (stretchesOf m)) (take size (drop rhs book)) })
+      | First k rhs size ↦ some (record { number = k; reduct = instance (value ws (bindingsOf m)) (take size (drop rhs book)) })
     ]
 
 -- how many words the instance of a side has, where the variables' terms have these lengths

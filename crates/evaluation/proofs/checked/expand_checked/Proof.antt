@@ -1,25 +1,10 @@
--- `demands::expand_checked` meets its contract.
+-- `checked::expand_checked` meets its contract.
 use mathlib.Core.Path.{sym, subst}
 use Rattle.evaluation.specs.Demand3.{IsDone, IsHandedBack, IsFound}
 use Rattle.evaluation.proofs.Demand3.{is-done, is-handed-back, is-found}
 use borrow.Author.Needs.{needs}
-use Rattle.evaluation.proofs.demands.expand_checked.Statement.{statement}
-use Rattle.evaluation.proofs.demands.expand_checked.Tie as tie
-
-scan-book-requires : tie.Need-scan-book-requires
-scan-book-requires c κs = search needs
-
-test-requires : tie.Need-test-requires
-test-requires c κs = search needs
-
-expand-scanned-requires : tie.Need-expand-scanned-requires
-expand-scanned-requires c κs = search needs
-
-same-length : tie.Need-same-length
-same-length c = search needs
-
-same-length-2 : tie.Need-same-length-2
-same-length-2 c = search needs
+use Rattle.evaluation.proofs.checked.expand_checked.Statement.{statement}
+use Rattle.evaluation.proofs.checked.expand_checked.Tie as tie
 
 returns : tie.Need-returns
 returns c =
@@ -38,4 +23,4 @@ returns c =
 
 pub expand-checked-spec : {M : Type 1} → statement M
 expand-checked-spec =
-    tie.close (tie.spec scan-book-requires test-requires expand-scanned-requires same-length same-length-2 returns)
+    tie.close (tie.spec (λ c κs. search needs) (λ c κs. search needs) (λ c κs. search needs) (λ c. search needs) (λ c. search needs) returns)

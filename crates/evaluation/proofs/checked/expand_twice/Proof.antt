@@ -1,4 +1,4 @@
--- `demands::expand_twice` meets its contract.
+-- `checked::expand_twice` meets its contract.
 use Prim.Native.Nat.{_-_}
 use Rattle.evaluation.specs.Expansion.{result}
 use Rattle.evaluation.specs.Demand3.{IsFound}
@@ -7,23 +7,8 @@ use lib.ListN.{take}
 use mathlib.Core.Path.{sym, ap, subst}
 use native.Mathlib.Nat.{sub-zero}
 use borrow.Author.Needs.{needs}
-use Rattle.evaluation.proofs.demands.expand_twice.Statement.{statement}
-use Rattle.evaluation.proofs.demands.expand_twice.Tie as tie
-
-scan-book-requires : tie.Need-scan-book-requires
-scan-book-requires c κs = search needs
-
-test-requires : tie.Need-test-requires
-test-requires c κs = search needs
-
-expand-scanned-requires : tie.Need-expand-scanned-requires
-expand-scanned-requires c κs = search needs
-
-same-length : tie.Need-same-length
-same-length c = search needs
-
-same-length-2 : tie.Need-same-length-2
-same-length-2 c = search needs
+use Rattle.evaluation.proofs.checked.expand_twice.Statement.{statement}
+use Rattle.evaluation.proofs.checked.expand_twice.Tie as tie
 
 returns : tie.Need-returns
 returns c =
@@ -36,33 +21,12 @@ returns c =
     let found = is-found b (a .term .now) (a .limit) (a .out .now) (a .work .now) (t .result) (t .ensures) in
     (t .ensures, (e .ensures, (none, (subst (IsFound b (t .result)) (sym (e .ensures)) found, λ z z′. absurd (c .if1 .taken z′)))))
 
-sub-expand-scanned : tie.Need-sub-expand-scanned
-sub-expand-scanned c = search needs
-
-part-expand-scanned-start : tie.Need-part-expand-scanned-start
-part-expand-scanned-start c = search needs
-
 part-expand-scanned-end : tie.Need-part-expand-scanned-end
 part-expand-scanned-end c =
     let a = c .before .before .before .before .before .before .before .before .before .before .before .before .before .before .before .before .before .before .args in
     let e = c .before .before .before .before .before .before .before .expand-scanned in
     let x = result (e .result) (e .last .1 .1 .1 .1 .0) (e .last .1 .1 .1 .1 .1 .0) in
     handed-fits (a .book .now) (a .term .now) (a .limit) (a .out .now) (a .work .now) x (e .ensures) (c .before .if1 .left)
-
-expand-scanned-requires-2 : tie.Need-expand-scanned-requires-2
-expand-scanned-requires-2 c κs = search needs
-
-same-length-3 : tie.Need-same-length-3
-same-length-3 c = search needs
-
-same-length-4 : tie.Need-same-length-4
-same-length-4 c = search needs
-
-same-length-5 : tie.Need-same-length-5
-same-length-5 c = search needs
-
-same-length-6 : tie.Need-same-length-6
-same-length-6 c = search needs
 
 returns-2 : tie.Need-returns-2
 returns-2 c =
@@ -86,18 +50,6 @@ pub expand-twice-spec : {M : Type 1} → statement M
 expand-twice-spec =
     tie.close
     (tie.spec
-    scan-book-requires
-    test-requires
-    expand-scanned-requires
-    same-length
-    same-length-2
-    returns
-    sub-expand-scanned
-    part-expand-scanned-start
-    part-expand-scanned-end
-    expand-scanned-requires-2
-    same-length-3
-    same-length-4
-    same-length-5
-    same-length-6
-    returns-2)
+    (λ c κs. search needs) (λ c κs. search needs) (λ c κs. search needs) (λ c. search needs) (λ c. search needs) returns
+    (λ c. search needs) (λ c. search needs) part-expand-scanned-end (λ c κs. search needs) (λ c. search needs) (λ c. search needs)
+    (λ c. search needs) (λ c. search needs) returns-2)

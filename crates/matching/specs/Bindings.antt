@@ -10,47 +10,47 @@ use Rattle.system.specs.Signature.{Signature, span}
 use Rattle.system.specs.System.{System, Rule}
 use Rattle.system.specs.Format.{encodeStrategies}
 use Rattle.matching.specs.declared.Match.{Match}
-use Rattle.matching.specs.declared.Found.the-variants.{Nothing, First}
+use Rattle.matching.specs.declared.FirstRule.the-variants.{Nothing, First}
 
 -- for each variable the index of the first word of its stretch of the subterm, and the number of its words; 0 and 0 where it has none
-pub record Stretches : Type 0 where
+pub record Bindings : Type 0 where
   pub starts : List ℕ
   pub lengths : List ℕ
 
 -- no variable has a stretch yet
-unfoldable pub unset : Stretches
-unset = record { starts = replicate variables 0; lengths = replicate variables 0 }
+unfoldable pub noBindings : Bindings
+noBindings = record { starts = replicate variables 0; lengths = replicate variables 0 }
 
 -- how many words at the front of ws a word of a left side takes: a symbol one, which is the same symbol; a variable "the stretch of the
 -- cue that starts at its own word"; 0 at an "unequal word"
-unfoldable pub takes : Signature → ℕ → List ℕ → ℕ
-takes g l [] = 0
-takes g l (w ∷ ws) = cond (ltb l variable) (cond (eqb l w) 1 0) (span g (w ∷ ws) 1)
+unfoldable pub consumed : Signature → ℕ → List ℕ → ℕ
+consumed g l [] = 0
+consumed g l (w ∷ ws) = cond (ltb l variable) (cond (eqb l w) 1 0) (span g (w ∷ ws) 1)
 
 -- the stretch of a variable is noted under its number
-unfoldable pub note : ℕ → ℕ → ℕ → Stretches → Stretches
-note l q n a = cond (ltb l variable) a (record { starts = set (a .starts) (l - variable) q; lengths = set (a .lengths) (l - variable) n })
+unfoldable pub withBinding : ℕ → ℕ → ℕ → Bindings → Bindings
+withBinding l q n a = cond (ltb l variable) a (record { starts = set (a .starts) (l - variable) q; lengths = set (a .lengths) (l - variable) n })
 
 -- a left side against ws, the subterm from its word q on, up to "its first unequal word"
-unfoldable pub stretches : Signature → List ℕ → List ℕ → ℕ → Stretches → Option Stretches
-stretches g [] ws q a = some a
-stretches g (l ∷ ls) ws q a =
-    elim (takes g l ws) [
+unfoldable pub bindings : Signature → List ℕ → List ℕ → ℕ → Bindings → Option Bindings
+bindings g [] ws q a = some a
+bindings g (l ∷ ls) ws q a =
+    elim (consumed g l ws) [
       | zero ↦ none
-      | suc n ↦ stretches g ls (drop (suc n) ws) (q + suc n) (note l q (suc n) a)
+      | suc n ↦ bindings g ls (drop (suc n) ws) (q + suc n) (withBinding l q (suc n) a)
     ]
 
 -- no rule matches
-abbrev pub nothing : Match
-nothing = record { found = Nothing; starts = unset .starts; lengths = unset .lengths }
+abbrev pub noMatch : Match
+noMatch = record { rule = Nothing; starts = noBindings .starts; lengths = noBindings .lengths }
 
 -- "The search tries rules in book order and gives up a rule at its first unequal word": the first of the rules that matches the front of
 -- ws. They are numbered from k on and stand in the book from the index `at` on, each as the two lengths and sides
 unfoldable pub matchFrom : Signature → List Rule → ℕ → ℕ → List ℕ → Match
-matchFrom g [] k at ws = nothing
+matchFrom g [] k at ws = noMatch
 matchFrom g (r ∷ rs) k at ws =
-    elim (stretches g (r .lhs) ws 0 unset) [
-      | some a ↦ record { found = First k (at + 1 + length (r .lhs) + 1) (length (r .rhs)); starts = a .starts; lengths = a .lengths }
+    elim (bindings g (r .lhs) ws 0 noBindings) [
+      | some a ↦ record { rule = First k (at + 1 + length (r .lhs) + 1) (length (r .rhs)); starts = a .starts; lengths = a .lengths }
       | none ↦ matchFrom g rs (suc k) (at + 1 + length (r .lhs) + 1 + length (r .rhs)) ws
     ]
 

@@ -9,8 +9,8 @@ use Rattle.system.specs.declared.Shape.{Shape}
 use Rattle.system.specs.Terms.{Whole}
 use Rattle.system.specs.Book.{systemOf}
 use Rattle.system.specs.layout.Accepted.{Accepted}
-use Rattle.evaluation.specs.declared.run.Ended.{Ended}
-use Rattle.rewriting.specs.Evaluation.{Outcome, settled, stopped}
+use Rattle.evaluation.specs.declared.run.RunResult.{RunResult}
+use Rattle.rewriting.specs.Evaluation.{Outcome, finished, stopped}
 use Rattle.system.specs.Numbers.{limitNumber}
 use Rattle.system.specs.Limits.{areaWords, termWords}
 
@@ -20,6 +20,6 @@ pub record Runnable (book : List ℕ) (shape : Shape) (term area : List ℕ) : T
   pub bounded : length term ≤ termWords
   pub words : length area ≡ areaWords
 
-abbrev pub Ends : Outcome → Ended → List ℕ → Type 0
-Ends (settled r) e ws = (e ≡ record { number = 0; size = length (r .term); steps = r .steps }) × (ws ≡ pad areaWords (r .term))
-Ends (stopped n k) e ws = (e ≡ record { number = limitNumber n; size = 0; steps = k }) × (ws ≡ zeros areaWords)
+abbrev pub Ran : Outcome → RunResult → List ℕ → Type 0
+Ran (finished r) e ws = (e ≡ record { number = 0; size = length (r .term); steps = r .steps }) × (ws ≡ pad areaWords (r .term))
+Ran (stopped n k) e ws = (e ≡ record { number = limitNumber n; size = 0; steps = k }) × (ws ≡ zeros areaWords)

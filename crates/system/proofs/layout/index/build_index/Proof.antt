@@ -1,0 +1,58 @@
+-- `index::build_index` meets its contract. The loop's invariant: the marks before number j are made.
+use Prim.Native.Nat.{_-_, _≤_}
+use native.Mathlib.Omega.{arith}
+use mathlib.Core.Path.{_≡_, _∙_, sym}
+use lib.ListN.{length, length-set}
+use lib.Seq.{getD-set-same}
+use borrow.Author.Needs.{needs}
+use Rattle.system.proofs.layout.Suffixes.{symbols-few}
+use Rattle.system.proofs.layout.index.Indexing.{Indexing, marking-start, marking-next, marking-end}
+use Rattle.system.proofs.layout.index.build_index.Statement.{statement}
+use Rattle.system.proofs.layout.index.build_index.Tie as tie
+
+abbrev Inv-loop : tie.InvT-loop
+Inv-loop book shape marks₀ j₀ index j = Indexing book index j × (shape .symbols ≤ 256)
+
+abbrev μ-loop : tie.MeasureT-loop
+μ-loop book shape marks₀ j₀ index j = 64 - j
+
+loop-holds : tie.Need-loop-holds Inv-loop μ-loop
+loop-holds c =
+    let a = c .before .before .args in
+    let p = c .before .before .pre in
+    let s = a .shape .strategies in
+    let slots : length (a .index .now) ≡ 64 = p .1 in
+    (marking-start (a .book .now) (a .shape) (p .0) _ (length-set (a .index .now) 0 s ∙ slots) (getD-set-same (a .index .now) 0 s 0 (omega arith)), symbols-few (a .book .now) (a .shape) (p .0))
+
+walk-on-requires : tie.Need-walk-on-requires Inv-loop μ-loop
+walk-on-requires c κs =
+    let l = c .before .before .before .loop in
+    let m = l .inv .0 in
+    let some = m .some in
+    (c .before .before .before .before .before .before .pre .0, m .suffix (l .j - 1) (omega arith), omega arith, c .before .if1 .taken)
+
+loop-again : tie.Need-loop-again Inv-loop μ-loop
+loop-again c =
+    let a = c .before .before .before .before .before .before .before .args in
+    let l = c .before .before .before .before .loop in (
+      marking-next (a .book .now) (a .shape) (c .before .before .before .before .before .before .before .pre .0) (l .index) (l .j) (l .inv .0) (c .walk-on .result) (omega arith)
+          (c .walk-on .ensures),
+      l .inv .1,
+    )
+
+same-length : tie.Need-same-length Inv-loop μ-loop
+same-length c = c .before .before .loop .inv .0 .slots ∙ sym (c .before .before .before .before .before .pre .1)
+
+returns : tie.Need-returns Inv-loop μ-loop
+returns c =
+    let a = c .before .before .before .before .before .args in
+    let l = c .before .before .loop in
+    marking-end (a .book .now) (a .shape) (c .before .before .before .before .before .pre .0) (l .index) (l .j) (l .inv .0) (c .if1 .left)
+
+pub build-index-spec : {M : Type 1} → statement M
+build-index-spec =
+    tie.close
+    (tie.spec
+    Inv-loop μ-loop (λ c. search needs) loop-holds (λ c. search needs) (λ c. search needs) (λ c. search needs) (λ c. search needs)
+    (λ c. search needs) (λ c. search needs) (λ c. search needs) walk-on-requires (λ c. search needs) (λ c. search needs)
+    (λ c. search needs) (λ c. search needs) loop-again same-length returns)
