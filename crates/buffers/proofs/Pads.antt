@@ -7,7 +7,8 @@ use native.Mathlib.Omega.{arith}
 use native.Mathlib.Nat.{sub-zero}
 use lib.ListN.{length, take, drop, set, replicate, length-append, length-replicate, replicate-append-replicate}
 use lib.Seq.{set-at, append-snoc, take-at, drop-nil}
-use Rattle.buffers.specs.Words.{zeros, pad}
+use Rattle.buffers.specs.Words.{zeros}
+use Rattle.buffers.specs.moves.Parts.{pad}
 
 -- ---- zeros
 

@@ -6,7 +6,8 @@ use Prim.Native.Nat.{ℕ, _+_, _-_, _≤_, _<_}
 use native.Mathlib.Omega.{arith}
 use lib.ListN.{length, take, drop, length-append, length-take}
 use lib.Seq.{sets-eq, take-take, drop-drop}
-use Rattle.buffers.specs.Words.{part, over, zeros, pad, splice}
+use Rattle.buffers.specs.moves.Parts.{part, pad, splice}
+use Rattle.buffers.specs.Words.{over, zeros}
 use Rattle.buffers.proofs.Over.{length-part, part-slice, over-append, over-comm}
 use Rattle.buffers.proofs.Pads.{length-zeros, zeros-append, drop-zeros}
 

@@ -2,7 +2,8 @@
 ghost use mathlib.Core.Path.{_≡_};
 ghost use Prim.Native.Nat.{_+_, _≤_};
 ghost use lib.ListN.{length};
-ghost use Rattle.buffers.specs.Words.{part, over, zeros};
+ghost use Rattle.buffers.specs.moves.Parts.{part};
+ghost use Rattle.buffers.specs.Words.{over, zeros};
 
 // Moves n words down, from `from` to `to`, or leaves them: the two stretches may overlap.
 fn move_down(w: &mut [u16], from: usize, to: usize, n: usize)

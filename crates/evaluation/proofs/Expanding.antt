@@ -7,7 +7,8 @@ use mathlib.Core.List.{List, [], _++_}
 use lib.ListN.{length, take, drop, length-append, length-drop}
 use lib.Seq.{take-at, drop-at, sets-eq}
 use borrow.Author.Tests.{le-leb, lt-leb}
-use Rattle.buffers.specs.Words.{over, zeros, pad}
+use Rattle.buffers.specs.Words.{over, zeros}
+use Rattle.buffers.specs.moves.Parts.{pad}
 use Rattle.buffers.proofs.Pads.{length-zeros, take-pad}
 use Rattle.system.specs.declared.Answer.{Answer}
 use Rattle.system.specs.declared.Shape.{Shape}
@@ -17,8 +18,7 @@ use Rattle.system.specs.Answers.{shapeOf, termAnswer}
 use Rattle.system.proofs.Accepts.{read-sound}
 use Rattle.system.proofs.Answering.{checked}
 use Rattle.system.proofs.TermChecks.{fault-whole}
-use Rattle.system.specs.Book.{systemOf}
-use Rattle.system.specs.layout.Accepted.{Accepted}
+use Rattle.system.specs.Book.{systemOf, Accepted}
 use Rattle.evaluation.specs.declared.run.RunResult.{RunResult}
 use Rattle.rewriting.specs.Evaluation.{Config, Outcome, finished, stopped, evaluation}
 use Rattle.evaluation.specs.run.RunResult.{Ran}

@@ -2,7 +2,8 @@
 ghost use mathlib.Core.Path.{_≡_};
 ghost use Prim.Native.Nat.{_≤_};
 ghost use lib.ListN.{length, take};
-ghost use Rattle.buffers.specs.Words.{over, zeros, pad};
+ghost use Rattle.buffers.specs.Words.{over, zeros};
+ghost use Rattle.buffers.specs.moves.Parts.{pad};
 ghost use Rattle.system.specs.Parser.{read};
 ghost use Rattle.system.specs.reader.Sections.{scanOf};
 ghost use Rattle.evaluation.specs.Expansion.{result, expansion};

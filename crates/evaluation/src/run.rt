@@ -2,7 +2,8 @@
 ghost use mathlib.Core.Path.{_≡_};
 ghost use Prim.Native.Nat.{_≤_};
 ghost use lib.ListN.{length};
-ghost use Rattle.buffers.specs.Words.{zeros, pad};
+ghost use Rattle.buffers.specs.Words.{zeros};
+ghost use Rattle.buffers.specs.moves.Parts.{pad};
 ghost use Rattle.system.specs.Book.{systemOf};
 ghost use Rattle.rewriting.specs.Evaluation.{evaluation};
 ghost use Rattle.system.specs.Limits.{areaWords};

@@ -1,7 +1,6 @@
 // The machine in an area of lent words: from a state to just before its next rewrite, without recursion.
 ghost use mathlib.Core.Path.{_≡_};
-ghost use Rattle.system.specs.Book.{systemOf};
-ghost use Rattle.system.specs.layout.Accepted.{Accepted};
+ghost use Rattle.system.specs.Book.{systemOf, Accepted};
 ghost use Rattle.machine.specs.declared.advance.Stop.the-variants.{Ready};
 ghost use Rattle.machine.specs.advance.Area.{Tracks};
 ghost use Rattle.machine.specs.advance.Transition.{sinceAt, Performed};

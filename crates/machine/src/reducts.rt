@@ -2,7 +2,8 @@
 ghost use mathlib.Core.Path.{_≡_};
 ghost use Prim.Native.Nat.{_+_, _-_, _≤_};
 ghost use lib.ListN.{length, drop};
-ghost use Rattle.buffers.specs.Words.{part, over, zeros};
+ghost use Rattle.buffers.specs.moves.Parts.{part};
+ghost use Rattle.buffers.specs.Words.{over, zeros};
 ghost use Rattle.machine.specs.reducts.Reduct.{Writable, reduct};
 ghost use Rattle.machine.specs.reducts.Replaced.{Replaceable, Replaced};
 ghost use Rattle.machine.specs.reducts.Rewritten.{Reducible, Rewrites};

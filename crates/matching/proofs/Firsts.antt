@@ -11,7 +11,7 @@ use Rattle.system.specs.Limits.{variable}
 use Rattle.system.specs.Signature.{Signature}
 use Rattle.system.specs.System.{System, Rule, rule, noRule, instance}
 use Rattle.system.specs.Terms.{more, Whole, Side, WellFormedRule, WellFormed}
-use Rattle.matching.specs.Matching.{Matches, bind, Contraction, firstMatch, contraction}
+use Rattle.matching.specs.Matching.{Matches, FirstMatch, bind, Contraction, firstMatch, contraction}
 use Rattle.system.proofs.Signatures.{few-symbols}
 use Rattle.matching.proofs.Matched.{matched, unmatched, bind-append, bind-nil, chain, instance-forest}
 
@@ -139,16 +139,8 @@ module _ (s : System) where
       pub contraction-at : (a b : List ℕ) → contraction s (drop (length a) (a ++ (u ++ b))) ≡ contraction s u
       contraction-at a b = rw (drop-append-seam a (u ++ b)) (contraction-rest b)
 
-      -- rule number `x .number` matches the subterm u and no lower one does; it is replaced by the instance of the right side
-      pub record Fired (a b : List ℕ) (x : Contraction) : Type 0 where
-        pub known : x .number < length (s .rules)
-        pub match : Matches g (a ++ (u ++ b)) (length a) (rule s (x .number))
-        pub lowest : (k : ℕ) → k < x .number → Matches g (a ++ (u ++ b)) (length a) (rule s k) → ⊥
-        pub reduct : x .reduct ≡ instance (match .σ) (rule s (x .number) .rhs)
-        pub left : Whole g (x .reduct)
-
       -- the first rule that matches, and what it leaves
-      pub fired : (a b : List ℕ) (x : Contraction) → contraction s u ≡ some x → Fired a b x
+      pub fired : (a b : List ℕ) (x : Contraction) → contraction s u ≡ some x → FirstMatch s (a ++ (u ++ b)) (length a) x
       fired a b x e =
           let few = few-symbols s wf in
           let c = first-some g (s .rules) 0 u x (sym (contraction-first u) ∙ e) in

@@ -21,13 +21,12 @@ use Rattle.system.proofs.Forests.{span-forest}
 use Rattle.matching.specs.declared.Match.{Match}
 use Rattle.matching.specs.declared.FirstRule.{FirstRule}
 use Rattle.matching.specs.declared.FirstRule.the-variants.{Nothing, First}
-use Rattle.system.specs.Book.{systemOf}
-use Rattle.system.specs.layout.Accepted.{Accepted}
-use Rattle.matching.specs.Matching.{Matches, bind, contraction}
-use Rattle.matching.specs.Bindings.{Bindings, matchOf}
-use Rattle.matching.specs.rules.Searches.{lhsEnd, value, bindingsOf, contractionOf, reductLength, RightSide, Within}
+use Rattle.system.specs.Book.{systemOf, Accepted}
+use Rattle.matching.specs.Matching.{FirstMatch, Matches, bind, contraction}
+use Rattle.matching.specs.Bindings.{Bindings, matchOf, value, bindingsOf}
+use Rattle.matching.specs.rules.Searches.{lhsEnd, contractionOf, reductLength, RightSide, Within}
 use Rattle.matching.proofs.Matched.{instance-nil, instance-symbol, instance-variable, instance-cong, bind-sound}
-use Rattle.matching.proofs.Firsts.{contraction-first, contraction-rest, Fired, fired, unfired}
+use Rattle.matching.proofs.Firsts.{contraction-first, contraction-rest, fired, unfired}
 use Rattle.matching.proofs.BindingsAgree.{Chosen, Answers, answers}
 use Rattle.matching.proofs.rules.Widths.{lhsEnd-bound}
 use Rattle.system.proofs.layout.Books.{well, signature, first-rest, wellFormedRules, rule-count}
@@ -139,7 +138,7 @@ module _ (b : List ℕ) (sh : Shape) (acc : Accepted b sh) where
 
     -- a rule is found: it matches, no lower one does, and the substitution makes the instance, which is whole
     pub first-matches : {n rhs size : ℕ} → m .rule ≡ First n rhs size →
-        Fired s (well b sh acc) whole a d (record { number = n; reduct = instance (value (u ++ d) (bindingsOf m)) (take size (drop rhs b)) })
+        FirstMatch s (a ++ (u ++ d)) (length a) (record { number = n; reduct = instance (value (u ++ d) (bindingsOf m)) (take size (drop rhs b)) })
     first-matches f = fired s (well b sh acc) whole a d _ (sym (contraction-rest s (well b sh acc) whole d) ∙ match-some (u ++ d) m e f)
 
     -- what its left side is bound to

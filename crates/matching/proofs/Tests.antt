@@ -12,13 +12,8 @@ use Rattle.system.specs.Parser.{Parsed, ok, fault, read}
 use Rattle.system.specs.reader.Sections.{scanOf}
 use Rattle.system.proofs.FaultNumbers.{fault-not-zero}
 use Rattle.system.specs.Book.{systemFrom, systemOf}
-use Rattle.matching.specs.StrategyTest.{Passes, Safe, Tested, passed, failed, TestedBook}
+use Rattle.matching.specs.StrategyTest.{SafeBook, Passes, Safe, Tested, passed, failed, TestedBook}
 use Rattle.system.proofs.layout.Accepting.{reads-system, scan-accepted}
-
--- an accepted book whose system is safe
-pub record SafeBook (b : List ℕ) : Type 0 where
-  pub accepted : read b ≡ ok (systemOf b) (length b)
-  pub safe : Safe (systemOf b)
 
 module _ (s : System) where
   pub tested-safe : {r : Answer} → Tested s r → r .number ≡ 0 → Safe s

@@ -3,7 +3,7 @@ use Prim.Native.Nat.{ℕ, zero, suc, _+_, _-_}
 use mathlib.Core.List.{List, [], _∷_}
 use mathlib.Core.Bool.{cond}
 use mathlib.Core.Option.{Option, none, some}
-use lib.ListN.{length, drop, set, replicate}
+use lib.ListN.{length, getD, take, drop, set, replicate}
 use lib.Dec.{ltb, eqb}
 use Rattle.system.specs.Limits.{variable, variables}
 use Rattle.system.specs.Signature.{Signature, span}
@@ -58,3 +58,10 @@ matchFrom g (r ∷ rs) k at ws =
 -- they are, and the stretches of its variables
 unfoldable pub matchOf : System → List ℕ → Match
 matchOf s ws = matchFrom (s .arities) (s .rules) 0 (length (s .arities) + 3 + length (encodeStrategies (s .strategies))) ws
+
+-- what variable v stands for
+unfoldable pub value : List ℕ → Bindings → ℕ → List ℕ
+value ws a v = take (getD (a .lengths) v 0) (drop (getD (a .starts) v 0) ws)
+
+abbrev pub bindingsOf : Match → Bindings
+bindingsOf m = record { starts = m .starts; lengths = m .lengths }

@@ -1,14 +1,14 @@
 -- Matching (01: fitting): when a rule matches, and how the first rule that matches is found.
-use Prim.Native.Nat.{ℕ, suc}
+use Prim.Native.Nat.{ℕ, suc, _<_}
 use mathlib.Core.Path.{_≡_}
 use mathlib.Core.List.{List, [], _∷_, _++_}
 use mathlib.Core.Bool.{true, false}
 use mathlib.Core.Option.{Option, none, some}
-use lib.ListN.{getD, take, drop}
+use lib.ListN.{length, getD, take, drop}
 use lib.Dec.{ltb, eqb}
 use Rattle.system.specs.Limits.{variable}
 use Rattle.system.specs.Signature.{Signature, span, subterm}
-use Rattle.system.specs.System.{System, Rule, instance}
+use Rattle.system.specs.System.{System, Rule, rule, instance}
 use Rattle.system.specs.Terms.{Whole}
 
 -- "A filling gives each placeholder a whole cue, the same wherever it stands; a side so filled is an instance. A rule fits at a place
@@ -50,3 +50,12 @@ firstMatch g (r ∷ rs) k ws =
 -- "the lowest-numbered rule that fits here", at the front of ws
 unfoldable pub contraction : System → List ℕ → Option Contraction
 contraction s ws = firstMatch (s .arities) (s .rules) 0 ws
+
+-- "The first rule that fits is the lowest-numbered": rule number `x .number` matches the subterm of t at p, no lower one does, and the reduct is
+-- "the same filling's instance of its right side", which is whole
+pub record FirstMatch (s : System) (t : List ℕ) (p : ℕ) (x : Contraction) : Type 0 where
+  pub known : x .number < length (s .rules)
+  pub match : Matches (s .arities) t p (rule s (x .number))
+  pub lowest : (k : ℕ) → k < x .number → Matches (s .arities) t p (rule s k) → ⊥
+  pub reduct : x .reduct ≡ instance (match .σ) (rule s (x .number) .rhs)
+  pub left : Whole (s .arities) (x .reduct)

@@ -10,7 +10,8 @@ use Rattle.system.specs.Limits.{variable}
 use Rattle.system.specs.Signature.{Symbol, argument}
 use Rattle.system.specs.System.{System, strategy, rule, head}
 use Rattle.system.specs.Terms.{Member}
-use Rattle.system.specs.Parser.{Parsed, ok, fault}
+use Rattle.system.specs.Book.{systemOf}
+use Rattle.system.specs.Parser.{Parsed, ok, fault, read}
 use Rattle.system.specs.Answers.{answerOf}
 
 -- "An argument is idle if it is a placeholder in every left side starting with that name": the argument of f with i others before it
@@ -52,3 +53,8 @@ pub data Tested (s : System) : Answer → Type 0 where
 abbrev pub TestedBook : Parsed System → Answer → Type 0
 TestedBook (ok s i) r = Tested s r
 TestedBook (fault f i) r = r ≡ answerOf (fault f i)
+
+-- "A book passed if the order test answers 0": it is accepted, and its system is safe
+pub record SafeBook (b : List ℕ) : Type 0 where
+  pub accepted : read b ≡ ok (systemOf b) (length b)
+  pub safe : Safe (systemOf b)

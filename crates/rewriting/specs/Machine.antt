@@ -35,12 +35,6 @@ unfoldable pub position : System → List ℕ → List ℕ → ℕ → ℕ
 position s t [] p = p
 position s t (c ∷ cs) p = position s t cs (down s t p c)
 
--- the levels cs are open from p on: at each, the entry last begun is an argument
-pub data Opened (s : System) (t : List ℕ) : ℕ → List ℕ → Type 0 where
-  base : {p : ℕ} → Opened s t p []
-  level : {p c i : ℕ} {cs : List ℕ} → c < length (strategyAt s t p) → getD (strategyAt s t p) c 0 ≡ suc i →
-      Opened s t (down s t p (suc c)) cs → Opened s t p (suc c ∷ cs)
-
 -- where a machine comes to without a rewrite: the end; an argument that would be opened too deep;
 -- or a rewrite at the position below the levels `outer`, where `begun` entries are begun, the 0 of this rewrite among them
 pub data Next : Type 0 where

@@ -10,7 +10,7 @@ use lib.ListN.{length, getD, take, drop}
 use Rattle.system.specs.Signature.{Signature, Symbol, arity, argument, subterm}
 use Rattle.system.specs.System.{head}
 use Rattle.system.specs.Terms.{Whole}
-use Rattle.system.specs.Answers.{signatureOf, termAnswer, argumentAt, partOf}
+use Rattle.system.specs.Answers.{HasArgument, signatureOf, termAnswer, argumentAt, partOf}
 use Rattle.system.proofs.Forests.{focus-here, Node, as-node}
 use Rattle.system.proofs.Places.{at-subterm, root-argument}
 use Rattle.system.proofs.TermChecks.{fault-whole}
@@ -39,14 +39,8 @@ module _ (g : Signature) where
 
 -- ---- of the caller's term
 
--- book and term are accepted, and i is "1 up to the argument count"
-pub record There (ws t : List ℕ) (i : ℕ) : Type 0 where
-  pub accepted : termAnswer ws t .number ≡ 0
-  pub least : 1 ≤ i
-  pub most : i ≤ arity (signatureOf ws) (head t)
-
 module _ (ws t : List ℕ) (i : ℕ) where
-  there-or-none : There ws t i ⊎ (argumentAt ws t i ≡ none)
+  there-or-none : HasArgument ws t i ⊎ (argumentAt ws t i ≡ none)
   there-or-none =
       elim (ℕ-discrete (termAnswer ws t .number) 0) [
         | no n ↦ inr (argument-refused ws t i n)
@@ -59,7 +53,7 @@ module _ (ws t : List ℕ) (i : ℕ) where
         ]
       ]
 
-  pub part-whole : There ws t i → Whole (signatureOf ws) (partOf ws t (argumentAt ws t i))
+  pub part-whole : HasArgument ws t i → Whole (signatureOf ws) (partOf ws t (argumentAt ws t i))
   unfolding argument
   part-whole h =
       let c = checked ws t (h .accepted) in
@@ -72,14 +66,14 @@ module _ (ws t : List ℕ) (i : ℕ) where
   pub found-whole : (p : ℕ) → argumentAt ws t i ≡ some p → Whole (signatureOf ws) (subterm (signatureOf ws) t p)
   found-whole p e = go there-or-none
     where
-      go : There ws t i ⊎ (argumentAt ws t i ≡ none) → Whole (signatureOf ws) (subterm (signatureOf ws) t p)
+      go : HasArgument ws t i ⊎ (argumentAt ws t i ≡ none) → Whole (signatureOf ws) (subterm (signatureOf ws) t p)
       go (inl h) = rw e at (part-whole h)
       go (inr n) = let z : _≡_ {A = ℕ} 0 1 = cc in absurd (omega arith)
 
   -- "The part is empty exactly when book or cue would be refused, or i is not 1 up to the argument count."
-  pub part-empty : (partOf ws t (argumentAt ws t i) ≡ []) ↔ (There ws t i → ⊥)
+  pub part-empty : (partOf ws t (argumentAt ws t i) ≡ []) ↔ (HasArgument ws t i → ⊥)
   part-empty = (λ e h. let l = forest-some (part-whole h) in let z = ap length e in omega arith, go there-or-none)
     where
-      go : There ws t i ⊎ (argumentAt ws t i ≡ none) → (There ws t i → ⊥) → partOf ws t (argumentAt ws t i) ≡ []
+      go : HasArgument ws t i ⊎ (argumentAt ws t i ≡ none) → (HasArgument ws t i → ⊥) → partOf ws t (argumentAt ws t i) ≡ []
       go (inl h) n = absurd (n h)
       go (inr e) n = rw e

@@ -1,5 +1,5 @@
 -- What the operations answer (01: "Each answer is three numbers: number, place, steps").
-use Prim.Native.Nat.{ℕ, zero, suc, _+_, _*_}
+use Prim.Native.Nat.{ℕ, zero, suc, _+_, _*_, _≤_}
 use mathlib.Core.Path.{_≡_}
 use mathlib.Core.Bool.{cond}
 use mathlib.Core.Option.{Option, none, some}
@@ -74,3 +74,9 @@ partOf book t (some p) = subterm (signatureOf book) t p
 -- the slice r is the caller's own slice s from word a on: the same memory, two bytes further for each word
 abbrev pub LiesIn : RefT (List ℕ) → ℕ → RefT (List ℕ) → Type 0
 LiesIn s a r = ptr r ≡ (ptr s .0, a * 2 + ptr s .1)
+
+-- book and term are accepted, and i is "1 up to the argument count"
+pub record HasArgument (ws t : List ℕ) (i : ℕ) : Type 0 where
+  pub accepted : termAnswer ws t .number ≡ 0
+  pub least : 1 ≤ i
+  pub most : i ≤ arity (signatureOf ws) (head t)

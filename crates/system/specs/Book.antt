@@ -1,6 +1,10 @@
--- The system that the words of a book are.
+-- The system that the words of a book are, and a book that is accepted.
 use Prim.Native.Nat.{ℕ}
+use mathlib.Core.Path.{_≡_}
 use mathlib.Core.List.{List, []}
+use lib.ListN.{length}
+use Rattle.system.specs.declared.Shape.{Shape}
+use Rattle.system.specs.Answers.{shapeOf}
 use Rattle.system.specs.System.{System}
 use Rattle.system.specs.Parser.{Parsed, ok, fault, read}
 
@@ -12,3 +16,8 @@ systemFrom (fault f i) = record { arities = []; strategies = []; rules = [] }
 -- the system that the words of a book are; the empty one where the reader refuses them
 unfoldable pub systemOf : List ℕ → System
 systemOf ws = systemFrom (read ws)
+
+-- the book is accepted, and the shape is its own
+pub record Accepted (ws : List ℕ) (shape : Shape) : Type 0 where
+  pub accepted : read ws ≡ ok (systemOf ws) (length ws)
+  pub shaped : shape ≡ shapeOf (read ws)

@@ -3,7 +3,8 @@ use mathlib.Core.Path.{_≡_, _∙_}
 use Prim.Native.Nat.{_-_, _≤_}
 use native.Mathlib.Omega.{arith}
 use lib.ListN.{length, length-set}
-use Rattle.buffers.specs.Words.{part, over}
+use Rattle.buffers.specs.moves.Parts.{part}
+use Rattle.buffers.specs.Words.{over}
 use Rattle.buffers.proofs.Over.{move-down}
 use borrow.Author.Needs.{needs}
 use Rattle.buffers.proofs.move_down.Statement.{statement}

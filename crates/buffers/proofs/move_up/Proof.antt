@@ -4,7 +4,8 @@ use Prim.Native.Nat.{_+_, _-_, _≤_}
 use native.Mathlib.Omega.{arith}
 use lib.ListN.{length, length-set}
 use native.Mathlib.Nat.{add-zero, sub-zero}
-use Rattle.buffers.specs.Words.{part, over}
+use Rattle.buffers.specs.moves.Parts.{part}
+use Rattle.buffers.specs.Words.{over}
 use Rattle.buffers.proofs.Over.{move-up}
 use borrow.Author.Needs.{needs}
 use Rattle.buffers.proofs.move_up.Statement.{statement}

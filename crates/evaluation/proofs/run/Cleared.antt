@@ -5,7 +5,8 @@ use mathlib.Core.Path.{_≡_, sym, ap, _∙_}
 use mathlib.Core.List.{List, [], _∷_, _++_}
 use lib.ListN.{length, take, drop, length-append, length-drop, take-append-drop}
 use lib.Seq.{sets-eq, length-take-le}
-use Rattle.buffers.specs.Words.{pad, zeros, over}
+use Rattle.buffers.specs.moves.Parts.{pad}
+use Rattle.buffers.specs.Words.{zeros, over}
 use Rattle.buffers.proofs.Over.{over-left, over-right}
 use Rattle.buffers.proofs.Pads.{length-zeros, length-pad, zeros-append}
 use Rattle.system.specs.Limits.{termWords, areaWords}

@@ -4,14 +4,14 @@ use native.Mathlib.Omega.{arith}
 use mathlib.Core.Path.{_≡_, refl, sym, _∙_}
 use mathlib.Core.List.{List, [], _∷_, _++_}
 use lib.ListN.{length, getD, take}
-use Rattle.buffers.specs.Words.{pad}
+use Rattle.buffers.specs.moves.Parts.{pad}
 use Rattle.system.specs.Signature.{replace}
 use Rattle.system.specs.System.{System}
 use Rattle.system.specs.Terms.{Whole, WellFormed}
 use Rattle.system.specs.Limits.{termWords, areaWords, levels}
 use Rattle.rewriting.specs.Evaluation.{evaluation}
-use Rattle.rewriting.specs.Machine.{position, Opened, base, down}
-use Rattle.machine.specs.advance.Area.{area, termIn, outerIn, countIn, Layout, Valid, Positioned, Represents, Tracks}
+use Rattle.rewriting.specs.Machine.{position, down}
+use Rattle.machine.specs.advance.Area.{Opened, base, area, termIn, outerIn, countIn, Layout, Valid, Positioned, Represents, Tracks}
 use Rattle.rewriting.proofs.Laws.{position-le}
 use Rattle.rewriting.proofs.MachineTheorem.{remains, remains-start}
 use Rattle.machine.proofs.advance.States.{opened-replace, valid-start, valid-within}

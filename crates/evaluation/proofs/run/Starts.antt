@@ -5,7 +5,8 @@ use mathlib.Core.Path.{_≡_, sym, ap, _∙_}
 use mathlib.Core.List.{List, [], append-nil, append-assoc}
 use lib.ListN.{length, drop, drop-of-length-le}
 use lib.Seq.{sets-eq}
-use Rattle.buffers.specs.Words.{pad, zeros, over}
+use Rattle.buffers.specs.moves.Parts.{pad}
+use Rattle.buffers.specs.Words.{zeros, over}
 use Rattle.buffers.proofs.Over.{over-append}
 use Rattle.buffers.proofs.Pads.{length-pad, zeros-append}
 use Rattle.system.specs.Limits.{termWords, areaWords}

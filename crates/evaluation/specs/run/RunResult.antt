@@ -4,11 +4,11 @@ use Prim.Native.Nat.{ℕ, _≤_}
 use mathlib.Core.Path.{_≡_}
 use mathlib.Core.List.{List}
 use lib.ListN.{length}
-use Rattle.buffers.specs.Words.{zeros, pad}
+use Rattle.buffers.specs.Words.{zeros}
+use Rattle.buffers.specs.moves.Parts.{pad}
 use Rattle.system.specs.declared.Shape.{Shape}
 use Rattle.system.specs.Terms.{Whole}
-use Rattle.system.specs.Book.{systemOf}
-use Rattle.system.specs.layout.Accepted.{Accepted}
+use Rattle.system.specs.Book.{systemOf, Accepted}
 use Rattle.evaluation.specs.declared.run.RunResult.{RunResult}
 use Rattle.rewriting.specs.Evaluation.{Outcome, finished, stopped}
 use Rattle.system.specs.Numbers.{limitNumber}

@@ -10,14 +10,13 @@ use Rattle.system.specs.declared.Shape.{Shape}
 use Rattle.system.specs.System.{System}
 use Rattle.matching.specs.declared.rules.Search.{Search}
 use Rattle.matching.specs.declared.FirstRule.the-variants.{Nothing}
-use Rattle.system.specs.Book.{systemOf}
-use Rattle.system.specs.layout.Accepted.{Accepted}
+use Rattle.system.specs.Book.{systemOf, Accepted}
 use Rattle.matching.specs.rules.Searches.{searchOf}
 use Rattle.machine.specs.declared.advance.State.{State}
 use Rattle.machine.specs.declared.advance.Event.{Event}
 use Rattle.machine.specs.declared.advance.Event.the-variants.{End, Repeated, Rules, Argument}
-use Rattle.rewriting.specs.Machine.{strategyAt, position, Opened, advance}
-use Rattle.machine.specs.advance.Area.{area, termIn, outerIn, countIn, Valid, Tracks}
+use Rattle.rewriting.specs.Machine.{strategyAt, position, advance}
+use Rattle.machine.specs.advance.Area.{Opened, area, termIn, outerIn, countIn, Valid, Tracks}
 use Rattle.machine.specs.advance.Transition as to
 use Rattle.machine.specs.advance.Transition.{sinceAt, Transition, countsAfter, next, Performed}
 use Rattle.machine.specs.advance.Arrivals.{comes}

@@ -6,7 +6,8 @@ use mathlib.Core.Path.{_≡_, sym, ap, _∙_, subst}
 use mathlib.Core.List.{List, [], _∷_, _++_}
 use lib.ListN.{length, drop, set, length-append}
 use lib.Seq.{take-at, drop-at, getD-at, getD-drop, set-set, append-snoc}
-use Rattle.buffers.specs.Words.{pad, zeros}
+use Rattle.buffers.specs.moves.Parts.{pad}
+use Rattle.buffers.specs.Words.{zeros}
 use Rattle.buffers.proofs.Over.{set-right}
 use Rattle.buffers.proofs.Pads.{length-pad, take-pad, pad-zero, pad-push}
 use Rattle.system.specs.System.{System}

@@ -7,8 +7,7 @@ use lib.ListN.{length, getD}
 use lib.Seq.{take-all}
 use Rattle.system.specs.declared.Shape.{Shape}
 use Rattle.system.specs.System.{System}
-use Rattle.system.specs.Book.{systemOf}
-use Rattle.system.specs.layout.Accepted.{Accepted}
+use Rattle.system.specs.Book.{systemOf, Accepted}
 use Rattle.system.proofs.layout.Books.{well}
 use Rattle.rewriting.specs.Machine.{position}
 use Rattle.machine.specs.advance.Area.{termIn, outerIn, countIn, Valid, Tracks}

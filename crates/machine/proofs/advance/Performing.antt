@@ -14,8 +14,7 @@ use Rattle.system.specs.Signature.{span, argument}
 use Rattle.system.specs.System.{System, strategy}
 use Rattle.system.specs.Terms.{WellFormed}
 use Rattle.system.specs.Answers.{signatureOf}
-use Rattle.system.specs.Book.{systemOf}
-use Rattle.system.specs.layout.Accepted.{Accepted}
+use Rattle.system.specs.Book.{systemOf, Accepted}
 use Rattle.system.proofs.layout.Books.{well, signature}
 use Rattle.system.specs.declared.layout.entries.Entry.{Entry}
 use Rattle.system.specs.declared.layout.entries.Entry.the-variants as entry

@@ -10,8 +10,8 @@ use Rattle.system.specs.System.{System}
 use Rattle.system.specs.Terms.{Whole, WellFormed}
 use Rattle.matching.specs.Matching.{Contraction, contraction}
 use Rattle.rewriting.specs.Rewriting.{Active, root, below}
-use Rattle.rewriting.specs.Machine.{strategyAt, down, position, Opened, base, level}
-use Rattle.machine.specs.advance.Area.{Valid}
+use Rattle.rewriting.specs.Machine.{strategyAt, down, position}
+use Rattle.machine.specs.advance.Area.{level, Opened, base, Valid}
 use Rattle.system.proofs.Members.{member-getD}
 use Rattle.system.proofs.Places.{patch, at-replace}
 use Rattle.matching.proofs.Firsts.{contraction-at, fired}

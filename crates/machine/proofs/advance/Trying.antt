@@ -12,8 +12,7 @@ use Rattle.system.specs.System.{System, rule}
 use Rattle.matching.specs.declared.Match.{Match}
 use Rattle.matching.specs.declared.rules.Search.{Search}
 use Rattle.matching.specs.declared.FirstRule.the-variants.{Nothing, First}
-use Rattle.system.specs.Book.{systemOf}
-use Rattle.system.specs.layout.Accepted.{Accepted}
+use Rattle.system.specs.Book.{systemOf, Accepted}
 use Rattle.matching.specs.Matching.{Contraction, contraction}
 use Rattle.matching.specs.rules.Searches.{lhsEnd, searchOf}
 use Rattle.matching.specs.Bindings.{matchOf}

@@ -6,11 +6,13 @@ use mathlib.Core.Path.{_≡_, refl, sym, ap, _∙_, subst}
 use mathlib.Core.List.{List, _∷_, _++_, append-assoc}
 use lib.ListN.{length, getD, take, drop, length-drop, take-append-drop}
 use lib.Seq.{sets-eq, length-sets, drop-drop, take-take, drop-at, take-append-le, drop-append-le, length-take-le}
-use Rattle.buffers.specs.Words.{part, over, zeros, pad, splice}
+use Rattle.buffers.specs.moves.Parts.{part, pad, splice}
+use Rattle.buffers.specs.Words.{over, zeros}
 use Rattle.buffers.proofs.Over.{length-part, part-cons, part-slice, part-below, over-left, over-right, take-over, drop-over}
 use Rattle.buffers.proofs.Pads.{length-zeros}
 use Rattle.buffers.proofs.Replaced.{longer, shorter}
-use Rattle.matching.specs.rules.Searches.{value, Within}
+use Rattle.matching.specs.Bindings.{value}
+use Rattle.matching.specs.rules.Searches.{Within}
 use Rattle.matching.proofs.Matched.{instance-cong}
 use Rattle.matching.proofs.Reducts.{reduct-length}
 use Rattle.system.specs.Limits.{termWords, areaWords}

@@ -8,7 +8,8 @@ use mathlib.Core.List.{List, [], _∷_, _++_, append-assoc}
 use lib.ListN.{length, getD, take, drop, length-append, length-drop}
 use lib.Seq.{sets-eq, drop-at, take-at, drop-drop, length-take-le}
 use borrow.Author.Tests.{lt-ltb, le-ltb}
-use Rattle.buffers.specs.Words.{over, zeros, pad, splice}
+use Rattle.buffers.specs.Words.{over, zeros}
+use Rattle.buffers.specs.moves.Parts.{pad, splice}
 use Rattle.buffers.proofs.Pads.{length-zeros, length-pad, zeros-append, drop-zeros, pad-zero}
 use Rattle.system.specs.Signature.{Signature, Symbol, span, replace}
 use Rattle.system.specs.Limits.{variable, termWords, areaWords}

@@ -6,11 +6,13 @@ use mathlib.Core.Path.{_≡_, refl, sym, ap, _∙_}
 use mathlib.Core.List.{List, [], _∷_, _++_}
 use lib.ListN.{length, getD, take, drop, set, length-append, length-drop, length-set}
 use lib.Seq.{drop-drop, getD-take, getD-drop, length-take-le, length-sets, take-all}
-use Rattle.buffers.specs.Words.{part, over}
+use Rattle.buffers.specs.moves.Parts.{part}
+use Rattle.buffers.specs.Words.{over}
 use Rattle.buffers.proofs.Over.{over-snoc, over-append, part-above}
 use Rattle.system.specs.Limits.{variable, variables}
 use Rattle.system.specs.System.{instance}
-use Rattle.matching.specs.rules.Searches.{value, reductLength}
+use Rattle.matching.specs.Bindings.{value}
+use Rattle.matching.specs.rules.Searches.{reductLength}
 use Rattle.matching.proofs.Matched.{instance-nil}
 use Rattle.matching.proofs.Words.{fill-symbol, fill-variable}
 use Rattle.matching.proofs.Reducts.{length-symbol, length-variable, value-length}

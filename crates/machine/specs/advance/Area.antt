@@ -1,13 +1,13 @@
 -- The machine's state as it lies in memory: an area of 8,192 words that holds the term and then the counts of begun entries, outermost
 -- level first, each filled up with zeros to 4,096 words.
-use Prim.Native.Nat.{ℕ, _+_, _≤_, _<_}
+use Prim.Native.Nat.{ℕ, suc, _+_, _≤_, _<_}
 use mathlib.Core.Path.{_≡_}
 use mathlib.Core.List.{List, [], _∷_, _++_}
 use lib.ListN.{length, getD, take, drop}
-use Rattle.buffers.specs.Words.{pad}
+use Rattle.buffers.specs.moves.Parts.{pad}
 use Rattle.system.specs.System.{System}
 use Rattle.system.specs.Terms.{Whole}
-use Rattle.rewriting.specs.Machine.{strategyAt, position, Opened}
+use Rattle.rewriting.specs.Machine.{strategyAt, down, position}
 use Rattle.system.specs.Limits.{areaWords, levels, termWords}
 
 unfoldable pub area : List ℕ → List ℕ → List ℕ
@@ -29,6 +29,12 @@ pub record Layout (ws : List ℕ) (n level : ℕ) : Type 0 where
   pub room : level < levels
   pub total : length ws ≡ areaWords
   pub equal : ws ≡ area (termIn ws n) (outerIn ws level ++ countIn ws level ∷ [])
+
+-- the levels cs are open from p on: at each, the entry last begun is an argument
+pub data Opened (s : System) (t : List ℕ) : ℕ → List ℕ → Type 0 where
+  base : {p : ℕ} → Opened s t p []
+  level : {p c i : ℕ} {cs : List ℕ} → c < length (strategyAt s t p) → getD (strategyAt s t p) c 0 ≡ suc i →
+      Opened s t (down s t p (suc c)) cs → Opened s t p (suc c ∷ cs)
 
 -- a state that the machine may be in, the levels `outer` around the innermost one, of which c entries are begun:
 -- never more than 4,096 words in the term, never more than 64 levels

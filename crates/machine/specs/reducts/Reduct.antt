@@ -4,8 +4,8 @@ use mathlib.Core.List.{List}
 use lib.ListN.{length, take, drop}
 use Rattle.system.specs.System.{instance}
 use Rattle.matching.specs.declared.Match.{Match}
-use Rattle.matching.specs.Bindings.{Bindings}
-use Rattle.matching.specs.rules.Searches.{value, reductLength, RightSide, Within}
+use Rattle.matching.specs.Bindings.{Bindings, value}
+use Rattle.matching.specs.rules.Searches.{reductLength, RightSide, Within}
 use Rattle.machine.specs.declared.reducts.Instance.{Instance}
 
 -- of a match that was found, whose rule's right side has `size` words from the index `rhs` on

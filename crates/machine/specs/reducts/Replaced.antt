@@ -3,7 +3,8 @@ use Prim.Native.Nat.{ℕ, _+_, _-_, _≤_, _<_}
 use mathlib.Core.Path.{_≡_}
 use mathlib.Core.List.{List, _++_}
 use lib.ListN.{length, getD, take, drop}
-use Rattle.buffers.specs.Words.{part, over, zeros, pad, splice}
+use Rattle.buffers.specs.moves.Parts.{part, pad, splice}
+use Rattle.buffers.specs.Words.{over, zeros}
 use Rattle.matching.specs.rules.Searches.{reductLength, RightSide, Within}
 use Rattle.machine.specs.declared.reducts.Instance.{Instance}
 use Rattle.machine.specs.declared.reducts.Subterm.{Subterm}

@@ -8,8 +8,7 @@ use Rattle.system.specs.declared.Shape.{Shape}
 use Rattle.system.specs.Signature.{span, replace}
 use Rattle.system.specs.System.{System}
 use Rattle.matching.specs.declared.Match.{Match}
-use Rattle.system.specs.Book.{systemOf}
-use Rattle.system.specs.layout.Accepted.{Accepted}
+use Rattle.system.specs.Book.{systemOf, Accepted}
 use Rattle.matching.specs.Matching.{Contraction, contraction}
 use Rattle.matching.specs.Bindings.{matchOf}
 use Rattle.machine.specs.declared.reducts.Reduced.{Reduced}

@@ -15,8 +15,7 @@ use Rattle.system.specs.reader.Sections.{scanOf}
 use Rattle.matching.specs.declared.FirstRule.{FirstRule}
 use Rattle.matching.specs.declared.FirstRule.the-variants.{Nothing, First}
 use Rattle.system.specs.declared.layout.rules.RuleSpan.{RuleSpan}
-use Rattle.system.specs.Book.{systemOf}
-use Rattle.system.specs.layout.Accepted.{Accepted}
+use Rattle.system.specs.Book.{systemOf, Accepted}
 use Rattle.matching.specs.Bindings.{Bindings, noBindings, consumed, withBinding, bindings, noMatch, matchFrom, matchOf}
 use Rattle.matching.specs.rules.Searches.{lhsEnd, searchWidth, searchOf}
 use Rattle.system.proofs.layout.Accepting.{scan-empty}

@@ -18,8 +18,8 @@ use Rattle.system.specs.System.{System, Rule, noRule, rule, head, strategy}
 use Rattle.system.specs.Answers.{signatureOf}
 use Rattle.system.proofs.Signatures.{symbol-lt, lt-symbol}
 use Rattle.system.specs.declared.layout.rules.RuleSpan.{RuleSpan}
-use Rattle.system.specs.Book.{systemOf}
-use Rattle.system.specs.layout.Accepted.{Accepted, StrategyAt, SuffixAt}
+use Rattle.system.specs.Book.{systemOf, Accepted}
+use Rattle.system.specs.layout.Accepted.{StrategyAt, SuffixAt}
 use Rattle.matching.specs.StrategyTest.{Tested, passed, failed}
 use Rattle.matching.specs.safety.Computed.{every, isVariable, idleTest, idles, closes, constructs, passes}
 use Rattle.matching.proofs.rules.MatchSteps.{tail}

@@ -14,7 +14,7 @@ use Rattle.matching.specs.declared.rules.Search.{Search}
 use Rattle.matching.specs.declared.FirstRule.{FirstRule}
 use Rattle.matching.specs.declared.FirstRule.the-variants.{Nothing, First}
 use Rattle.matching.specs.Matching.{Contraction}
-use Rattle.matching.specs.Bindings.{Bindings, consumed, matchOf}
+use Rattle.matching.specs.Bindings.{value, bindingsOf, Bindings, consumed, matchOf}
 
 -- where a left side ends among the words, of which the first q come before ws
 unfoldable pub lhsEnd : Signature → List ℕ → List ℕ → ℕ → ℕ
@@ -31,13 +31,6 @@ unfoldable pub searchOf : System → List ℕ → Search
 searchOf s ws = record { matched = matchOf s ws; width = searchWidth s ws (matchOf s ws .rule) }
 
 -- ---- the reduct
-
--- what variable v stands for
-unfoldable pub value : List ℕ → Bindings → ℕ → List ℕ
-value ws a v = take (getD (a .lengths) v 0) (drop (getD (a .starts) v 0) ws)
-
-abbrev pub bindingsOf : Match → Bindings
-bindingsOf m = record { starts = m .starts; lengths = m .lengths }
 
 -- the rule that was found, by its number, and its reduct: "the right side, so filled"
 unfoldable pub contractionOf : List ℕ → List ℕ → Match → Option Contraction

@@ -7,8 +7,7 @@ use Rattle.system.specs.declared.reader.Scan.{Scan}
 use Rattle.system.specs.System.{System}
 use Rattle.system.specs.Parser.{Parsed, ok, fault, read}
 use Rattle.system.specs.reader.Sections.{scanOf}
-use Rattle.system.specs.Book.{systemFrom, systemOf}
-use Rattle.system.specs.layout.Accepted.{Accepted}
+use Rattle.system.specs.Book.{systemFrom, systemOf, Accepted}
 use Rattle.system.proofs.Accepts.{read-sound}
 use Rattle.system.proofs.FaultNumbers.{fault-not-zero}
 

@@ -16,8 +16,7 @@ use Rattle.system.proofs.Accepts.{read-sound, forest-some}
 use Rattle.system.proofs.Members.{member-getD, numbered-below}
 use Rattle.system.proofs.Located.{Located, located, read-signature, RuleAt, rule-at}
 use Rattle.system.specs.declared.layout.rules.RuleSpan.{RuleSpan}
-use Rattle.system.specs.Book.{systemOf}
-use Rattle.system.specs.layout.Accepted.{Accepted}
+use Rattle.system.specs.Book.{systemOf, Accepted}
 use Rattle.system.specs.layout.Rules.{ruleEnd, ruleSpan}
 
 -- the rules from number k on stand from the index `at` on

@@ -8,8 +8,8 @@ use Rattle.system.specs.declared.Shape.{Shape}
 use Rattle.system.specs.System.{System, strategy}
 use Rattle.system.specs.Answers.{signatureOf}
 use Rattle.system.proofs.Located.{Listed, strategy-at}
-use Rattle.system.specs.Book.{systemOf}
-use Rattle.system.specs.layout.Accepted.{Accepted, StrategyAt, suffixFrom, SuffixAt}
+use Rattle.system.specs.Book.{systemOf, Accepted}
+use Rattle.system.specs.layout.Accepted.{StrategyAt, suffixFrom, SuffixAt}
 use Rattle.system.proofs.layout.Books.{well, sections, signature, symbol-count, strategy-index}
 
 module _ (b : List ℕ) (sh : Shape) (acc : Accepted b sh) where

@@ -1,4 +1,4 @@
--- What the functions ask of a book and its shape, and where the strategies of an accepted book stand.
+-- Where the strategies of an accepted book stand.
 use Prim.Native.Nat.{ℕ, _+_, _<_}
 use mathlib.Core.Path.{_≡_}
 use mathlib.Core.List.{List, _∷_, _++_}
@@ -9,11 +9,6 @@ use Rattle.system.specs.Format.{encodeStrategies, encodeRules}
 use Rattle.system.specs.Parser.{ok, read}
 use Rattle.system.specs.Answers.{shapeOf}
 use Rattle.system.specs.Book.{systemOf}
-
--- the book is accepted, and the shape is its own
-pub record Accepted (ws : List ℕ) (shape : Shape) : Type 0 where
-  pub accepted : read ws ≡ ok (systemOf ws) (length ws)
-  pub shaped : shape ≡ shapeOf (read ws)
 
 -- the strategy of f stands at the index `at`: its length, and its entries after it
 pub record StrategyAt (ws : List ℕ) (f at : ℕ) : Type 0 where

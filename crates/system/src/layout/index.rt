@@ -2,7 +2,8 @@
 ghost use mathlib.Core.Path.{_≡_};
 ghost use Prim.Native.Nat.{_≤_, _<_};
 ghost use lib.ListN.{length};
-ghost use Rattle.system.specs.layout.Accepted.{Accepted, StrategyAt, SuffixAt};
+ghost use Rattle.system.specs.Book.{Accepted};
+ghost use Rattle.system.specs.layout.Accepted.{StrategyAt, SuffixAt};
 ghost use Rattle.system.specs.layout.Index.{markCount, Indexed};
 use crate::Shape;
 use crate::words::wide;

@@ -10,8 +10,8 @@ use lib.Seq.{getD-take, getD-drop, length-take-le}
 use borrow.Author.Tests.{lt-ltb, le-ltb}
 use Rattle.system.specs.declared.Shape.{Shape}
 use Rattle.system.specs.System.{strategy}
-use Rattle.system.specs.Book.{systemOf}
-use Rattle.system.specs.layout.Accepted.{Accepted, StrategyAt}
+use Rattle.system.specs.Book.{systemOf, Accepted}
+use Rattle.system.specs.layout.Accepted.{StrategyAt}
 use Rattle.system.proofs.layout.Suffixes.{strategy-count}
 use Rattle.system.specs.declared.layout.entries.Entry.{Entry}
 use Rattle.system.specs.declared.layout.entries.Entry.the-variants.{End, Repeated, Rules, Argument}

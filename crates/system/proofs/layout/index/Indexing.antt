@@ -7,7 +7,8 @@ use mathlib.Core.List.{List}
 use lib.ListN.{length, getD, set, length-set}
 use lib.Seq.{getD-set-same, getD-set-other}
 use Rattle.system.specs.declared.Shape.{Shape}
-use Rattle.system.specs.layout.Accepted.{Accepted, SuffixAt}
+use Rattle.system.specs.Book.{Accepted}
+use Rattle.system.specs.layout.Accepted.{SuffixAt}
 use Rattle.system.specs.layout.Index.{Indexed}
 use Rattle.system.proofs.layout.Suffixes.{suffix-start}
 
