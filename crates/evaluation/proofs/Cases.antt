@@ -12,9 +12,9 @@ use Rattle.matching.specs.Cases.{failing, testing, strategyCases}
 use Rattle.matching.specs.Matching.{bind, firstMatch, contraction}
 use Rattle.system.specs.Cases.{Hold, bookB, readerCases}
 use Rattle.rewriting.specs.Evaluation.{rewrite, follow, atRoot, evaluate, evaluation}
-use Rattle.evaluation.specs.Expansion.{expansion}
+use Rattle.evaluation.specs.Expansion.{room, earlier, expansion}
 use Rattle.evaluation.specs.Cases.{expanding, evaluatorCases, starred}
 
 pub starred-cases : Hold starred
-unfolding starred readerCases strategyCases evaluatorCases testing failing passes every closes idles idleTest isVariable constructs expanding bookB zeros expansion evaluation evaluate atRoot follow rewrite systemOf contraction firstMatch bind instance span argument replace strategy read readSystem readRules readEnd readRule readSide readWords readStrategy number word learn sideFault variableFault outside each times termFault termAnswer isSymbol arity
+unfolding starred readerCases strategyCases evaluatorCases testing failing passes every closes idles idleTest isVariable constructs expanding bookB zeros expansion room earlier evaluation evaluate atRoot follow rewrite systemOf contraction firstMatch bind instance span argument replace strategy read readSystem readRules readEnd readRule readSide readWords readStrategy number word learn sideFault variableFault outside each times termFault termAnswer isSymbol arity
 starred-cases = refl

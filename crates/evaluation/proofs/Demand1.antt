@@ -57,4 +57,4 @@ module _ (book term : List ℕ) (limit : ℕ) (out work : List ℕ) where
           let t = term-early book term in
           let z : termAnswer book term .number ≤ 9 = t .0 in
           subst (Refused out work) (sym e) (untouched (omega arith) (omega arith) (t .1))
-      by (runs h k g e) = stops (evaluation (systemOf book) limit term) e
+      by (runs p e) = stops (evaluation (systemOf book) limit term) e

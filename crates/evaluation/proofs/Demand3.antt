@@ -58,7 +58,7 @@ module _ (book term : List ℕ) (limit : ℕ) (out work : List ℕ) where
       by : Course book term limit out work → Handed
       by (narrow e) = absurd (let y = number e in omega arith)
       by (wrong b e) = absurd (b (number e))
-      by (runs h k g e) = ends h k g (evaluation (systemOf book) limit term) refl e
+      by (runs p e) = ends (p .room-answer) (p .room-work) (p .good) (evaluation (systemOf book) limit term) refl e
 
   module _ (h : Handed) where
     abbrev r : Config

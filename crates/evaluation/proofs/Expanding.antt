@@ -16,13 +16,13 @@ use Rattle.system.specs.Terms.{Whole, WellFormed}
 use Rattle.system.specs.Parser.{read, ok}
 use Rattle.system.specs.Answers.{shapeOf, termAnswer}
 use Rattle.system.proofs.Accepts.{read-sound}
-use Rattle.system.proofs.Answering.{checked}
+use Rattle.system.proofs.Answering as answering
 use Rattle.system.proofs.TermChecks.{fault-whole}
 use Rattle.system.specs.Book.{systemOf, Accepted}
 use Rattle.evaluation.specs.declared.run.RunResult.{RunResult}
 use Rattle.rewriting.specs.Evaluation.{Config, Outcome, finished, stopped, evaluation}
 use Rattle.evaluation.specs.run.RunResult.{Ran}
-use Rattle.evaluation.specs.Expansion.{result, expansionOf, expansion}
+use Rattle.evaluation.specs.Expansion.{result, expansionOf, room, earlier, checked, expansion}
 use Rattle.rewriting.proofs.Done.{theorem-done, steps-last}
 
 -- ---- what the check of a term tells
@@ -35,7 +35,7 @@ pub record Checks (book term : List ℕ) : Type 0 where
 pub checks : (book term : List ℕ) → termAnswer book term .number ≡ 0 → Checks book term
 unfolding systemOf
 checks book term e =
-    let c = checked book term e in
+    let c = answering.checked book term e in
     let s = c .system in
     let h : systemOf book ≡ s = rw (c .equal) in
     let z : read book ≡ ok s (length book) = c .equal ∙ ap (ok s) (read-sound book (c .equal) .2) in
@@ -51,51 +51,107 @@ module _ (book term : List ℕ) (c : Checks book term) where
 
 -- ---- the checks of the evaluator
 
-abbrev pub cramped : Answer
-cramped = record { number = 10; place = 0; steps = 0 }
+abbrev pub narrowed : Answer
+narrowed = record { number = 10; place = 0; steps = 0 }
+
+pub narrow-answer : (out work : ℕ) → out < 4096 → room out work ≡ narrowed
+unfolding room
+narrow-answer out work h = rw (lt-leb 4096 out h, room)
+
+pub narrow-work : (out work : ℕ) → 4096 ≤ out → work < 8192 → room out work ≡ narrowed
+unfolding room
+narrow-work out work h k = rw (le-leb 4096 out h, lt-leb 8192 work k, room)
+
+pub enough : (out work : ℕ) → 4096 ≤ out → 8192 ≤ work → room out work ≡ record { number = 0; place = 0; steps = 0 }
+unfolding room
+enough out work h k = rw (le-leb 4096 out h, le-leb 8192 work k, room)
+
+pub earlier-first : (a b : Answer) → (a .number ≡ 0 → ⊥) → earlier a b ≡ a
+unfolding earlier
+earlier-first a b bad = go (a .number) refl
+  where
+    go : (n : ℕ) → a .number ≡ n → earlier a b ≡ a
+    go zero e = absurd (bad e)
+    go (suc n) e = rw (e, earlier) (λ i. record { number = e i; place = a .place; steps = a .steps })
+
+pub earlier-second : (a b : Answer) → a .number ≡ 0 → earlier a b ≡ b
+unfolding earlier
+earlier-second a b e = rw (e, earlier)
+
+-- what passes the checks
+pub record Passed (book term out work : List ℕ) : Type 0 where
+  pub room-answer : 4096 ≤ length out
+  pub room-work : 8192 ≤ length work
+  pub good : termAnswer book term .number ≡ 0
+
+pub passed : (book term out work : List ℕ) → checked book term out work .number ≡ 0 → Passed book term out work
+passed book term out work z =
+    elim (decLt (length out) 4096) [
+      | yes h ↦ absurd (short (narrow-answer (length out) (length work) h))
+      | no h ↦ elim (decLt (length work) 8192) [
+        | yes k ↦ absurd (short (narrow-work (length out) (length work) (omega arith) k))
+        | no k ↦ record {
+          room-answer = omega arith;
+          room-work = omega arith;
+          good = sym (ap (λ y. y .number) (earlier-second _ (termAnswer book term) (ap (λ y. y .number) (enough (length out) (length work) (omega arith) (omega arith))))) ∙ z;
+        }
+      ]
+    ]
+  where
+    short : room (length out) (length work) ≡ narrowed → ⊥
+    short e =
+        let n = ap (λ y. y .number) e in
+        let y = sym (ap (λ y. y .number) (earlier-first _ (termAnswer book term) (λ w. omega arith))) ∙ z in
+        omega arith
 
 module _ (book term : List ℕ) (limit : ℕ) (out work : List ℕ) where
-  pub cramped-answer : length out < 4096 → expansion book term limit out work ≡ result cramped out work
+  pub refuses : (checked book term out work .number ≡ 0 → ⊥) → expansion book term limit out work ≡ result (checked book term out work) out work
   unfolding expansion
-  cramped-answer h = rw (lt-leb 4096 (length out) h, expansion)
+  refuses bad = go (checked book term out work .number) refl
+    where
+      go : (n : ℕ) → checked book term out work .number ≡ n → expansion book term limit out work ≡ result (checked book term out work) out work
+      go zero e = absurd (bad e)
+      go (suc n) e = rw (e, expansion)
+          (λ i. result (record { number = e i; place = checked book term out work .place; steps = checked book term out work .steps }) out work)
 
-  pub cramped-work : 4096 ≤ length out → length work < 8192 → expansion book term limit out work ≡ result cramped out work
+  pub goes : checked book term out work .number ≡ 0 → expansion book term limit out work ≡ expansionOf out work (evaluation (systemOf book) limit term)
   unfolding expansion
-  cramped-work h k = rw (le-leb 4096 (length out) h, lt-leb 8192 (length work) k, expansion)
+  goes e = rw (e, expansion)
 
-  module _ (room-answer : 4096 ≤ length out) (room-work : 8192 ≤ length work) where
-    pub refuses : (termAnswer book term .number ≡ 0 → ⊥) → expansion book term limit out work ≡ result (termAnswer book term) out work
-    unfolding expansion
-    refuses bad = go (termAnswer book term .number) refl
-      where
-        go : (n : ℕ) → termAnswer book term .number ≡ n → expansion book term limit out work ≡ result (termAnswer book term) out work
-        go zero e = absurd (bad e)
-        go (suc n) e = rw (le-leb 4096 (length out) room-answer, le-leb 8192 (length work) room-work, e, expansion)
-            (λ i. result (record { number = e i; place = termAnswer book term .place; steps = termAnswer book term .steps }) out work)
+  -- the checks pass
+  pub passing : 4096 ≤ length out → 8192 ≤ length work → checked book term out work ≡ termAnswer book term
+  passing h k = earlier-second _ (termAnswer book term) (ap (λ y. y .number) (enough (length out) (length work) h k))
 
-    pub evaluates : termAnswer book term .number ≡ 0 → expansion book term limit out work ≡ expansionOf out work (evaluation (systemOf book) limit term)
-    unfolding expansion
-    evaluates e = rw (le-leb 4096 (length out) room-answer, le-leb 8192 (length work) room-work, e, expansion)
+  pub evaluates : 4096 ≤ length out → 8192 ≤ length work → termAnswer book term .number ≡ 0 →
+      expansion book term limit out work ≡ expansionOf out work (evaluation (systemOf book) limit term)
+  evaluates h k g = goes (ap (λ y. y .number) (passing h k) ∙ g)
 
-  -- which of the checks a call meets first, and what comes of it
+  -- what comes of a call: its checks refuse it, 10 or the term's answer; or it runs
   pub data Course : Type 0 where
-    narrow : expansion book term limit out work ≡ result cramped out work → Course
+    narrow : expansion book term limit out work ≡ result narrowed out work → Course
     wrong : (termAnswer book term .number ≡ 0 → ⊥) → expansion book term limit out work ≡ result (termAnswer book term) out work → Course
-    runs : 4096 ≤ length out → 8192 ≤ length work → termAnswer book term .number ≡ 0 →
-        expansion book term limit out work ≡ expansionOf out work (evaluation (systemOf book) limit term) → Course
+    runs : Passed book term out work → expansion book term limit out work ≡ expansionOf out work (evaluation (systemOf book) limit term) → Course
 
   pub course : Course
   course =
       elim (decLt (length out) 4096) [
-        | yes h ↦ narrow (cramped-answer h)
+        | yes h ↦ narrow (first (narrow-answer (length out) (length work) h))
         | no h ↦ elim (decLt (length work) 8192) [
-          | yes k ↦ narrow (cramped-work (omega arith) k)
+          | yes k ↦ narrow (first (narrow-work (length out) (length work) (omega arith) k))
           | no k ↦ elim (ℕ-discrete (termAnswer book term .number) 0) [
-            | no b ↦ wrong b (refuses (omega arith) (omega arith) b)
-            | yes g ↦ runs (omega arith) (omega arith) g (evaluates (omega arith) (omega arith) g)
+            | no b ↦
+                let e = passing (omega arith) (omega arith) in
+                wrong b (refuses (λ z. b (sym (ap (λ y. y .number) e) ∙ z)) ∙ ap (λ y. result y out work) e)
+            | yes g ↦ runs (record { room-answer = omega arith; room-work = omega arith; good = g }) (evaluates (omega arith) (omega arith) g)
           ]
         ]
       ]
+    where
+      first : room (length out) (length work) ≡ narrowed → expansion book term limit out work ≡ result narrowed out work
+      first e =
+          let n = ap (λ y. y .number) e in
+          let c = earlier-first _ (termAnswer book term) (λ w. omega arith) ∙ e in
+          refuses (λ z. let y = ap (λ y. y .number) c in omega arith) ∙ ap (λ y. result y out work) c
 
 -- ---- after a run
 

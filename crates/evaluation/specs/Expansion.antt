@@ -29,15 +29,28 @@ expansionOf out work (finished r) =
     result (record { number = numberOf taken; place = length (r .term); steps = r .steps }) (over out 0 (r .term)) (over work 0 (zeros areaWords))
 expansionOf out work (stopped n k) = result (record { number = limitNumber n; place = 0; steps = k }) out (over work 0 (zeros areaWords))
 
--- "The expander checks 10, then the book, then the cue"; "every other number touches no buffer"
+-- 10: "answer buffer below 4,096 words, or work buffer below 8,192"
+unfoldable pub room : ℕ → ℕ → Answer
+room out work =
+    elim (leb termWords out && leb areaWords work) [
+      | true ↦ record { number = numberOf taken; place = 0; steps = 0 }
+      | false ↦ record { number = numberOf cramped; place = 0; steps = 0 }
+    ]
+
+-- of two checks the first that refuses
+unfoldable pub earlier : Answer → Answer → Answer
+earlier a b = elim (a .number) [ zero ↦ b | suc _ ↦ a ]
+
+-- "The expander checks 10, then the book, then the cue"
+abbrev pub checked : List ℕ → List ℕ → List ℕ → List ℕ → Answer
+checked book term out work = earlier (room (length out) (length work)) (termAnswer book term)
+
+-- "every other number touches no buffer"
 unfoldable pub expansion : List ℕ → List ℕ → ℕ → List ℕ → List ℕ → Expansion
 expansion book term limit out work =
-    elim (leb termWords (length out) && leb areaWords (length work)) [
-      | false ↦ result (record { number = numberOf cramped; place = 0; steps = 0 }) out work
-      | true ↦ elim (termAnswer book term .number) [
-        | zero ↦ expansionOf out work (evaluation (systemOf book) limit term)
-        | suc _ ↦ result (termAnswer book term) out work
-      ]
+    elim (checked book term out work .number) [
+      | zero ↦ expansionOf out work (evaluation (systemOf book) limit term)
+      | suc _ ↦ result (checked book term out work) out work
     ]
 
 -- the words that are handed back: "the answer stands in the first words of the answer buffer", as many as the place says

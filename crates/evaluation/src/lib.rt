@@ -6,7 +6,7 @@ ghost use Rattle.buffers.specs.Words.{over, zeros};
 ghost use Rattle.buffers.specs.moves.Parts.{pad};
 ghost use Rattle.system.specs.Parser.{read};
 ghost use Rattle.system.specs.reader.Sections.{scanOf};
-ghost use Rattle.evaluation.specs.Expansion.{result, expansion};
+ghost use Rattle.evaluation.specs.Expansion.{result, room, earlier, expansion};
 
 pub mod checked;
 mod run;
@@ -47,13 +47,9 @@ fn expand_scanned(
     ensures { λ r. ⌜ result r (now (out .exit)) (now (work .exit))
         ≡ expansion (now (book .entry)) (now (term .entry)) limit (now (out .entry)) (now (work .entry)) ⌝ }
 {
-    if out.len() < TERM_WORDS {
-        return refused(CRAMPED);
-    }
-    if work.len() < AREA_WORDS {
-        return refused(CRAMPED);
-    }
-    let c = check(book, scan, term);
+    let buffers = room(out.len(), work.len());
+    let words = check(book, scan, term);
+    let c = earlier(buffers, words);
     if c.number != TAKEN {
         return c;
     }
@@ -63,7 +59,8 @@ fn expand_scanned(
 
 // Hands the first words of the area to the caller, none where the run was stopped, and clears them; all other words of it are zero already.
 fn finish(out: &mut [u16], work: &mut [u16], e: RunResult) -> Answer
-    requires { ⌜ (8192 ≤ length (now work)) × (e .size ≤ 4096) × (4096 ≤ length (now out)) × (take 8192 (now work) ≡ pad 8192 (take (e .size) (now work))) ⌝ }
+    requires { ⌜ (8192 ≤ length (now work)) × (e .size ≤ 4096) × (4096 ≤ length (now out))
+        × (take 8192 (now work) ≡ pad 8192 (take (e .size) (now work))) ⌝ }
     ensures numbers { λ r. ⌜ r ≡ record { number = e .number; place = e .size; steps = e .steps } ⌝ }
     ensures answer { λ _. ⌜ now (out .exit) ≡ over (now (out .entry)) 0 (take (e .size) (now (work .entry))) ⌝ }
     ensures zeroed { λ _. ⌜ now (work .exit) ≡ over (now (work .entry)) 0 (zeros 8192) ⌝ }
@@ -78,7 +75,20 @@ fn finish(out: &mut [u16], work: &mut [u16], e: RunResult) -> Answer
     }
 }
 
-fn refused(number: u32) -> Answer
+// 10 for buffers below the words that are asked for, else 0.
+fn room(out: usize, work: usize) -> Answer
+    ensures { λ r. ⌜ r ≡ room out work ⌝ }
+{
+    if out < TERM_WORDS {
+        return answer(CRAMPED);
+    }
+    if work < AREA_WORDS {
+        return answer(CRAMPED);
+    }
+    answer(TAKEN)
+}
+
+fn answer(number: u32) -> Answer
     ensures { λ r. ⌜ r ≡ record { number = number; place = 0; steps = 0 } ⌝ }
 {
     Answer {
@@ -86,4 +96,14 @@ fn refused(number: u32) -> Answer
         place: 0,
         steps: 0,
     }
+}
+
+// Of two checks the first that refuses.
+fn earlier(first: Answer, second: Answer) -> Answer
+    ensures { λ r. ⌜ r ≡ earlier first second ⌝ }
+{
+    if first.number != TAKEN {
+        return first;
+    }
+    second
 }

@@ -1,79 +1,90 @@
 -- `expand_scanned` meets its contract.
 use Prim.Native.Nat.{_≤_}
-use Rattle.evaluation.proofs.Expanding.{Checks, checks, checks-accepted, cramped-answer, cramped-work, refuses, evaluates, size-bounded, whole-length, whole-front, same-result, finishes}
-use Rattle.rewriting.specs.Evaluation.{evaluation}
-use Rattle.evaluation.specs.Expansion.{result}
-use Rattle.system.specs.Book.{systemOf}
-use Rattle.system.specs.Answers.{termAnswer}
-use lib.Seq.{length-take-le}
-use lib.ListN.{length}
 use native.Mathlib.Omega.{arith}
 use mathlib.Core.Path.{_≡_, sym, ap, _∙_}
+use lib.ListN.{length}
+use lib.Seq.{length-take-le}
 use borrow.Author.Needs.{needs}
+use Rattle.system.specs.Book.{systemOf}
+use Rattle.rewriting.specs.Evaluation.{evaluation}
+use Rattle.evaluation.specs.Expansion.{result, earlier, checked}
+use Rattle.evaluation.proofs.Expanding.{Checks, checks, checks-accepted, Passed, passed, refuses, evaluates}
+use Rattle.evaluation.proofs.Expanding.{size-bounded, whole-length, whole-front, same-result, finishes}
 use Rattle.evaluation.proofs.expand_scanned.Statement.{statement}
 use Rattle.evaluation.proofs.expand_scanned.Tie as tie
 
--- the check of the term passed
-good : (c : tie.Else3) → termAnswer (c .before .before .before .before .before .before .before .before .before .args .book .now) (c .before .before .before .before .before .before .before .before .before .args .term .now) .number ≡ 0
-good c = sym (ap (λ y. y .number) (c .before .before .check .ensures)) ∙ c .if3 .left
+abbrev start : tie.After-earlier → tie.Start
+start c = c .before .before .before .before .before .before .before
 
-checked : (c : tie.Else3) → Checks (c .before .before .before .before .before .before .before .before .before .args .book .now) (c .before .before .before .before .before .before .before .before .before .args .term .now)
-checked c = checks (c .before .before .before .before .before .before .before .before .before .args .book .now) (c .before .before .before .before .before .before .before .before .before .args .term .now) (good c)
+-- the first of the checks that refuses
+first : (c : tie.After-earlier) → let a = start c .args in c .earlier .result ≡ checked (a .book .now) (a .term .now) (a .out .now) (a .work .now)
+first c = c .earlier .ensures ∙ (λ i. earlier (c .before .before .room .ensures i) (c .before .check .ensures i))
+
+-- none does
+abbrev entry : tie.Else1 → tie.Start
+entry c = start (c .before .before)
+
+passes : (c : tie.Else1) → let a = entry c .args in Passed (a .book .now) (a .term .now) (a .out .now) (a .work .now)
+passes c = passed _ _ _ _ (sym (ap (λ y. y .number) (first (c .before .before))) ∙ c .if1 .left)
+
+good : (c : tie.Else1) → let a = entry c .args in Checks (a .book .now) (a .term .now)
+good c = let a = entry c .args in checks (a .book .now) (a .term .now) (passes c .good)
 
 -- the lent part came back with its length
 ran : (c : tie.After-run) → length (c .run .last .1 .1 .1 .1 .0) ≡ 8192
-ran c = c .run .kept .1 .1 .1 .1 .0 ∙ length-take-le 8192 (c .before .before .before .before .before .before .before .before .before .before .before .args .work .now) (c .before .before .before .before .before .if2 .left)
-
-small : (c : tie.After-run) → c .run .result .size ≤ 4096
-small c = size-bounded (c .before .before .before .before .before .before .before .before .before .before .before .args .book .now) (c .before .before .before .before .before .before .before .before .before .before .before .args .term .now) (c .before .before .before .before .before .before .before .before .before .before .before .args .limit) (checked (c .before .before)) (c .run .result) (c .run .last .1 .1 .1 .1 .0) (c .run .ensures)
+ran c = let d = c .before .before in c .run .kept .1 .1 .1 .1 .0 ∙ length-take-le 8192 (entry d .args .work .now) (passes d .room-work)
 
 returns : tie.Need-returns
-returns c = let a = c .before .before .before .before .before .before .args in
-    rw (cramped-answer (a .book .now) (a .term .now) (a .limit) (a .out .now) (a .work .now) (c .before .if1 .taken)) (ap (λ y. result y (a .out .now) (a .work .now)) (c .refused .ensures))
+returns c =
+    let e = c .before .before in
+    let a = start e .args in
+    ap (λ y. result y (a .out .now) (a .work .now)) (first e)
+    ∙ sym (refuses (a .book .now) (a .term .now) (a .limit) (a .out .now) (a .work .now) (λ z. c .if1 .taken (ap (λ y. y .number) (first e) ∙ z)))
 
-returns-2 : tie.Need-returns-2
-returns-2 c = let a = c .before .before .before .before .before .before .before .args in
-    rw (cramped-work (a .book .now) (a .term .now) (a .limit) (a .out .now) (a .work .now) (c .before .before .if1 .left) (c .before .if2 .taken)) (ap (λ y. result y (a .out .now) (a .work .now)) (c .refused2 .ensures))
-
-check-requires : tie.Need-check-requires
-check-requires c κs = c .before .before .before .before .before .before .pre
-
-returns-3 : tie.Need-returns-3
-returns-3 c = let a = c .before .before .before .before .before .before .before .before .before .args in
-    let e = c .before .before .check .ensures in
-    rw (refuses (a .book .now) (a .term .now) (a .limit) (a .out .now) (a .work .now) (c .before .before .before .before .if1 .left) (c .before .before .before .if2 .left) (λ z. c .if3 .taken (ap (λ y. y .number) e ∙ z))) (ap (λ y. result y (a .out .now) (a .work .now)) e)
+part-run-end : tie.Need-part-run-end
+part-run-end c = omega (arith, passes c .room-work)
 
 run-requires : tie.Need-run-requires
 run-requires c κs =
-    let d = c .before .before .before .before .before .before .before .before .before .before in
-    let a = d .args in
-    let k = checked (c .before) in
+    let d = c .before in
+    let a = entry d .args in
+    let k = good d in
     record {
-      accepted = checks-accepted (a .book .now) (a .term .now) k (a .scan .shape) (ap (λ y. y .shape) (d .pre));
+      accepted = checks-accepted (a .book .now) (a .term .now) k (a .scan .shape) (ap (λ y. y .shape) (entry d .pre));
       whole = k .whole;
       bounded = k .bounded;
-      words = length-take-le 8192 (a .work .now) (c .before .before .before .before .if2 .left);
+      words = length-take-le 8192 (a .work .now) (passes d .room-work);
     }
 
 finish-requires : tie.Need-finish-requires
-finish-requires c κs = let a = c .before .before .before .before .before .before .before .before .before .before .before .before .before .before .before .args in
-    let l = c .before .before .before .before .before .before .before .before .before .if2 .left in
-    let r = c .before .before .before .before .run in
-    let w = ran (c .before .before .before .before) in
-    (omega (arith, whole-length (a .work .now) (r .last .1 .1 .1 .1 .0) l w), small (c .before .before .before .before), c .before .before .before .before .before .before .before .before .before .before .if1 .left, whole-front (a .work .now) (r .last .1 .1 .1 .1 .0) l w (evaluation (systemOf (a .book .now)) (a .limit) (a .term .now)) (r .result) (r .ensures))
+finish-requires c κs =
+    let q = c .before .before .before .before in
+    let d = q .before .before in
+    let a = entry d .args in
+    let p = passes d in
+    let ws = q .run .last .1 .1 .1 .1 .0 in
+    let small = size-bounded (a .book .now) (a .term .now) (a .limit) (good d) (q .run .result) ws (q .run .ensures) in
+    let front = whole-front (a .work .now) ws (p .room-work) (ran q) (evaluation (systemOf (a .book .now)) (a .limit) (a .term .now)) in
+    (omega (arith, p .room-work, whole-length (a .work .now) ws (p .room-work) (ran q)), small, p .room-answer, front (q .run .result) (q .run .ensures))
 
-returns-4 : tie.Need-returns-4
-returns-4 c = let a = c .before .before .before .before .before .before .before .before .before .before .before .before .before .before .before .before .before .before .before .before .args in
-    let f = c .before .before .before .before .finish in
-    let r = c .before .before .before .before .before .before .before .before .before .run in
-    let l = c .before .before .before .before .before .before .before .before .before .before .before .before .before .before .if2 .left in
-    let k = evaluates (a .book .now) (a .term .now) (a .limit) (a .out .now) (a .work .now) (c .before .before .before .before .before .before .before .before .before .before .before .before .before .before .before .if1 .left) l (good (c .before .before .before .before .before .before .before .before .before .before .before)) in
-    let z = finishes (a .work .now) (r .last .1 .1 .1 .1 .0) l (ran (c .before .before .before .before .before .before .before .before .before)) (evaluation (systemOf (a .book .now)) (a .limit) (a .term .now)) (r .result) (a .out .now) (r .ensures) in
-    same-result (f .ensures .0) (f .ensures .1 .0) (f .ensures .1 .1) ∙ z ∙ sym k
+returns-2 : tie.Need-returns-2
+returns-2 c =
+    let f = c .before .before .before .before in
+    let q = f .before .before .before .before .before in
+    let d = q .before .before in
+    let a = entry d .args in
+    let p = passes d in
+    let o = evaluation (systemOf (a .book .now)) (a .limit) (a .term .now) in
+    let k = evaluates (a .book .now) (a .term .now) (a .limit) (a .out .now) (a .work .now) (p .room-answer) (p .room-work) (p .good) in
+    let z = finishes (a .work .now) (q .run .last .1 .1 .1 .1 .0) (p .room-work) (ran q) o (q .run .result) (a .out .now) (q .run .ensures) in
+    same-result (f .finish .ensures .0) (f .finish .ensures .1 .0) (f .finish .ensures .1 .1) ∙ z ∙ sym k
 
 pub expand-scanned-spec : {M : Type 1} → statement M
 expand-scanned-spec =
     tie.close
     (tie.spec
-    (λ c κs. search needs) returns (λ c κs. search needs) returns-2 check-requires returns-3 (λ c. search needs) (λ c. search needs)
-    (λ c. search needs) run-requires finish-requires (λ c. search needs) (λ c. search needs) returns-4)
+    (λ c κs. search needs) check-requires (λ c κs. search needs) returns (λ c. search needs) (λ c. search needs) part-run-end
+    run-requires finish-requires (λ c. search needs) (λ c. search needs) returns-2)
+  where
+    check-requires : tie.Need-check-requires
+    check-requires c κs = c .before .before .before .before .before .pre
