@@ -17,10 +17,19 @@ MANY = {"expand_twice", "cue_expand_twice"}
 
 def functions(text):
     """Each function's name, its parameters, and how many lines stand between its braces."""
-    for m in re.finditer(r'^ *(?:pub )?(?:extern "C" )?fn (\w+)(?:<[^>]*>)?\((.*?)\)(?: ->[^\n]*)?\n(.*?)^( *)\{\n(.*?)^\4\}', text, re.M | re.S):
-        yield m.group(1), [p for p in m.group(2).split(",") if p.strip()], m.group(5).count("\n")
-    for m in re.finditer(r'^( *)(?:pub )?(?:extern "C" )?fn (\w+)(?:<[^>]*>)?\(([^)]*)\)(?: ->[^\n{]*)? \{\n(.*?)^\1\}', text, re.M | re.S):
-        yield m.group(2), [p for p in m.group(3).split(",") if p.strip()], m.group(4).count("\n")
+    lines = text.split("\n")
+    for i, line in enumerate(lines):
+        m = re.match(r'^( *)(?:pub )?(?:extern "C" )?fn (\w+)', line)
+        if not m:
+            continue
+        head, j = line, i
+        while ")" not in head:
+            j += 1
+            head += lines[j]
+        parameters = [p for p in head[head.index("(") + 1 : head.index(")")].split(",") if p.strip()]
+        start = j if line.rstrip().endswith("{") and j == i else next(k for k in range(j, len(lines)) if lines[k] == m.group(1) + "{")
+        end = next(k for k in range(start, len(lines)) if lines[k] == m.group(1) + "}")
+        yield m.group(2), parameters, end - start - 1
 
 
 def main():

@@ -196,7 +196,8 @@ pub extern "C" fn cue_expand_checked(
     ensures tested { λ r. ⌜ TestedBook (read (now (book .entry))) (asAnswer (r .test)) ⌝ }
     ensures expanded { λ r. ⌜ result (asAnswer (r .answer)) (now (out .exit)) (now (work .exit))
         ≡ expansion (now (book .entry)) (now (term .entry)) limit (now (out .entry)) (now (work .entry)) ⌝ }
-    ensures done { λ r. ⌜ IsDone (now (book .entry)) (now (term .entry)) limit (result (asAnswer (r .answer)) (now (out .exit)) (now (work .exit))) ⌝ }
+    ensures done { λ r. ⌜ IsDone (now (book .entry)) (now (term .entry)) limit
+        (result (asAnswer (r .answer)) (now (out .exit)) (now (work .exit))) ⌝ }
     ensures handed { λ r. ⌜ IsHandedBack (now (book .entry)) (now (term .entry)) limit (now (out .entry)) (now (work .entry))
         (result (asAnswer (r .answer)) (now (out .exit)) (now (work .exit))) ⌝ }
     ensures found { λ r. ⌜ IsFound (now (book .entry)) (asAnswer (r .test)) (result (asAnswer (r .answer)) (now (out .exit)) (now (work .exit))) ⌝ }

@@ -7,7 +7,7 @@ use Rattle.system.specs.Parser.{read, readSystem, readRules, readEnd, readRule,
 use Rattle.system.specs.TermCheck.{termFault}
 use Rattle.system.specs.Answers.{termAnswer}
 use Rattle.system.specs.Book.{systemOf}
-use Rattle.matching.specs.safety.Computed.{passes, every, closes, idles, idleTest, isVariable, constructs}
+use Rattle.matching.specs.ComputedTest.{passes, every, closes, idles, idleTest, isVariable, constructs}
 use Rattle.matching.specs.Cases.{failing, testing, strategyCases}
 use Rattle.matching.specs.Matching.{bind, firstMatch, contraction}
 use Rattle.system.specs.Cases.{Hold, bookB, readerCases}
@@ -16,5 +16,8 @@ use Rattle.evaluation.specs.Expansion.{room, earlier, expansion}
 use Rattle.evaluation.specs.Cases.{expanding, evaluatorCases, starred}
 
 pub starred-cases : Hold starred
-unfolding starred readerCases strategyCases evaluatorCases testing failing passes every closes idles idleTest isVariable constructs expanding bookB zeros expansion room earlier evaluation evaluate atRoot follow rewrite systemOf contraction firstMatch bind instance span argument replace strategy read readSystem readRules readEnd readRule readSide readWords readStrategy number word learn sideFault variableFault outside each times termFault termAnswer isSymbol arity
+unfolding starred readerCases strategyCases evaluatorCases testing failing passes every closes idles idleTest isVariable constructs
+    expanding bookB zeros expansion room earlier evaluation evaluate atRoot follow rewrite systemOf contraction firstMatch bind instance
+    span argument replace strategy read readSystem readRules readEnd readRule readSide readWords readStrategy number word learn sideFault
+    variableFault outside each times termFault termAnswer isSymbol arity
 starred-cases = refl

@@ -88,12 +88,9 @@ pub fn run(book: &[u16], shape: Shape, term: &[u16], limit: u32, area: &mut [u16
                     return outcome(11, 0, steps);
                 }
                 let m = a.matched;
-                let position = positions[level];
-                let u = Subterm {
-                    level,
-                    position,
-                    width: a.width,
-                };
+                let at = positions[level];
+                let width = a.width;
+                let u = Subterm { level, at, width };
                 let r = rewrite(book, area, n, u, m);
                 let Reduced::Done(k) = r else {
                     clear_state(area, n, level);

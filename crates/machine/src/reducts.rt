@@ -19,7 +19,7 @@ use system::words::wide;
 // The subterm of the innermost level: how many levels stand around it, its position in the term, and how many words it has.
 pub struct Subterm {
     pub level: usize,
-    pub position: usize,
+    pub at: usize,
     pub width: usize,
 }
 
@@ -93,7 +93,7 @@ fn replace_subterm(book: &[u16], area: &mut [u16], n: usize, u: Subterm, c: Inst
     requires { ⌜ Replaceable (now book) (now area) n u c k ⌝ }
     ensures { λ _. ⌜ Replaced (now (book .entry)) (now (area .entry)) n u c (now (area .exit)) ⌝ }
 {
-    let p = u.position;
+    let p = u.at;
     let width = u.width;
     let base = TERM_WORDS + u.level;
     let end = p + width;

@@ -26,7 +26,8 @@ use Rattle.matching.specs.rules.Searches.{contractionOf, RightSide, With
 use Rattle.matching.proofs.Matched.{bind-nil, instance-cong}
 use Rattle.matching.proofs.Firsts.{first-here, first-next, first-nil}
 use Rattle.matching.proofs.Words.{match-end, match-symbol, match-differ, match-variable}
-use Rattle.matching.proofs.rules.MatchSteps.{consumed-end, consumed-variable, consumed-differ, consumed-same, withBinding-symbol, withBinding-variable, words-end, words-stop, words-next, from-nil, from-here, from-next}
+use Rattle.matching.proofs.rules.MatchSteps.{consumed-end, consumed-variable, consumed-differ, consumed-same, withBinding-symbol, withBinding-variable}
+use Rattle.matching.proofs.rules.MatchSteps.{words-end, words-stop, words-next, from-nil, from-here, from-next}
 
 -- a list of zeros
 pub zero-at : (n v : ℕ) → _≡_ {A = ℕ} (getD (replicate n 0) v 0) 0

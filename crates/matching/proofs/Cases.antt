@@ -15,7 +15,7 @@ use Rattle.system.specs.Parser.{read, readSystem, readRules, readEnd, readRule,
 use Rattle.system.specs.Cases.{Hold, bookB, earlyB}
 use Rattle.system.specs.Book.{systemOf}
 use Rattle.matching.specs.StrategyTest.{Passes, Tested, passed, failed, TestedBook}
-use Rattle.matching.specs.safety.Computed.{passes, every, closes, idles, idleTest, isVariable, constructs}
+use Rattle.matching.specs.ComputedTest.{passes, every, closes, idles, idleTest, isVariable, constructs}
 use Rattle.matching.specs.Cases.{failing, testing, strategyCases}
 use Rattle.system.proofs.Members.{member-nil, member-front, member-back}
 use Rattle.matching.proofs.SafetyTest.{passes-sound, passes-complete}

@@ -7,7 +7,7 @@ use Rattle.system.specs.Numbers.{taken, unsettled, numberOf}
 use Rattle.system.specs.System.{System}
 use Rattle.system.specs.Cases.{Case, bookB, earlyB}
 use Rattle.system.specs.Book.{systemOf}
-use Rattle.matching.specs.safety.Computed.{passes}
+use Rattle.matching.specs.ComputedTest.{passes}
 
 -- which of the first n symbols fail
 unfoldable pub failing : System → ℕ → List ℕ

@@ -8,7 +8,7 @@ ghost use Rattle.system.specs.System.{strategy};
 ghost use Rattle.system.specs.Book.{systemOf, Accepted};
 ghost use Rattle.system.specs.layout.Accepted.{StrategyAt};
 ghost use Rattle.matching.specs.StrategyTest.{Tested, TestedBook};
-ghost use Rattle.matching.specs.safety.Computed.{isVariable, idleTest, closes, constructs, passes};
+ghost use Rattle.matching.specs.ComputedTest.{isVariable, idleTest, closes, constructs, passes};
 use system::Answer;
 use system::Shape;
 use system::layout::rules::rule_at;

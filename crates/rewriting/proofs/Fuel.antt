@@ -64,7 +64,8 @@ module _ (s : System) (limit : ℕ) where
     where
       go : (o : Outcome) → inner (argument (s .arities) (r .term) p i) r ≡ o →
           ((r′ : Config) → n ≤ r′ .steps → follow s limit inner again es p r′ ≡ follow s limit inner again′ es p r′) →
-          andThen (inner (argument (s .arities) (r .term) p i) r) (λ r′. follow s limit inner again es p r′) ≡ andThen (inner (argument (s .arities) (r .term) p i) r) (λ r′. follow s limit inner again′ es p r′)
+          andThen (inner (argument (s .arities) (r .term) p i) r) (λ r′. follow s limit inner again es p r′)
+          ≡ andThen (inner (argument (s .arities) (r .term) p i) r) (λ r′. follow s limit inner again′ es p r′)
       go (finished r′) q ih = rw q (ih r′ (let z = hi _ r r′ q in omega arith))
       go (stopped k m) q ih = rw q
 

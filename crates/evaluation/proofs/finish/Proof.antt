@@ -10,8 +10,13 @@ use Rattle.evaluation.proofs.finish.Statement.{statement}
 use Rattle.evaluation.proofs.finish.Tie as tie
 
 returns : tie.Need-returns
-returns c = let a = c .before .before .before .before .before .before .before .before .before .before .before .before .args in
-    (refl, (c .before .before .before .before .before .before .copy-in .ensures ∙ ap (λ n. over (a .out .now) 0 (take n (a .work .now))) (sub-zero (a .e .size)), c .before .before .clear .ensures ∙ front-cleared (a .work .now) 8192 (a .e .size) (omega arith) (omega arith) (c .before .before .before .before .before .before .before .before .before .before .before .before .pre .3)))
+returns c =
+    let k = c .before .before .before .before .before .before in
+    let d = k .before .before .before .before .before .before in
+    let a = d .args in
+    let words = ap (λ n. over (a .out .now) 0 (take n (a .work .now))) (sub-zero (a .e .size)) in
+    let cleared = front-cleared (a .work .now) 8192 (a .e .size) (omega arith) (omega arith) (d .pre .3) in
+    (refl, (k .copy-in .ensures ∙ words, c .before .before .clear .ensures ∙ cleared))
 
 pub finish-spec : {M : Type 1} → statement M
 finish-spec =

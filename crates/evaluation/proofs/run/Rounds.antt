@@ -68,7 +68,7 @@ ends-stopped h e ws′ q z = rw (h .stops) (q, z)
 
 -- the subterm of the innermost level, where a rewrite is next
 abbrev pub subterm : Round → Subterm
-subterm k = record { level = k .a .level; position = getD (k .positions′) (k .a .level) 0; width = k .a .width }
+subterm k = record { level = k .a .level; at = getD (k .positions′) (k .a .level) 0; width = k .a .width }
 
 -- the counts of the state that the round starts from, and the term with the steps so far (`advance` leaves the term as it is)
 abbrev counts : Round → List ℕ
@@ -170,7 +170,7 @@ module _ (k : Round) where
     outer = outerIn (k .ws′) (k .a .level)
 
     abbrev p : ℕ
-    p = subterm k .position
+    p = subterm k .at
 
     abbrev valid : Valid s t′ outer (countIn (k .ws′) (k .a .level))
     valid = b .holds .represents .valid

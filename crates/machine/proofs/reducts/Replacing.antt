@@ -87,7 +87,7 @@ module _ (l x : List ℕ) (n p width : ℕ) (in-term : p + width ≤ n) (in-half
 
 module _ {ws : List ℕ} {n : ℕ} {u : Subterm} {k : ℕ} (room : Room ws n u k) where
   abbrev p : ℕ
-  p = u .position
+  p = u .at
 
   abbrev width : ℕ
   width = u .width
@@ -190,7 +190,7 @@ module _ {book ws : List ℕ} {n : ℕ} {u : Subterm} {c : Instance} {k : ℕ} (
     inside = λ v. rw (length-drop (base room) (w₂ room), length₂ room) (let i = asked .inside .inside v in let h = room in let e = contraction-length room in omega arith);
   }
 
-  writable₂ : Writable book (w₂ room) c (u .position) (base room)
+  writable₂ : Writable book (w₂ room) c (u .at) (base room)
   writable₂ =
       let h = room in
       record {
@@ -228,25 +228,25 @@ module _ {book ws : List ℕ} {n : ℕ} {u : Subterm} {c : Instance} {k : ℕ} (
   new = n - u .width + k
 
   abbrev L₃ : List ℕ
-  L₃ = over (L₂ room) (u .position) x
+  L₃ = over (L₂ room) (u .at) x
 
   abbrev L₄ : List ℕ
   L₄ = over L₃ new (zeros (n - new))
 
   L₃-length : length L₃ ≡ termWords
-  L₃-length = length-sets (L₂ room) (u .position) x ∙ length-sets (L room) (u .position + k) (tail room) ∙ L-length room
+  L₃-length = length-sets (L₂ room) (u .at) x ∙ length-sets (L room) (u .at + k) (tail room) ∙ L-length room
 
-  L₄-is : L₄ ≡ pad termWords (splice (take n ws) (u .position) (u .width) x)
+  L₄-is : L₄ ≡ pad termWords (splice (take n ws) (u .at) (u .width) x)
   L₄-is =
       let h = room in
       let l = L-length h in
       let e = x-length in
       let z : drop n (L h) ≡ zeros (length (L h) - n) = rw l (h .zeroed) in
-      left-half (L h) x n (u .position) (u .width) (h .within) (omega arith) (omega arith) z termWords k l e
-      ∙ ap (λ y. pad termWords (splice y (u .position) (u .width) x)) (take-take n termWords ws (h .bounded))
+      left-half (L h) x n (u .at) (u .width) (h .within) (omega arith) (omega arith) z termWords k l e
+      ∙ ap (λ y. pad termWords (splice y (u .at) (u .width) x)) (take-take n termWords ws (h .bounded))
 
   abbrev w₃ : List ℕ
-  w₃ = over (w₂ room) (u .position) (reduct book c (drop (base room) (w₂ room)))
+  w₃ = over (w₂ room) (u .at) (reduct book c (drop (base room) (w₂ room)))
 
   abbrev w₄ : List ℕ
   w₄ = over w₃ new (zeros (n - new))
@@ -254,7 +254,7 @@ module _ {book ws : List ℕ} {n : ℕ} {u : Subterm} {c : Instance} {k : ℕ} (
   halves₃ : w₃ ≡ L₃ ++ R₁ room
   halves₃ =
       let h = room in
-      rw (reduct₂, halves₂ room) (over-left (L₂ room) (R₁ room) (u .position) x (rw (x-length, length-sets (L room) (u .position + k) (tail room), L-length room) (omega arith)))
+      rw (reduct₂, halves₂ room) (over-left (L₂ room) (R₁ room) (u .at) x (rw (x-length, length-sets (L room) (u .at + k) (tail room), L-length room) (omega arith)))
 
   halves₄ : w₄ ≡ L₄ ++ R₁ room
   halves₄ = let h = room in rw halves₃ (over-left L₃ (R₁ room) new (zeros (n - new)) (rw (length-zeros (n - new), L₃-length) (omega arith)))
@@ -268,19 +268,19 @@ module _ {book ws : List ℕ} {n : ℕ} {u : Subterm} {c : Instance} {k : ℕ} (
       ap (λ y. over y (base room) (zeros (u .width))) halves₄
       ∙ over-right L₄ (R₁ room) termWords (u .level) (zeros (u .width)) (length-sets L₃ new (zeros (n - new)) ∙ L₃-length)
       ∙ ap (λ y. y ++ over (R₁ room) (u .level) (zeros (u .width))) L₄-is
-      ∙ ap (λ y. pad termWords (splice (take n ws) (u .position) (u .width) x) ++ y) (over-again (R room) (u .level) (rest room) (zeros (u .width)) (omega arith) (omega arith))
+      ∙ ap (λ y. pad termWords (splice (take n ws) (u .at) (u .width) x) ++ y) (over-again (R room) (u .level) (rest room) (zeros (u .width)) (omega arith) (omega arith))
 
   -- ---- the same, over the lists that the edits leave
-  module _ (v₁ v₂ : List ℕ) (e₁ : v₁ ≡ over ws (base room + 1) (rest room)) (e₂ : v₂ ≡ over v₁ (u .position + k) (part (u .position + u .width) (after room) v₁)) where
+  module _ (v₁ v₂ : List ℕ) (e₁ : v₁ ≡ over ws (base room + 1) (rest room)) (e₂ : v₂ ≡ over v₁ (u .at + k) (part (u .at + u .width) (after room) v₁)) where
     second : v₂ ≡ w₂ room
-    second = e₂ ∙ ap (λ y. over y (u .position + k) (part (u .position + u .width) (after room) y)) e₁
+    second = e₂ ∙ ap (λ y. over y (u .at + k) (part (u .at + u .width) (after room) y)) e₁
 
-    pub second-writable : Writable book v₂ c (u .position) (base room)
-    second-writable = subst (λ y. Writable book y c (u .position) (base room)) (sym second) writable₂
+    pub second-writable : Writable book v₂ c (u .at) (base room)
+    second-writable = subst (λ y. Writable book y c (u .at) (base room)) (sym second) writable₂
 
-    pub all-edits : (v₃ v₄ v₅ : List ℕ) → v₃ ≡ over v₂ (u .position) (reduct book c (drop (base room) v₂)) →
+    pub all-edits : (v₃ v₄ v₅ : List ℕ) → v₃ ≡ over v₂ (u .at) (reduct book c (drop (base room) v₂)) →
         v₄ ≡ over v₃ new (zeros (n - new)) → v₅ ≡ over v₄ (base room) (zeros (u .width)) → Replaced book ws n u c v₅
     all-edits v₃ v₄ v₅ e₃ e₄ e₅ =
-        let f₃ : v₃ ≡ w₃ = e₃ ∙ ap (λ y. over y (u .position) (reduct book c (drop (base room) y))) second in
+        let f₃ : v₃ ≡ w₃ = e₃ ∙ ap (λ y. over y (u .at) (reduct book c (drop (base room) y))) second in
         let f₄ : v₄ ≡ w₄ = e₄ ∙ ap (λ y. over y new (zeros (n - new))) f₃ in
         e₅ ∙ ap (λ y. over y (base room) (zeros (u .width))) f₄ ∙ edits

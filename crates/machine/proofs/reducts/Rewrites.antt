@@ -108,7 +108,7 @@ module _ {book ws : List ℕ} {n : ℕ} {u : Subterm} {m : Match} (asked : Reduc
   t = termIn ws n
 
   abbrev p : ℕ
-  p = u .position
+  p = u .at
 
   abbrev outer : List ℕ
   outer = outerIn ws (u .level)

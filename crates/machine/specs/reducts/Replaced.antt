@@ -12,7 +12,7 @@ use Rattle.machine.specs.reducts.Reduct.{side, reduct}
 use Rattle.system.specs.Limits.{areaWords, termWords}
 
 abbrev pub subtermIn : List ℕ → Subterm → List ℕ
-subtermIn ws u = part (u .position) (u .width) ws
+subtermIn ws u = part (u .at) (u .width) ws
 
 -- no stretch starts at the first word: a left side starts with a symbol
 pub record Behind (starts lengths : List ℕ) : Type 0 where
@@ -26,8 +26,8 @@ pub record Room (ws : List ℕ) (n : ℕ) (u : Subterm) (size : ℕ) : Type 0 wh
   pub bounded : n ≤ termWords
   pub zeroed : drop n (take termWords ws) ≡ zeros (termWords - n)
   pub some : 0 < u .width
-  pub within : u .position + u .width ≤ n
-  pub around : u .level ≤ u .position
+  pub within : u .at + u .width ≤ n
+  pub around : u .level ≤ u .at
   pub fits : n - u .width + size ≤ termWords
 
 -- the reduct of a contraction, of k words, comes there
@@ -41,7 +41,7 @@ pub record Replaceable (book ws : List ℕ) (n : ℕ) (u : Subterm) (c : Instanc
 -- what stands there then, with the words v in the subterm's place: the first half with the change and zeros behind the term, the second
 -- half with the count and the words behind it cleared
 abbrev pub replaced : List ℕ → ℕ → Subterm → List ℕ → List ℕ
-replaced ws n u v = pad termWords (splice (take n ws) (u .position) (u .width) v) ++ over (drop termWords ws) (u .level) (zeros (u .width))
+replaced ws n u v = pad termWords (splice (take n ws) (u .at) (u .width) v) ++ over (drop termWords ws) (u .level) (zeros (u .width))
 
 abbrev pub Replaced : List ℕ → List ℕ → ℕ → Subterm → Instance → List ℕ → Type 0
 Replaced book ws n u c ws′ = ws′ ≡ replaced ws n u (reduct book c (subtermIn ws u))

@@ -20,22 +20,22 @@ use Rattle.system.specs.Limits.{termWords}
 
 -- x is the first rule that matches at the subterm, and its reduct
 abbrev pub Contracts : List ℕ → List ℕ → ℕ → Subterm → Contraction → Type 0
-Contracts book ws n u x = contraction (systemOf book) (drop (u .position) (termIn ws n)) ≡ some x
+Contracts book ws n u x = contraction (systemOf book) (drop (u .at) (termIn ws n)) ≡ some x
 
 -- the area holds a state; u is the subterm of its innermost level, and m the match that was found there
 pub record Reducible (book ws : List ℕ) (n : ℕ) (u : Subterm) (m : Match) : Type 0 where
   pub shape : Shape
   pub accepted : Accepted book shape
   pub represents : Represents (systemOf book) ws n (u .level)
-  pub place : u .position ≡ position (systemOf book) (termIn ws n) (outerIn ws (u .level)) 0
-  pub match : m ≡ matchOf (systemOf book) (drop (u .position) (termIn ws n))
-  pub wide : u .width ≡ span (systemOf book .arities) (drop (u .position) (termIn ws n)) 1
+  pub place : u .at ≡ position (systemOf book) (termIn ws n) (outerIn ws (u .level)) 0
+  pub match : m ≡ matchOf (systemOf book) (drop (u .at) (termIn ws n))
+  pub wide : u .width ≡ span (systemOf book .arities) (drop (u .at) (termIn ws n)) 1
   pub x : Contraction
   pub contracts : Contracts book ws n u x
 
 -- the term after the rewrite
 abbrev pub rewritten : System → List ℕ → ℕ → Subterm → Contraction → List ℕ
-rewritten s ws n u x = replace (s .arities) (termIn ws n) (u .position) (x .reduct)
+rewritten s ws n u x = replace (s .arities) (termIn ws n) (u .at) (x .reduct)
 
 -- the answer and the area after it: how many words the term has then; or the area as it was, where they would be too many
 pub data Rewritten (s : System) (ws : List ℕ) (n : ℕ) (u : Subterm) (x : Contraction) (r : Reduced) (ws′ : List ℕ) : Type 0 where

@@ -21,7 +21,7 @@ use Rattle.system.specs.declared.layout.rules.RuleSpan.{RuleSpan}
 use Rattle.system.specs.Book.{systemOf, Accepted}
 use Rattle.system.specs.layout.Accepted.{StrategyAt, SuffixAt}
 use Rattle.matching.specs.StrategyTest.{Tested, passed, failed}
-use Rattle.matching.specs.safety.Computed.{every, isVariable, idleTest, idles, closes, constructs, passes}
+use Rattle.matching.specs.ComputedTest.{every, isVariable, idleTest, idles, closes, constructs, passes}
 use Rattle.matching.proofs.rules.MatchSteps.{tail}
 use Rattle.system.proofs.layout.Books.{Rest, Turn, rule-count, symbol-count, first-rest, signature}
 use Rattle.system.proofs.layout.Suffixes.{suffix-strategy, suffix-start, suffix-next}

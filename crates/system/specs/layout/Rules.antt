@@ -13,4 +13,10 @@ ruleEnd ws at = rightLength ws at + 1 + getD ws (rightLength ws at) 0
 
 -- the rule whose first length stands at `at`
 unfoldable pub ruleSpan : List ℕ → ℕ → RuleSpan
-ruleSpan ws at = record { lhs = at + 1; width = getD ws at 0; rhs = rightLength ws at + 1; size = getD ws (rightLength ws at) 0; next = ruleEnd ws at }
+ruleSpan ws at = record {
+  lhs = at + 1;
+  width = getD ws at 0;
+  rhs = rightLength ws at + 1;
+  size = getD ws (rightLength ws at) 0;
+  next = ruleEnd ws at;
+}

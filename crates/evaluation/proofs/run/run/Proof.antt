@@ -143,11 +143,11 @@ same-length-3 c = let s = c .before .before .before in s .clear-state2 .kept .0 
 returns-3 : tie.Need-returns-3 Inv-loop μ-loop
 returns-3 c = let s = c .before .before .before in ends-stopped (spends (s .before .before)) (c .outcome3 .result) _ (c .outcome3 .ensures) (s .clear-state2 .ensures)
 
-mul-position : tie.Need-mul-position Inv-loop μ-loop
-mul-position c = let b = c .before .before in omega (arith, before-room (round (advanced (b .before .before))) (before b))
+mul-at : tie.Need-mul-at Inv-loop μ-loop
+mul-at c = let b = c .before .before in omega (arith, before-room (round (advanced (b .before .before))) (before b))
 
-array-read-position : tie.Need-array-read-position Inv-loop μ-loop
-array-read-position c = let b = c .before .before in before-room (round (advanced (b .before .before))) (before b)
+array-read-at : tie.Need-array-read-at Inv-loop μ-loop
+array-read-at c = let b = c .before .before in before-room (round (advanced (b .before .before))) (before b)
 
 rewrite-requires : tie.Need-rewrite-requires Inv-loop μ-loop
 rewrite-requires c κs = before (c .before .before .before) .reducible
@@ -184,6 +184,6 @@ run-spec =
     (tie.spec
     Inv-loop μ-loop start-requires (λ c. search needs) build-index-requires loop-holds slice-aggregate-advance slice-aggregate-advance-2
     advance-requires (λ c. search needs) outcome-requires same-length returns (λ c. search needs) clear-state-requires outcome-requires-2
-    same-length-2 returns-2 (λ c. search needs) clear-state-requires-2 outcome-requires-3 same-length-3 returns-3 mul-position
-    array-read-position rewrite-requires (λ c. search needs) (λ c. search needs) clear-state-requires-3 outcome-requires-4 same-length-4
+    same-length-2 returns-2 (λ c. search needs) clear-state-requires-2 outcome-requires-3 same-length-3 returns-3 mul-at
+    array-read-at rewrite-requires (λ c. search needs) (λ c. search needs) clear-state-requires-3 outcome-requires-4 same-length-4
     returns-4 add-steps loop-less loop-again)

@@ -7,7 +7,8 @@ use Rattle.system.specs.Book.{systemOf}
 use Rattle.machine.proofs.advance.Advancing.{Advancing, advancing-start, round-bounds, goes-repeated, goes-argument}
 use Rattle.machine.proofs.advance.Arriving.{arrives-end, arrives-deep, arrives-ready}
 use Rattle.machine.specs.advance.Area.{Tracks}
-use Rattle.machine.proofs.advance.advance.Proof.Places.{Inv-loop, μ-loop, within, reading, entered, taken, round, same-area, same-positions, trying, tried, none-matches, left, left-bounds, left-down, left-inner}
+use Rattle.machine.proofs.advance.advance.Proof.Places.{Inv-loop, μ-loop, within, reading, entered, taken, round, same-area, same-positions}
+use Rattle.machine.proofs.advance.advance.Proof.Places.{trying, tried, none-matches, left, left-bounds, left-down, left-inner}
 use Rattle.machine.proofs.advance.advance.Statement.{statement}
 use Rattle.machine.proofs.advance.advance.Tie as tie
 

@@ -1,2 +1,0 @@
--- The strategy test, symbol by symbol: inner.
-pub mod Computed
