@@ -1,4 +1,4 @@
--- Theorem "done": an evaluation that settles is a list of steps, as many as it reports, in which no term is too long.
+-- Theorem "done": an evaluation that finishes is a list of steps, as many as it reports, in which no term is too long.
 use Prim.Native.Nat.{ℕ, suc, _+_, _≤_, _<_}
 use native.Mathlib.Nat.{zero-add, suc-add}
 use native.Mathlib.Omega.{arith}

@@ -1,4 +1,4 @@
--- Theorem "found": over a safe system, what an evaluation hands back is settled.
+-- Theorem "found": over a safe system, what an evaluation hands back is stable.
 use Prim.Native.Nat.{ℕ, zero, suc, _<_}
 use native.Mathlib.Nat.{suc-inj}
 use native.Mathlib.Omega.{arith}

@@ -1,4 +1,4 @@
--- An evaluation that settles, told on the subterm alone: a walk. Evaluating at a position changes the subterm there and nothing else.
+-- An evaluation that finishes, told on the subterm alone: a walk. Evaluating at a position changes the subterm there and nothing else.
 use Prim.Native.Nat.{ℕ, zero, suc, _+_, _≤_, _<_}
 use native.Mathlib.Omega.{arith}
 use mathlib.Core.Path.{_≡_, refl, sym, ap, _∙_}

@@ -16,12 +16,12 @@ pub record Config : Type 0 where
   pub term : List ℕ
   pub steps : ℕ
 
--- how an evaluation ends: settled, or stopped by a limit, with "the steps completed"
+-- how an evaluation ends: finished, or stopped by a limit, with "the steps completed"
 pub data Outcome : Type 0 where
   finished : Config → Outcome
   stopped : Limit → ℕ → Outcome
 
--- go on with a run that has settled
+-- go on where an evaluation has finished
 abbrev pub andThen : Outcome → (Config → Outcome) → Outcome
 andThen (finished r) on = on r
 andThen (stopped n k) on = stopped n k

@@ -35,7 +35,7 @@ fn stood_before(book: &[u16], at: usize, f: usize, c: usize) -> bool
     false
 }
 
-// Entry c of the strategy of w, of which f entries were begun before the present run of turns.
+// Entry c of the strategy of w, of which f entries were begun before the present run of transitions.
 pub fn entry_of(book: &[u16], shape: Shape, index: &[usize], w: u16, f: usize, c: usize) -> Entry
     requires { ⌜ Accepted (now book) shape × Indexed (now book) shape (now index) ⌝ }
     ensures { λ r. ⌜ r ≡ entryOf (strategy (systemOf (now (book .entry))) w) f c ⌝ }
