@@ -3,7 +3,7 @@ ghost use Prim.Native.Nat.{_+_, _≤_};
 ghost use mathlib.Core.List.{_++_};
 ghost use lib.ListN.{length};
 ghost use Rattle.printing.specs.Text.{ascii, Written};
-ghost use Rattle.check_book.specs.Verdict.{faultLine, takenLine, orderLine};
+ghost use Rattle.check_book.specs.Verdict.{textBytes, faultLine, takenLine, orderLine};
 ghost use Rattle.check_book.specs.lines.Rows.{faultOf, placed};
 use printing::put;
 use printing::put_decimal;
@@ -42,7 +42,7 @@ fn put_row(text: &mut [u8], word: &[u8], place: usize, when: &[u8]) -> usize
 
 // The line for a book that the reader refuses.
 pub fn put_fault(text: &mut [u8], a: Answer) -> usize
-    requires { ⌜ 256 ≤ length (now text) ⌝ }
+    requires { ⌜ textBytes ≤ length (now text) ⌝ }
     ensures { λ r. ⌜ Written (now (text .entry)) 0 (faultLine (faultOf (a .number)) (a .place)) r (now (text .exit)) ⌝ }
 {
     let n = a.number;

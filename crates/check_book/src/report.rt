@@ -2,13 +2,14 @@
 ghost use Prim.Native.Nat.{_≤_};
 ghost use lib.ListN.{length};
 ghost use Rattle.files.specs.Words.{wordsOf};
-ghost use Rattle.files.specs.Files.{fileOf};
-ghost use Rattle.check_book.specs.Verdict.{Says};
+ghost use Rattle.files.specs.Files.{bookBytes, fileOf};
+ghost use Rattle.check_book.specs.Verdict.{textBytes, Says};
 ghost use Rattle.check_book.specs.report.Told.{Told};
 use crate::lines::put_fault;
 use crate::lines::put_order;
 use crate::lines::put_taken;
 use files::checks::BOOK_BYTES;
+use files::checks::BOOK_WORDS;
 use files::checks::refuse;
 use files::words::load;
 use system::numbers::TAKEN;
@@ -33,17 +34,17 @@ pub fn verdict(there: bool, book: &[u8], text: &mut [u8]) -> usize
 
 // The file is taken.
 fn check_file(book: &[u8], text: &mut [u8]) -> usize
-    requires { ⌜ (length (now book) ≤ 42502) × (256 ≤ length (now text)) ⌝ }
+    requires { ⌜ (length (now book) ≤ bookBytes) × (textBytes ≤ length (now text)) ⌝ }
     ensures { λ r. ⌜ Told (wordsOf (now (book .entry))) (now (text .entry)) r (now (text .exit)) ⌝ }
 {
-    let mut words = [0u16; 21251];
+    let mut words = [0u16; BOOK_WORDS];
     let n = load(book, &mut words);
     check_words(&words[0..n], text)
 }
 
 // The reader's line, and the order test's where the reader takes the book.
 fn check_words(book: &[u16], text: &mut [u8]) -> usize
-    requires { ⌜ 256 ≤ length (now text) ⌝ }
+    requires { ⌜ textBytes ≤ length (now text) ⌝ }
     ensures { λ r. ⌜ Told (now (book .entry)) (now (text .entry)) r (now (text .exit)) ⌝ }
 {
     let a = system::read(book);

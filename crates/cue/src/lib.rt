@@ -12,6 +12,7 @@ ghost use Rattle.evaluation.specs.Demand3.{IsDone, IsHandedBack, IsFound, Rests
 ghost use Rattle.cue.specs.Exports.{answerFor, asAnswer, shapeFor, partFor, matchFor};
 use matching::FirstRule;
 use system::Answer;
+use system::limits::VARIABLES;
 
 // Three numbers: one of 01's table, a place, and steps.
 #[repr(C)]
@@ -45,8 +46,8 @@ pub struct CueMatch {
     pub number: usize,
     pub rhs: usize,
     pub size: usize,
-    pub starts: [usize; 16],
-    pub lengths: [usize; 16],
+    pub starts: [usize; VARIABLES],
+    pub lengths: [usize; VARIABLES],
 }
 
 // The answers of the strategy test and of the evaluator.

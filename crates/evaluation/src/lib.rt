@@ -4,6 +4,7 @@ ghost use Prim.Native.Nat.{_≤_};
 ghost use lib.ListN.{length, take};
 ghost use Rattle.buffers.specs.Words.{over, zeros};
 ghost use Rattle.buffers.specs.moves.Parts.{pad};
+ghost use Rattle.system.specs.Limits.{areaWords, termWords};
 ghost use Rattle.system.specs.Parser.{read};
 ghost use Rattle.system.specs.reader.Sections.{scanOf};
 ghost use Rattle.evaluation.specs.Expansion.{result, room, earlier, expansion};
@@ -59,11 +60,11 @@ fn expand_scanned(
 
 // Hands the first words of the area to the caller, none where the run was stopped, and clears them; all other words of it are zero already.
 fn finish(out: &mut [u16], work: &mut [u16], e: RunResult) -> Answer
-    requires { ⌜ (8192 ≤ length (now work)) × (e .size ≤ 4096) × (4096 ≤ length (now out))
-        × (take 8192 (now work) ≡ pad 8192 (take (e .size) (now work))) ⌝ }
+    requires { ⌜ (areaWords ≤ length (now work)) × (e .size ≤ termWords) × (termWords ≤ length (now out))
+        × (take areaWords (now work) ≡ pad areaWords (take (e .size) (now work))) ⌝ }
     ensures numbers { λ r. ⌜ r ≡ record { number = e .number; place = e .size; steps = e .steps } ⌝ }
     ensures answer { λ _. ⌜ now (out .exit) ≡ over (now (out .entry)) 0 (take (e .size) (now (work .entry))) ⌝ }
-    ensures zeroed { λ _. ⌜ now (work .exit) ≡ over (now (work .entry)) 0 (zeros 8192) ⌝ }
+    ensures zeroed { λ _. ⌜ now (work .exit) ≡ over (now (work .entry)) 0 (zeros areaWords) ⌝ }
 {
     let n = e.size;
     buffers::copy_in(out, 0, &work[0..n]);

@@ -16,10 +16,15 @@ use machine::reducts::Reduced;
 use machine::reducts::Subterm;
 use machine::reducts::rewrite;
 use system::Shape;
+use system::layout::index::MARKS;
 use system::layout::index::build_index;
 use system::limits::AREA_WORDS;
 use system::limits::LEVELS;
 use system::limits::TERM_WORDS;
+use system::numbers::NESTED;
+use system::numbers::OVERLONG;
+use system::numbers::SPENT;
+use system::numbers::TAKEN;
 
 // How a run ended: 0, 11, 12 or 13; how many words the term has, on 0; and the steps taken.
 pub struct RunResult {
@@ -63,7 +68,7 @@ pub fn run(book: &[u16], shape: Shape, term: &[u16], limit: u32, area: &mut [u16
     ensures { λ r. ⌜ Ran (evaluation (systemOf (now (book .entry))) limit (now (term .entry))) r (now (area .exit)) ⌝ }
 {
     start(area, term);
-    let mut index = [0usize; 64];
+    let mut index = [0usize; MARKS];
     build_index(book, shape, &mut index);
     let mut positions = [0usize; LEVELS];
     let mut n = term.len();
@@ -75,17 +80,17 @@ pub fn run(book: &[u16], shape: Shape, term: &[u16], limit: u32, area: &mut [u16
         let stop = a.stop;
         match stop {
             Stop::Final => {
-                return outcome(0, n, steps);
+                return outcome(TAKEN, n, steps);
             }
             Stop::Deep => {
                 clear_state(area, n, a.level);
-                return outcome(13, 0, steps);
+                return outcome(NESTED, 0, steps);
             }
             Stop::Ready => {
                 level = a.level;
                 if limit <= steps {
                     clear_state(area, n, a.level);
-                    return outcome(11, 0, steps);
+                    return outcome(SPENT, 0, steps);
                 }
                 let m = a.matched;
                 let at = positions[level];
@@ -94,7 +99,7 @@ pub fn run(book: &[u16], shape: Shape, term: &[u16], limit: u32, area: &mut [u16
                 let r = rewrite(book, area, n, u, m);
                 let Reduced::Done(k) = r else {
                     clear_state(area, n, level);
-                    return outcome(12, 0, steps);
+                    return outcome(OVERLONG, 0, steps);
                 };
                 n = k;
                 steps += 1;

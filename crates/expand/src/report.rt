@@ -3,18 +3,25 @@ ghost use Prim.Native.Nat.{_≤_, _<_};
 ghost use mathlib.Core.Path.{_≡_};
 ghost use mathlib.Core.List.{[]};
 ghost use lib.ListN.{length, getD, drop};
+ghost use Rattle.system.specs.Limits.{termWords};
 ghost use Rattle.evaluation.specs.Expansion.{expansion, result};
 ghost use Rattle.printing.specs.Text.{Written};
 ghost use Rattle.files.specs.Words.{wordsOf};
-ghost use Rattle.files.specs.Files.{fileOf, holds};
-ghost use Rattle.expand.specs.Report.{answerText, textOf, report, inRoom};
+ghost use Rattle.files.specs.Files.{bookBytes, fileOf, holds};
+ghost use Rattle.expand.specs.Report.{cueBytes, textBytes, answerText, textOf, report, inRoom};
 use files::checks::BOOK_BYTES;
+use files::checks::BOOK_WORDS;
 use files::checks::refuse;
 use files::words::load;
 use system::Answer;
+use system::limits::AREA_WORDS;
+use system::limits::TERM_WORDS;
+use system::numbers::TAKEN;
 
-// The most bytes of a cue file, and those that any text has room in.
+// The most bytes of a cue file, its words, and the bytes that any text has room in.
 pub const CUE_BYTES: usize = 8194;
+
+const CUE_WORDS: usize = CUE_BYTES / 2;
 
 pub const TEXT_BYTES: usize = 24638;
 
@@ -44,16 +51,16 @@ pub fn report(book_there: bool, book: &[u8], cue_there: bool, cue: &[u8], text: 
 
 // Both files are taken, and the cue file has its first word.
 fn expand_files(book: &[u8], cue: &[u8], text: &mut [u8]) -> usize
-    requires { ⌜ (length (now book) ≤ 42502) × (2 ≤ length (now cue)) × (length (now cue) ≤ 8194) × (24638 ≤ length (now text)) ⌝ }
+    requires { ⌜ (length (now book) ≤ bookBytes) × (2 ≤ length (now cue)) × (length (now cue) ≤ cueBytes) × (textBytes ≤ length (now text)) ⌝ }
     ensures { λ r. ⌜ Written (now (text .entry)) 0 (textOf (holds (wordsOf (now (book .entry)))) (holds (wordsOf (now (cue .entry)))))
         r (now (text .exit)) ⌝ }
 {
-    let mut words = [0u16; 21251];
+    let mut words = [0u16; BOOK_WORDS];
     let n = load(book, &mut words);
-    let mut term = [0u16; 4097];
+    let mut term = [0u16; CUE_WORDS];
     let m = load(cue, &mut term);
-    let mut out = [0u16; 4096];
-    let mut work = [0u16; 8192];
+    let mut out = [0u16; TERM_WORDS];
+    let mut work = [0u16; AREA_WORDS];
     expand_words(&words[0..n], &term[0..m], &mut out, &mut work, text)
 }
 
@@ -65,7 +72,7 @@ fn expand_words(
     work: &mut [u16],
     text: &mut [u8],
 ) -> usize
-    requires { ⌜ (0 < length (now cue)) × (length (now out) ≤ 4096) × (24638 ≤ length (now text)) ⌝ }
+    requires { ⌜ (0 < length (now cue)) × (length (now out) ≤ termWords) × (textBytes ≤ length (now text)) ⌝ }
     ensures { λ r. ⌜ Written (now (text .entry)) 0
         (answerText (expansion (now (book .entry)) (drop 1 (now (cue .entry))) (getD (now (cue .entry)) 0 0) (now (out .entry)) (now (work .entry))))
         r (now (text .exit)) ⌝ }
@@ -83,12 +90,12 @@ fn wide(x: u16) -> u32
 
 // Heading, three numbers, and on 0 the answer, a word a line.
 fn put_answer(a: Answer, out: &[u16], text: &mut [u8]) -> usize
-    requires { ⌜ (a .number ≡ 0 → a .place ≤ length (now out)) × (length (now out) ≤ 4096) × (24638 ≤ length (now text)) ⌝ }
+    requires { ⌜ (a .number ≡ 0 → a .place ≤ length (now out)) × (length (now out) ≤ termWords) × (textBytes ≤ length (now text)) ⌝ }
     ensures { λ r. ⌜ Written (now (text .entry)) 0 (answerText (result a (now (out .entry)) [])) r (now (text .exit)) ⌝ }
 {
     let numbers = printing::put_heading(text, 0);
     let words = printing::put_numbers(text, numbers, a);
-    if a.number != 0 {
+    if a.number != TAKEN {
         return words;
     }
     let n = a.place;

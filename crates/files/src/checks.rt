@@ -5,8 +5,10 @@ ghost use Rattle.printing.specs.Text.{Written};
 ghost use Rattle.files.specs.Files.{fileOf, check};
 ghost use Rattle.files.specs.checks.Refusal.{refusal};
 
-// The most bytes of a book.
+// The most bytes of a book's file, and the most words.
 pub const BOOK_BYTES: usize = 42502;
+
+pub const BOOK_WORDS: usize = BOOK_BYTES / 2;
 
 // The word for a file that the program does not take; nothing, and 0, for one that it takes.
 pub fn refuse(there: bool, bytes: &[u8], most: usize, text: &mut [u8]) -> usize

@@ -13,9 +13,14 @@ use matching::rules::first_rule;
 use system::Shape;
 use system::layout::entries::Entry;
 use system::layout::entries::entry_of;
+use system::limits::LEVELS;
 use system::limits::TERM_WORDS;
+use system::limits::VARIABLES;
 use system::words::spans;
 use system::words::wide;
+
+// How many levels stand around the deepest one.
+const DEEPEST: usize = LEVELS - 1;
 
 // The state that an area holds, but for its words: how many words the term has, and how many levels stand around the innermost one.
 pub struct State {
@@ -106,7 +111,7 @@ fn take_transition(
             return Event::Rules;
         }
         Entry::Argument(i) => {
-            if 63 <= level {
+            if DEEPEST <= level {
                 return Event::TooDeep;
             }
             let a = p + 1;
@@ -196,8 +201,8 @@ fn stopped(stop: Stop, level: usize) -> Advanced
         level,
         matched: Match {
             rule: FirstRule::Nothing,
-            starts: [0; 16],
-            lengths: [0; 16],
+            starts: [0; VARIABLES],
+            lengths: [0; VARIABLES],
         },
         width: 0,
     }

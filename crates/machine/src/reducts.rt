@@ -14,6 +14,7 @@ use matching::Match;
 use matching::rules::reduct_length;
 use system::limits::TERM_WORDS;
 use system::limits::VARIABLE;
+use system::limits::VARIABLES;
 use system::words::wide;
 
 // The subterm of the innermost level: how many levels stand around it, its position in the term, and how many words it has.
@@ -28,8 +29,8 @@ pub struct Subterm {
 struct Instance {
     rhs: usize,
     size: usize,
-    starts: [usize; 16],
-    lengths: [usize; 16],
+    starts: [usize; VARIABLES],
+    lengths: [usize; VARIABLES],
 }
 
 // What a rewrite came to: it is done, and the term has so many words now; or the term would have more than 4,096.

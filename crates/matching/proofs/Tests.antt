@@ -1,18 +1,17 @@
--- The answer of the strategy test: 0 exactly for an accepted book whose system is safe, and 14 at a symbol that fails.
+-- The answer of the strategy test: 0 exactly for an accepted book whose system is safe.
 use Prim.Native.Nat.{ℕ}
 use native.Mathlib.Omega.{arith}
 use mathlib.Core.Path.{_≡_, refl, sym, ap, _∙_}
 use mathlib.Core.List.{List}
 use lib.ListN.{length}
 use Rattle.system.specs.declared.Answer.{Answer}
-use Rattle.system.specs.Signature.{Symbol}
 use Rattle.system.specs.System.{System}
 use Rattle.system.specs.declared.reader.Scan.{Scan}
 use Rattle.system.specs.Parser.{Parsed, ok, fault, read}
 use Rattle.system.specs.reader.Sections.{scanOf}
 use Rattle.system.proofs.FaultNumbers.{fault-not-zero}
 use Rattle.system.specs.Book.{systemFrom, systemOf}
-use Rattle.matching.specs.StrategyTest.{SafeBook, Passes, Safe, Tested, passed, failed, TestedBook}
+use Rattle.matching.specs.StrategyTest.{SafeBook, Safe, Tested, passed, failed, TestedBook}
 use Rattle.system.proofs.layout.Accepting.{reads-system, scan-accepted}
 
 module _ (s : System) where
@@ -23,11 +22,6 @@ module _ (s : System) where
   pub safe-tested : {r : Answer} → Tested s r → Safe s → r ≡ record { number = 0; place = 0; steps = 0 }
   safe-tested (passed h) e = refl
   safe-tested (failed f k h) e = absurd (h (e f k))
-
-  -- the place of 14 is a symbol that fails
-  pub tested-fails : {r : Answer} → Tested s r → (r .number ≡ 0 → ⊥) → Symbol (s .arities) (r .place) × (Passes s (r .place) → ⊥)
-  tested-fails (passed h) e = absurd (e refl)
-  tested-fails (failed f k h) e = (k, h)
 
 -- ---- of a book that was scanned
 

@@ -3,6 +3,8 @@ ghost use Prim.Native.Nat.{_≤_};
 ghost use lib.ListN.{length};
 use libc::STDOUT_FILENO;
 use system::Answer;
+use system::limits::AREA_WORDS;
+use system::limits::TERM_WORDS;
 
 // A text and the line's end, on standard output.
 fn print_line(bytes: &[u8]) {
@@ -26,8 +28,8 @@ fn print_numbers(a: Answer) {
 
 // Expands a cue over a book, in buffers of its own.
 fn rehearse(label: &[u8], book: &[u16], cue: &[u16], limit: u32) {
-    let mut out = [0u16; 4096];
-    let mut work = [0u16; 8192];
+    let mut out = [0u16; TERM_WORDS];
+    let mut work = [0u16; AREA_WORDS];
     let a = evaluation::expand(book, cue, limit, &mut out, &mut work);
     print_line(label);
     print_numbers(a);

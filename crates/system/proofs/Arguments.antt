@@ -53,6 +53,7 @@ module _ (ws t : List ℕ) (i : ℕ) where
         ]
       ]
 
+  -- the part that is handed back is a whole term
   pub part-whole : HasArgument ws t i → Whole (signatureOf ws) (partOf ws t (argumentAt ws t i))
   unfolding argument
   part-whole h =
@@ -61,14 +62,6 @@ module _ (ws t : List ℕ) (i : ℕ) where
       let l = h .least in
       let m = h .most in
       rw (argument-there ws t c i l m) (argument-whole (signatureOf ws) t w (i - 1) (omega arith))
-
-  -- the part that is handed back is a whole term
-  pub found-whole : (p : ℕ) → argumentAt ws t i ≡ some p → Whole (signatureOf ws) (subterm (signatureOf ws) t p)
-  found-whole p e = go there-or-none
-    where
-      go : HasArgument ws t i ⊎ (argumentAt ws t i ≡ none) → Whole (signatureOf ws) (subterm (signatureOf ws) t p)
-      go (inl h) = rw e at (part-whole h)
-      go (inr n) = let z : _≡_ {A = ℕ} 0 1 = cc in absurd (omega arith)
 
   -- "The part is empty exactly when book or cue would be refused, or i is not 1 up to the argument count."
   pub part-empty : (partOf ws t (argumentAt ws t i) ≡ []) ↔ (HasArgument ws t i → ⊥)

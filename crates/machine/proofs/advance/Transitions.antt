@@ -7,6 +7,7 @@ use mathlib.Core.Bool.{true, false}
 use mathlib.Core.List.{List, [], _∷_, _++_}
 use lib.ListN.{length, getD}
 use borrow.Author.Tests.{le-leb, lt-leb}
+use Rattle.system.specs.Limits.{levels}
 use Rattle.system.specs.System.{System}
 use Rattle.system.specs.declared.layout.entries.Entry.{Entry}
 use Rattle.machine.specs.declared.advance.Event.{Event}
@@ -42,11 +43,11 @@ module _ (s : System) (t outer : List ℕ) (f c : ℕ) where
       module _ (i : ℕ) (e : getD entries c 0 ≡ suc i) where
         pub leads-argument : length outer < 63 → next ≡ to.argument (outer ++ suc c ∷ [])
         unfolding transition
-        leads-argument h = rw (entry-argument entries f c more b i e, transition) (rw (lt-leb 63 (length outer) h))
+        leads-argument h = rw (entry-argument entries f c more b i e, transition) (rw (lt-leb levels (suc (length outer)) (omega (arith, h))))
 
         pub leads-deep : 63 ≤ length outer → next ≡ to.tooDeep
         unfolding transition
-        leads-deep h = rw (entry-argument entries f c more b i e, transition) (rw (le-leb 63 (length outer) h))
+        leads-deep h = rw (entry-argument entries f c more b i e, transition) (rw (le-leb levels (suc (length outer)) (omega (arith, h))))
 
   -- ---- what the event tells
 

@@ -5,6 +5,7 @@ use mathlib.Core.Bool.{true, false, cond}
 use mathlib.Core.List.{List, [], _∷_, _++_}
 use lib.ListN.{length, set}
 use lib.Dec.{ltb, leb}
+use Rattle.system.specs.Limits.{levels}
 use Rattle.system.specs.System.{System}
 use Rattle.rewriting.specs.Machine.{strategyAt, position}
 use Rattle.machine.specs.advance.Area.{area, termIn, outerIn, countIn, Tracks}
@@ -30,14 +31,14 @@ pub data Transition : Type 0 where
   tooDeep : Transition
 
 -- with the levels `outer` around the innermost one, of which c entries are begun, f of them before the present run of transitions; the
--- innermost level is level 64 where 63 are around it
+-- innermost level is number suc (length outer)
 unfoldable pub transition : System → List ℕ → List ℕ → ℕ → ℕ → Transition
 transition s t outer f c =
     elim (entryOf (strategyAt s t (position s t outer 0)) f c) [
       | entry.End ↦ end outer
       | entry.Repeated ↦ repeated outer (suc c)
       | entry.Rules ↦ rules outer (suc c)
-      | entry.Argument i ↦ cond (leb 63 (length outer)) tooDeep (argument (outer ++ suc c ∷ []))
+      | entry.Argument i ↦ cond (leb levels (suc (length outer))) tooDeep (argument (outer ++ suc c ∷ []))
     ]
 
 -- the code's word for it
