@@ -101,7 +101,7 @@ prints tests/program.sh expand
 prints tests/check_book.sh check_book
 
 # 7. the benchmark builds, for one archive and for two, and all agree (its times are not looked at here)
-quiet bash tests/bench/run.sh 0
-quiet bash tests/bench/run.sh 0 "$archive"
+quiet env BUILT=1 bash tests/bench/run.sh 0
+quiet env BUILT=1 bash tests/bench/run.sh 0 "$archive"
 say "the benchmark agrees; tests/bench/run.sh shows its times"
 say "all is well"

@@ -12,7 +12,9 @@ use files::checks::BOOK_BYTES;
 use files::checks::BOOK_WORDS;
 use files::checks::refuse;
 use files::words::load;
+use matching::safety::test;
 use system::numbers::TAKEN;
+use system::reader::scan_book;
 
 // The bytes that any text has room in.
 pub const TEXT_BYTES: usize = 256;
@@ -42,16 +44,17 @@ fn check_file(book: &[u8], text: &mut [u8]) -> usize
     check_words(&words[0..n], text)
 }
 
-// The reader's line, and the order test's where the reader takes the book.
+// The reader's line, and the order test's where the reader takes the book. The book is read once.
 fn check_words(book: &[u16], text: &mut [u8]) -> usize
     requires { ⌜ textBytes ≤ length (now text) ⌝ }
     ensures { λ r. ⌜ Told (now (book .entry)) (now (text .entry)) r (now (text .exit)) ⌝ }
 {
-    let a = system::read(book);
+    let s = scan_book(book);
+    let a = s.answer;
     if a.number != TAKEN {
         return put_fault(text, a);
     }
     let order = put_taken(text, a.place);
-    let t = matching::test_strategies(book);
+    let t = test(book, s);
     put_order(text, order, t)
 }

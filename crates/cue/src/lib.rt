@@ -7,8 +7,8 @@ ghost use Rattle.system.specs.Signature.{span};
 ghost use Rattle.system.specs.Book.{systemOf};
 ghost use Rattle.matching.specs.Bindings.{matchOf};
 ghost use Rattle.matching.specs.StrategyTest.{TestedBook};
-ghost use Rattle.evaluation.specs.Expansion.{result, expansion, secondly};
-ghost use Rattle.evaluation.specs.Demand3.{IsDone, IsHandedBack, IsFound, RestsAgain};
+ghost use Rattle.evaluation.specs.Expansion.{result, expansion};
+ghost use Rattle.demands.specs.Demand3.{IsDone, IsHandedBack, IsFound, secondly, RestsAgain};
 ghost use Rattle.cue.specs.Exports.{answerFor, asAnswer, shapeFor, partFor, matchFor};
 use matching::FirstRule;
 use system::Answer;
@@ -203,7 +203,7 @@ pub extern "C" fn cue_expand_checked(
         (result (asAnswer (r .answer)) (now (out .exit)) (now (work .exit))) ⌝ }
     ensures found { λ r. ⌜ IsFound (now (book .entry)) (asAnswer (r .test)) (result (asAnswer (r .answer)) (now (out .exit)) (now (work .exit))) ⌝ }
 {
-    let c = evaluation::checked::expand_checked(book, term, limit, out, work);
+    let c = demands::expand_checked(book, term, limit, out, work);
     CueChecked {
         test: answer_for(c.test),
         answer: answer_for(c.answer),
@@ -232,7 +232,7 @@ pub extern "C" fn cue_expand_twice(
     ensures rests { λ r. ⌜ RestsAgain (asAnswer (r .test)) (result (asAnswer (r .first)) (now (out .exit)) (now (work .exit)))
         (now (again .entry)) (now (spare .entry)) (result (asAnswer (r .second)) (now (again .exit)) (now (spare .exit))) ⌝ }
 {
-    let c = evaluation::checked::expand_twice(book, term, limit, out, work, again, spare);
+    let c = demands::expand_twice(book, term, limit, out, work, again, spare);
     CueTwice {
         test: answer_for(c.test),
         first: answer_for(c.first),

@@ -56,12 +56,3 @@ expansion book term limit out work =
 -- the words that are handed back: "the answer stands in the first words of the answer buffer", as many as the place says
 abbrev pub handedBack : Expansion → List ℕ
 handedBack x = take (x .numbers .place) (x .answer)
-
--- what an expansion x handed back, expanded again with no steps allowed, in the buffers out and work; where nothing was handed back,
--- x's three numbers and the buffers as they are
-unfoldable pub secondly : List ℕ → Expansion → List ℕ → List ℕ → Expansion
-secondly book x out work =
-    elim (x .numbers .number) [
-      | zero ↦ expansion book (handedBack x) 0 out work
-      | suc _ ↦ result (x .numbers) out work
-    ]

@@ -1,4 +1,5 @@
 -- `check_words` meets its contract.
+use mathlib.Core.Path.{ap}
 use borrow.Author.Needs.{needs}
 use Rattle.check_book.proofs.report.Telling.{told-refused, told-taken}
 use Rattle.check_book.proofs.report.check_words.Statement.{statement}
@@ -8,9 +9,9 @@ returns : tie.Need-returns
 returns c =
     let w = c .before .before in
     let f = w .before .before in
-    let r = f .before .before in
+    let r = f .before .before .before in
     let s = r .before .before .before in
-    told-refused (s .args .book .now) (r .read .result) (r .read .ensures) (f .if1 .taken) (w .put-fault .ensures)
+    told-refused (s .args .book .now) (r .scan-book .result .answer) (ap (λ y. y .answer) (r .scan-book .ensures)) (f .if1 .taken) (w .put-fault .ensures)
 
 returns-2 : tie.Need-returns-2
 returns-2 c =
@@ -18,10 +19,10 @@ returns-2 c =
     let t = w .before .before in
     let v = t .before .before .before in
     let f = v .before .before in
-    let r = f .before .before in
+    let r = f .before .before .before in
     let s = r .before .before .before in
-    told-taken (s .args .book .now) (r .read .result) (r .read .ensures) (t .test-strategies .result) (f .if1 .left)
-    (t .test-strategies .ensures) (v .put-taken .ensures .0) (w .put-order .ensures)
+    told-taken (s .args .book .now) (r .scan-book .result .answer) (ap (λ y. y .answer) (r .scan-book .ensures)) (t .test .result) (f .if1 .left)
+    (t .test .ensures) (v .put-taken .ensures .0) (w .put-order .ensures)
 
 pub check-words-spec : {M : Type 1} → statement M
 check-words-spec =

@@ -4,7 +4,7 @@ use native.Mathlib.Omega.{arith}
 use lib.ListN.{length, drop, length-drop}
 use lib.Seq.{take-all}
 use borrow.Author.Needs.{needs}
-use Rattle.evaluation.proofs.Demand3.{handed-fits}
+use Rattle.evaluation.proofs.Handed.{handed-fits}
 use Rattle.expand.proofs.report.Reports.{expanded}
 use Rattle.expand.proofs.report.expand_words.Statement.{statement}
 use Rattle.expand.proofs.report.expand_words.Tie as tie

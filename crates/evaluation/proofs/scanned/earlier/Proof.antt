@@ -1,8 +1,8 @@
--- `earlier` meets its contract.
+-- `scanned::earlier` meets its contract.
 use mathlib.Core.Path.{sym}
 use Rattle.evaluation.proofs.Expanding.{earlier-first, earlier-second}
-use Rattle.evaluation.proofs.earlier.Statement.{statement}
-use Rattle.evaluation.proofs.earlier.Tie as tie
+use Rattle.evaluation.proofs.scanned.earlier.Statement.{statement}
+use Rattle.evaluation.proofs.scanned.earlier.Tie as tie
 
 returns : tie.Need-returns
 returns c = sym (earlier-first _ _ (c .if1 .taken))

@@ -1,5 +1,5 @@
 -- What demand 3 asks of the evaluator (01: the expander), said of an expansion x: its three numbers and both buffers as it leaves them.
-use Prim.Native.Nat.{ℕ, _≤_}
+use Prim.Native.Nat.{ℕ, zero, suc, _≤_}
 use mathlib.Core.Path.{_≡_}
 use mathlib.Core.List.{List}
 use lib.ListN.{length}
@@ -8,7 +8,7 @@ use Rattle.system.specs.Answers.{termAnswer}
 use Rattle.system.specs.Book.{systemOf}
 use Rattle.rewriting.specs.Evaluation.{Config, finished, evaluation}
 use Rattle.rewriting.specs.Outcomes.{Done, Stable}
-use Rattle.evaluation.specs.Expansion.{Expansion, expansion, handedBack}
+use Rattle.evaluation.specs.Expansion.{Expansion, result, expansion, handedBack}
 use Rattle.system.specs.Limits.{areaWords, termWords}
 
 -- "a cue is handed back if the expander answers 0": then that many words are there, and they are done
@@ -40,6 +40,15 @@ pub record Found (book t : List ℕ) : Type 0 where
 -- `test` is the strategy test's answer
 abbrev pub IsFound : List ℕ → Answer → Expansion → Type 0
 IsFound book test x = test .number ≡ 0 → x .numbers .number ≡ 0 → Found book (handedBack x)
+
+-- what an expansion x handed back, expanded again with no steps allowed, in the buffers out and work; where nothing was handed back,
+-- x's three numbers and the buffers as they are
+unfoldable pub secondly : List ℕ → Expansion → List ℕ → List ℕ → Expansion
+secondly book x out work =
+    elim (x .numbers .number) [
+      | zero ↦ expansion book (handedBack x) 0 out work
+      | suc _ ↦ result (x .numbers) out work
+    ]
 
 -- and of a second expansion x′ of what x handed back, with step limit 0 in the buffers out′ and work′
 abbrev pub RestsAgain : Answer → Expansion → List ℕ → List ℕ → Expansion → Type 0

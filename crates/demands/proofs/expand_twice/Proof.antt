@@ -1,14 +1,15 @@
--- `checked::expand_twice` meets its contract.
+-- `expand_twice` meets its contract.
 use Prim.Native.Nat.{_-_}
 use Rattle.evaluation.specs.Expansion.{result}
-use Rattle.evaluation.specs.Demand3.{IsFound}
-use Rattle.evaluation.proofs.Demand3.{is-found, handed-fits, second-none, second-goes, second-rests}
+use Rattle.demands.specs.Demand3.{IsFound}
+use Rattle.evaluation.proofs.Handed.{handed-fits}
+use Rattle.demands.proofs.Demand3.{is-found, second-none, second-goes, second-rests}
 use lib.ListN.{take}
 use mathlib.Core.Path.{sym, ap, subst}
 use native.Mathlib.Nat.{sub-zero}
 use borrow.Author.Needs.{needs}
-use Rattle.evaluation.proofs.checked.expand_twice.Statement.{statement}
-use Rattle.evaluation.proofs.checked.expand_twice.Tie as tie
+use Rattle.demands.proofs.expand_twice.Statement.{statement}
+use Rattle.demands.proofs.expand_twice.Tie as tie
 
 returns : tie.Need-returns
 returns c =

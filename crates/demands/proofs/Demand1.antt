@@ -12,9 +12,9 @@ use Rattle.system.specs.TermCheck.{termFault}
 use Rattle.system.specs.Answers.{answerOf, wholeAnswer, termAnswer}
 use Rattle.system.specs.Book.{systemOf}
 use Rattle.rewriting.specs.Evaluation.{Outcome, finished, stopped, evaluation}
 use Rattle.evaluation.specs.Expansion.{expansionOf, expansion}
-use Rattle.evaluation.specs.Demand1.{Refused, untouched, cleared}
+use Rattle.demands.specs.Demand1.{Refused, untouched, cleared}
 use Rattle.evaluation.proofs.Expanding.{Course, narrow, wrong, runs, course}
 
 fault-table : (f : Fault) → (1 ≤ faultNumber f) × (faultNumber f ≤ 8)
 fault-table missing = (omega arith, omega arith)

@@ -12,8 +12,8 @@ use Rattle.matching.specs.Cases.{failing, testing, strategyCases}
 use Rattle.matching.specs.Matching.{bind, firstMatch, contraction}
 use Rattle.system.specs.Cases.{Hold, bookB, readerCases}
 use Rattle.rewriting.specs.Evaluation.{rewrite, follow, atRoot, evaluate, evaluation}
 use Rattle.evaluation.specs.Expansion.{room, earlier, expansion}
-use Rattle.evaluation.specs.Cases.{expanding, evaluatorCases, starred}
+use Rattle.demands.specs.Cases.{expanding, evaluatorCases, starred}
 
 pub starred-cases : Hold starred
 unfolding starred readerCases strategyCases evaluatorCases testing failing passes every closes idles idleTest isVariable constructs

@@ -1,4 +1,4 @@
--- `expand_scanned` meets its contract.
+-- `scanned::expand_scanned` meets its contract.
 use Prim.Native.Nat.{_≤_}
 use native.Mathlib.Omega.{arith}
 use mathlib.Core.Path.{_≡_, sym, ap, _∙_}
@@ -10,8 +10,8 @@ use Rattle.rewriting.specs.Evaluation.{evaluation}
 use Rattle.evaluation.specs.Expansion.{result, earlier, checked}
 use Rattle.evaluation.proofs.Expanding.{Checks, checks, checks-accepted, Passed, passed, refuses, evaluates}
 use Rattle.evaluation.proofs.Expanding.{size-bounded, whole-length, whole-front, same-result, finishes}
-use Rattle.evaluation.proofs.expand_scanned.Statement.{statement}
-use Rattle.evaluation.proofs.expand_scanned.Tie as tie
+use Rattle.evaluation.proofs.scanned.expand_scanned.Statement.{statement}
+use Rattle.evaluation.proofs.scanned.expand_scanned.Tie as tie
 
 abbrev start : tie.After-earlier → tie.Start
 start c = c .before .before .before .before .before .before .before

@@ -1,4 +1,4 @@
--- `finish` meets its contract.
+-- `scanned::finish` meets its contract.
 use Rattle.buffers.specs.Words.{over}
 use Rattle.evaluation.proofs.run.Cleared.{front-cleared}
 use native.Mathlib.Omega.{arith}
@@ -6,8 +6,8 @@ use lib.ListN.{take}
 use native.Mathlib.Nat.{sub-zero}
 use mathlib.Core.Path.{refl, ap, _∙_}
 use borrow.Author.Needs.{needs}
-use Rattle.evaluation.proofs.finish.Statement.{statement}
-use Rattle.evaluation.proofs.finish.Tie as tie
+use Rattle.evaluation.proofs.scanned.finish.Statement.{statement}
+use Rattle.evaluation.proofs.scanned.finish.Tie as tie
 
 returns : tie.Need-returns
 returns c =

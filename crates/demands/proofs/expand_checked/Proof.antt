@@ -1,10 +1,10 @@
--- `checked::expand_checked` meets its contract.
+-- `expand_checked` meets its contract.
 use mathlib.Core.Path.{sym, subst}
-use Rattle.evaluation.specs.Demand3.{IsDone, IsHandedBack, IsFound}
-use Rattle.evaluation.proofs.Demand3.{is-done, is-handed-back, is-found}
+use Rattle.demands.specs.Demand3.{IsDone, IsHandedBack, IsFound}
+use Rattle.demands.proofs.Demand3.{is-done, is-handed-back, is-found}
 use borrow.Author.Needs.{needs}
-use Rattle.evaluation.proofs.checked.expand_checked.Statement.{statement}
-use Rattle.evaluation.proofs.checked.expand_checked.Tie as tie
+use Rattle.demands.proofs.expand_checked.Statement.{statement}
+use Rattle.demands.proofs.expand_checked.Tie as tie
 
 returns : tie.Need-returns
 returns c =

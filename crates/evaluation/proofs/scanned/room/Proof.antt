@@ -1,9 +1,9 @@
--- `room` meets its contract.
+-- `scanned::room` meets its contract.
 use mathlib.Core.Path.{sym, _∙_}
 use borrow.Author.Needs.{needs}
 use Rattle.evaluation.proofs.Expanding.{narrow-answer, narrow-work, enough}
-use Rattle.evaluation.proofs.room.Statement.{statement}
-use Rattle.evaluation.proofs.room.Tie as tie
+use Rattle.evaluation.proofs.scanned.room.Statement.{statement}
+use Rattle.evaluation.proofs.scanned.room.Tie as tie
 
 returns : tie.Need-returns
 returns c = c .answer .ensures ∙ sym (narrow-answer _ _ (c .before .if1 .taken))

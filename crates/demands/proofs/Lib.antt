@@ -1,0 +1,4 @@
+-- Demands 1 and 3 of the evaluator's answers, and the starred cases
+pub mod Demand1
+pub mod Demand3
+pub mod Cases
