@@ -1,10 +1,7 @@
 -- The structs that C sees, as what the libraries answer.
-use mathlib.Core.List.{List}
-use Prim.Native.Nat.{ℕ}
-use lib.ListN.{length}
 use Rattle.system.specs.declared.Answer.{Answer}
 use Rattle.system.specs.declared.Shape.{Shape}
-use Rattle.system.specs.Answers.{startOf, partOf, argumentAt}
+use Rattle.system.specs.declared.ArgumentSpan.{ArgumentSpan}
 use Rattle.matching.specs.declared.Match.{Match}
 use Rattle.matching.specs.declared.FirstRule.the-variants.{Nothing, First}
 use Rattle.cue.specs.declared.CueAnswer.{CueAnswer}
@@ -23,9 +20,9 @@ asAnswer a = record { number = a .number; place = a .place; steps = a .steps }
 abbrev pub shapeFor : Shape → CueShape
 shapeFor s = record { symbols = s .symbols; strategies = s .strategies; rules = s .rules; «first_rule» = s .«first_rule» }
 
--- "handed back as a part of the caller's own cue": the index of its first word and how many words it has; 0 and 0 where it is empty
-abbrev pub partFor : List ℕ → List ℕ → ℕ → CuePart
-partFor book t i = record { start = startOf (argumentAt book t i); length = length (partOf book t (argumentAt book t i)) }
+-- "handed back as a part of the caller's own cue": the index of its first word and how many words it has
+abbrev pub partFor : ArgumentSpan → CuePart
+partFor s = record { start = s .start; length = s .length }
 
 -- a variant is told by a number: 0 and zeros where nothing was found, else 1
 abbrev pub matchFor : Match → CueMatch

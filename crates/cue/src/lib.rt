@@ -1,7 +1,7 @@
 // The libraries' public operations for C and other languages: include/cue.h declares what stands here. Each function hands its
 // arguments on and its answer back; none asks anything of its caller.
 ghost use mathlib.Core.Path.{_≡_};
-ghost use Rattle.system.specs.Answers.{answerOf, shapeOf, termAnswer, signatureOf};
+ghost use Rattle.system.specs.Answers.{answerOf, shapeOf, termAnswer, argumentSpan, signatureOf};
 ghost use Rattle.system.specs.Parser.{read};
 ghost use Rattle.system.specs.Signature.{span};
 ghost use Rattle.system.specs.Book.{systemOf};
@@ -108,20 +108,12 @@ pub extern "C" fn cue_check_term(book: &[u16], term: &[u16]) -> CueAnswer
 // Argument i (from 1) of the term's first symbol.
 #[no_mangle]
 pub extern "C" fn cue_argument(book: &[u16], term: &[u16], i: usize) -> CuePart
-    ensures { λ r. ⌜ r ≡ partFor (now (book .entry)) (now (term .entry)) i ⌝ }
+    ensures { λ r. ⌜ r ≡ partFor (argumentSpan (now (book .entry)) (now (term .entry)) i) ⌝ }
 {
-    let part = system::argument(book, term, i);
-    let n = part.len();
-    if n == 0 {
-        return CuePart {
-            start: 0,
-            length: 0,
-        };
-    }
-    let before = system::words::spans(book, &term[1..], i - 1);
+    let s = system::argument_span(book, term, i);
     CuePart {
-        start: 1 + before,
-        length: n,
+        start: s.start,
+        length: s.length,
     }
 }
 

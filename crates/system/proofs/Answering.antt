@@ -1,19 +1,21 @@
 -- One argument of a term: what the operation answers, from the check of the term and the span of the arguments before it.
 use Prim.Native.Nat.{ℕ, zero, suc, _+_, _-_, _≤_, _<_}
 use native.Mathlib.Omega.{arith}
-use mathlib.Core.Path.{_≡_, refl, ap, _∙_}
+use mathlib.Core.Path.{_≡_, refl, sym, ap, _∙_}
 use mathlib.Core.Option.{Option, none, some}
 use mathlib.Core.List.{List, [], _∷_}
-use lib.ListN.{length, getD, take, drop}
+use lib.ListN.{length, getD, take, drop, length-drop}
+use lib.Seq.{length-take-le}
 use borrow.Author.Tests.{lt-ltb, le-ltb}
+use Rattle.system.specs.declared.ArgumentSpan.{ArgumentSpan}
 use Rattle.system.specs.Signature.{Signature, arity, span, argument, subterm}
 use Rattle.system.specs.System.{System}
 use Rattle.system.specs.Parser.{Parsed, ok, fault, read}
 use Rattle.system.specs.TermCheck.{termFault}
-use Rattle.system.specs.Answers.{signatureOf, wholeAnswer, termAnswer, nthArgument, argumentAt}
+use Rattle.system.specs.Answers.{signatureOf, wholeAnswer, termAnswer, nthArgument, argumentAt, startOf, partOf, argumentSpan}
 use Rattle.system.proofs.FaultNumbers.{fault-not-zero}
 use Rattle.system.proofs.Located.{read-signature}
-use Rattle.system.proofs.words.SpanSteps.{tail}
+use Rattle.system.proofs.words.SpanSteps.{tail, tail-length}
 
 -- a term that is checked
 pub record Checked (ws t : List ℕ) : Type 0 where
@@ -78,9 +80,38 @@ module _ (ws t : List ℕ) where
         let e : suc k - 1 ≡ k = omega arith in
         found (suc k) ∙ rw (e, lt-ltb k (arity (signatureOf ws) (getD t 0 0)) (omega arith))
 
--- the part that starts at a and is q words long
-pub cut : (g : Signature) (t : List ℕ) (a q : ℕ) → q ≡ span g (take (length t - a) (drop a t)) 1 → take (a + q - a) (drop a t) ≡ subterm g t a
+-- ---- where it stands
+
+module _ (ws t : List ℕ) (i : ℕ) where
+  abbrev Tells : ArgumentSpan → Type 0
+  Tells s = (s ≡ argumentSpan ws t i) × (s .start + s .length ≤ length t)
+
+  pub tells-none : argumentAt ws t i ≡ none → Tells (record { start = 0; length = 0 })
+  tells-none e = (rw e, omega arith)
+
+  -- n words from p on, as they are counted in the words from p on
+  pub tells-some : (p n : ℕ) → argumentAt ws t i ≡ some p → p ≤ length t → n ≡ span (signatureOf ws) (take (length t - p) (drop p t)) 1 →
+      n ≤ length (take (length t - p) (drop p t)) → Tells (record { start = p; length = n })
+  unfolding subterm
+  tells-some p n e l c m =
+      let q : n ≡ span (signatureOf ws) (drop p t) 1 = rw (tail t p) at c in
+      let k : n ≤ length t - p = rw tail-length at m in
+      let w : length (take n (drop p t)) ≡ n = length-take-le n (drop p t) (rw length-drop k) in
+      (rw e (λ j. record { start = p; length = (sym w ∙ ap (λ x. length (take x (drop p t))) q) j }), omega arith)
+
+-- as many words of a list as its front has are that front
+take-front : (n : ℕ) (xs : List ℕ) → take (length (take n xs)) xs ≡ take n xs
+take-front zero xs = refl
+take-front (suc n) [] = refl
+take-front (suc n) (x ∷ xs) = ap (λ ys. x ∷ ys) (take-front n xs)
+
+-- the words that stand there are the argument's
+pub span-words : (ws t : List ℕ) (o : Option ℕ) (a n : ℕ) → a ≡ startOf o → n ≡ length (partOf ws t o) → take (a + n - a) (drop a t) ≡ partOf ws t o
 unfolding subterm
-cut g t a q e =
-    let d : a + q - a ≡ q = omega arith in
-    rw (d, e, tail t a)
+span-words ws t o a n p q =
+    let d : a + n - a ≡ n = omega arith in
+    rw d (rw (p, q) (go o))
+  where
+    go : (o : Option ℕ) → take (length (partOf ws t o)) (drop (startOf o) t) ≡ partOf ws t o
+    go none = refl
+    go (some b) = take-front (span (signatureOf ws) (drop b t) 1) (drop b t)

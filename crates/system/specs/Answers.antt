@@ -8,6 +8,7 @@ use lib.ListN.{length, getD, take, drop}
 use lib.Dec.{ltb}
 use denote.Ref.{RefT, ptr}
 use Rattle.system.specs.declared.Answer.{Answer}
+use Rattle.system.specs.declared.ArgumentSpan.{ArgumentSpan}
 use Rattle.system.specs.declared.Shape.{Shape}
 use Rattle.system.specs.Signature.{Signature, arity, argument, subterm}
 use Rattle.system.specs.System.{System, head}
@@ -70,6 +71,10 @@ startOf (some p) = p
 abbrev pub partOf : List ℕ → List ℕ → Option ℕ → List ℕ
 partOf book t none = []
 partOf book t (some p) = subterm (signatureOf book) t p
+
+-- where it stands: 0 and 0 where there is none
+abbrev pub argumentSpan : List ℕ → List ℕ → ℕ → ArgumentSpan
+argumentSpan book t i = record { start = startOf (argumentAt book t i); length = length (partOf book t (argumentAt book t i)) }
 
 -- the slice r is the caller's own slice s from word a on: the same memory, two bytes further for each word
 abbrev pub LiesIn : RefT (List ℕ) → ℕ → RefT (List ℕ) → Type 0

@@ -4,7 +4,9 @@
 // operations here asks anything of its caller: every refusal is a number of 01's table. `reader::scan_book`, `terms::check`, `words`
 // and `layout` are the inner interface for the layers above: a book is scanned once, and all that is asked of it goes by the scan.
 ghost use mathlib.Core.Path.{_≡_};
-ghost use Rattle.system.specs.Answers.{answerOf, shapeOf, termAnswer, argumentAt, startOf, partOf, LiesIn};
+ghost use Prim.Native.Nat.{_+_, _≤_};
+ghost use lib.ListN.{length};
+ghost use Rattle.system.specs.Answers.{answerOf, shapeOf, termAnswer, argumentAt, startOf, partOf, argumentSpan, LiesIn};
 ghost use Rattle.system.specs.Parser.{read};
 
 pub mod layout;
@@ -32,6 +34,12 @@ pub struct Shape {
     pub first_rule: usize,
 }
 
+// An argument in a term: the index of its first word, and how many words it has.
+pub struct ArgumentSpan {
+    pub start: usize,
+    pub length: usize,
+}
+
 // Reads a book: 0 and its length, or the first fault with the index of the word being read.
 pub fn read(book: &[u16]) -> Answer
     ensures { λ r. ⌜ r ≡ answerOf (read (now (book .entry))) ⌝ }
@@ -57,25 +65,38 @@ pub fn check_term(book: &[u16], term: &[u16]) -> Answer
     terms::check(book, s, term)
 }
 
-// Argument i (from 1) of the term's first symbol, as a part of the caller's own slice. It is empty exactly when the book or the
-// term would be refused, or there is no such argument.
+// Where argument i (from 1) of the term's first symbol stands: 0 and 0 exactly when the book or the term would be refused, or there is no such
+// argument.
+pub fn argument_span(book: &[u16], term: &[u16], i: usize) -> ArgumentSpan
+    ensures { λ r. ⌜ r ≡ argumentSpan (now (book .entry)) (now (term .entry)) i ⌝ }
+    ensures within { λ r. ⌜ r .start + r .length ≤ length (now (term .entry)) ⌝ }
+{
+    let none = ArgumentSpan {
+        start: 0,
+        length: 0,
+    };
+    let c = check_term(book, term);
+    if c.number != TAKEN {
+        return none;
+    }
+    if i == 0 {
+        return none;
+    }
+    if words::arity(book, term[0]) < i {
+        return none;
+    }
+    let start = 1 + words::spans(book, &term[1..], i - 1);
+    let length = words::span(book, &term[start..]);
+    ArgumentSpan { start, length }
+}
+
+// Argument i (from 1) of the term's first symbol, as a part of the caller's own slice; it is empty where there is none.
 pub fn argument<'a>(book: &[u16], term: &'a [u16], i: usize) -> &'a [u16]
     ensures words { λ r. ⌜ now r ≡ partOf (now (book .entry)) (now (term .entry)) (argumentAt (now (book .entry)) (now (term .entry)) i) ⌝ }
     ensures place { λ r. ⌜ LiesIn (term .entry) (startOf (argumentAt (now (book .entry)) (now (term .entry)) i)) r ⌝ }
 {
-    let c = check_term(book, term);
-    if c.number != TAKEN {
-        return &term[0..0];
-    }
-    if i == 0 {
-        return &term[0..0];
-    }
-    if words::arity(book, term[0]) < i {
-        return &term[0..0];
-    }
-    let arguments = &term[1..];
-    let a = 1 + words::spans(book, arguments, i - 1);
-    let part = &term[a..];
-    let e = a + words::span(book, part);
-    &term[a..e]
+    let s = argument_span(book, term, i);
+    let start = s.start;
+    let end = start + s.length;
+    &term[start..end]
 }
