@@ -3,11 +3,15 @@ use borrow.Author.Needs.{needs}
 use Rattle.cue.proofs.cue_expand_checked.Statement.{statement}
 use Rattle.cue.proofs.cue_expand_checked.Tie as tie
 
+-- the place after the call
+abbrev called : tie.After-answer-for → tie.After-expand-checked
+called c = c .before .before .before .before .before
+
 returns : tie.Need-returns
 returns c =
     let e = c .before .answer-for .ensures in
     let e′ = c .answer-for2 .ensures in
-    rw (e, e′) (c .before .before .before .before .before .before .expand-checked .ensures)
+    rw (e, e′) (called (c .before) .expand-checked .ensures)
 
 pub cue-expand-checked-spec : {M : Type 1} → statement M
 cue-expand-checked-spec =

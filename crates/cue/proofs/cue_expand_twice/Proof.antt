@@ -3,12 +3,19 @@ use borrow.Author.Needs.{needs}
 use Rattle.cue.proofs.cue_expand_twice.Statement.{statement}
 use Rattle.cue.proofs.cue_expand_twice.Tie as tie
 
+-- the places after the call, and after the first pair of buffers came back
+abbrev called : tie.After-slice-known6 → tie.After-expand-twice
+called c = c .before .before .before .before
+
+abbrev first-back : tie.After-answer-for → tie.After-slice-known6
+first-back c = c .before .before .before .before .before
+
 returns : tie.Need-returns
 returns c =
     let e = c .before .before .answer-for .ensures in
     let e′ = c .before .answer-for2 .ensures in
     let e″ = c .answer-for3 .ensures in
-    rw (e, e′, e″) (c .before .before .before .before .before .before .before .before .before .before .before .expand-twice .ensures)
+    rw (e, e′, e″) (called (first-back (c .before .before)) .expand-twice .ensures)
 
 pub cue-expand-twice-spec : {M : Type 1} → statement M
 cue-expand-twice-spec =

@@ -1,16 +1,28 @@
 -- `expand_checked` meets its contract.
 use mathlib.Core.Path.{sym, subst}
+use borrow.Author.Needs.{needs}
 use Rattle.demands.specs.Demand3.{IsDone, IsHandedBack, IsFound}
 use Rattle.demands.proofs.Demand3.{is-done, is-handed-back, is-found}
-use borrow.Author.Needs.{needs}
 use Rattle.demands.proofs.expand_checked.Statement.{statement}
 use Rattle.demands.proofs.expand_checked.Tie as tie
 
+-- ---- the places of the code that are behind others: the entry, the strategy test, the expansion
+
+abbrev entry : tie.After-scan-book → tie.Start
+entry c = c .before .before .before .before .before
+
+abbrev tested : tie.After-expand-scanned → tie.After-test
+tested c = c .before .before .before
+
+abbrev expanded : tie.After-slice-known4 → tie.After-expand-scanned
+expanded c = c .before .before .before .before
+
 returns : tie.Need-returns
 returns c =
-    let a = c .before .before .before .before .before .before .before .before .before .before .before .before .before .args in
-    let t = c .before .before .before .before .before .before .before .test in
-    let e = c .before .before .before .before .expand-scanned .ensures in
+    let k = expanded c in
+    let t = tested k .test in
+    let a = entry (tested k .before) .args in
+    let e = k .expand-scanned .ensures in
     let b = a .book .now in
     let u = a .term .now in
     let l = a .limit in
