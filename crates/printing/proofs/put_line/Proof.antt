@@ -4,8 +4,15 @@ use Rattle.printing.proofs.Writing.{written-then}
 use Rattle.printing.proofs.put_line.Statement.{statement}
 use Rattle.printing.proofs.put_line.Tie as tie
 
+-- ---- the places of the code that are behind others: the bytes put, before the line's end
+
+abbrev bytes : tie.After-put2 → tie.After-put
+bytes c = c .before .before .before .before .before
+
+-- ---- the needs
+
 returns : tie.Need-returns
-returns c = written-then (c .before .before .before .before .before .before .before .put .ensures) (c .before .before .put2 .ensures)
+returns c = let e = c .before .before in written-then (bytes e .put .ensures) (e .put2 .ensures)
 
 pub put-line-spec : {M : Type 1} → statement M
 put-line-spec =

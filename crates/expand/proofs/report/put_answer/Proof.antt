@@ -8,30 +8,43 @@ use Rattle.expand.proofs.report.Reports.{answer-refused, answer-words}
 use Rattle.expand.proofs.report.put_answer.Statement.{statement}
 use Rattle.expand.proofs.report.put_answer.Tie as tie
 
+-- ---- the places of the code that are behind others: the entry, the heading put, the numbers put
+
+abbrev entry : tie.After-put-heading → tie.Start
+entry c = c .before .before .before .before
+
+abbrev headed : tie.After-put-numbers-arg → tie.After-put-heading
+headed c = c .before .before .before
+
+abbrev numbered : tie.After-struct-known → tie.After-put-numbers
+numbered c = c .before .before .before
+
+-- ---- the needs
+
 put-numbers-requires : tie.Need-put-numbers-requires
 put-numbers-requires c κs =
-    let h = c .before .before .before .put-heading .ensures in
+    let h = headed c .put-heading .ensures in
     let l = written-length h in
     let n = heading-length in
-    omega (arith, h .ends, c .before .before .before .before .before .before .before .pre .2)
+    omega (arith, h .ends, entry (headed c) .pre .2)
 
 returns : tie.Need-returns
 returns c =
-    let n = c .before .before .before .before in
-    let h = n .before .before .before .before in
-    let a = h .before .before .before .before .args in
+    let n = numbered (c .before) in
+    let h = headed (n .before) in
+    let a = entry h .args in
     answer-refused (a .a) (a .out .now) (h .put-heading .ensures) (n .put-numbers .ensures .0) (c .if1 .taken)
 
 part-put-words-end : tie.Need-part-put-words-end
 part-put-words-end c =
-    let s = c .before .before .before .before .before .before .before .before .before .before .before .before .before in
-    s .pre .0 (c .before .if1 .left)
+    let e = c .before in
+    entry (headed (numbered (e .before) .before)) .pre .0 (e .if1 .left)
 
 put-words-requires : tie.Need-put-words-requires
 put-words-requires c κs =
-    let n = c .before .before .before .before .before .before in
-    let h = n .before .before .before .before in
-    let s = h .before .before .before .before in
+    let n = numbered (c .before .before .before) in
+    let h = headed (n .before) in
+    let s = entry h in
     let k = written-length (h .put-heading .ensures) in
     let l = written-length (n .put-numbers .ensures .0) in
     let m = heading-length in
@@ -41,9 +54,9 @@ put-words-requires c κs =
 returns-2 : tie.Need-returns-2
 returns-2 c =
     let e = c .before .before .before .before .before in
-    let n = e .before .before .before .before in
-    let h = n .before .before .before .before in
-    let a = h .before .before .before .before .args in
+    let n = numbered (e .before) in
+    let h = headed (n .before) in
+    let a = entry h .args in
     answer-words (a .a) (a .out .now) (h .put-heading .ensures) (n .put-numbers .ensures .0) (e .if1 .left) (c .before .before .put-words .ensures)
 
 pub put-answer-spec : {M : Type 1} → statement M

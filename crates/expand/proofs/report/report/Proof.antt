@@ -10,40 +10,53 @@ use Rattle.expand.proofs.report.Reports.{room-none, by-book, by-cue, by
 use Rattle.expand.proofs.report.report.Statement.{statement}
 use Rattle.expand.proofs.report.report.Tie as tie
 
+-- ---- the places of the code that are behind others: the entry, the text's room found enough, the book taken
+
+abbrev entry : tie.After-slice-known → tie.Start
+entry c = c .before .before .before
+
+abbrev roomy : tie.After-slice-known2 → tie.Else1
+roomy c = c .before .before .before .before
+
+abbrev booked : tie.After-slice-known3 → tie.Else2
+booked c = c .before .before .before .before
+
 -- the book is taken, and then the cue file
 book : (c : tie.Else2) →
-    let a = c .before .before .before .before .before .before .before .before .before .args in
+    let a = entry (roomy (c .before) .before) .args in
     Taken bookBytes (a .book-there) (a .book .now) (a .text .now) (c .before .before .before .refuse .last .1 .1 .1 .0)
 book c =
-    let a = c .before .before .before .before .before .before .before .before .before .args in
+    let a = entry (roomy (c .before) .before) .args in
     taken bookBytes (a .book-there) (a .book .now) (c .before .before .before .refuse .ensures) (c .if2 .left)
 
 cue : (c : tie.Else3) →
-    let b = c .before .before .before .before .before in
-    let a = b .before .before .before .before .before .before .before .before .before .args in
+    let b = booked (c .before) in
+    let a = entry (roomy (b .before) .before) .args in
     Taken cueBytes (a .cue-there) (a .cue .now) (b .before .before .before .refuse .last .1 .1 .1 .0) (c .before .before .before .refuse2 .last .1 .1 .1 .0)
 cue c =
-    let b = c .before .before .before .before .before in
-    let a = b .before .before .before .before .before .before .before .before .before .args in
+    let b = booked (c .before) in
+    let a = entry (roomy (b .before) .before) .args in
     taken cueBytes (a .cue-there) (a .cue .now) (c .before .before .before .refuse2 .ensures) (c .if3 .left)
+
+-- ---- the needs
 
 returns : tie.Need-returns
 returns c =
-    let a = c .before .before .before .before .args in
+    let a = entry (c .before) .args in
     rw (room-none (length (a .text .now)) _ (c .if1 .taken)) (written-nothing (a .text .now) 0 (omega arith))
 
 returns-2 : tie.Need-returns-2
 returns-2 c =
-    let r = c .before .before .before in
-    let e = r .before .before in
-    let a = e .before .before .before .before .args in
-    by-book (a .book-there) (a .book .now) (a .cue-there) (a .cue .now) (a .text .now) (e .if1 .left) (r .refuse .ensures) (c .if2 .taken)
+    let e = roomy (c .before) in
+    let a = entry (e .before) .args in
+    by-book (a .book-there) (a .book .now) (a .cue-there) (a .cue .now) (a .text .now) (e .if1 .left)
+    (c .before .before .before .refuse .ensures) (c .if2 .taken)
 
 returns-3 : tie.Need-returns-3
 returns-3 c =
-    let b = c .before .before .before .before .before in
-    let e = b .before .before .before .before .before in
-    let a = e .before .before .before .before .args in
+    let b = booked (c .before) in
+    let e = roomy (b .before) in
+    let a = entry (e .before) .args in
     by-cue (a .book-there) (a .book .now) (a .cue-there) (a .cue .now) (a .text .now) (e .if1 .left) (book b)
     (c .before .before .before .refuse2 .ensures) (c .if3 .taken)
 
@@ -51,25 +64,25 @@ returns-4 : tie.Need-returns-4
 returns-4 c =
     let f = c .before .before .before .before .before in
     let d = f .before in
-    let b = d .before .before .before .before .before in
-    let e = b .before .before .before .before .before in
-    let a = e .before .before .before .before .args in
+    let b = booked (d .before) in
+    let e = roomy (b .before) in
+    let a = entry (e .before) .args in
     by-short (a .book-there) (a .book .now) (a .cue-there) (a .cue .now) (a .text .now) (e .if1 .left) (book b) (cue d)
     (omega (arith, f .if4 .taken)) (c .before .before .put-line .ensures)
 
 expand-files-requires : tie.Need-expand-files-requires
 expand-files-requires c κs =
     let d = c .before .before in
-    let b = d .before .before .before .before .before in
-    let e = b .before .before .before .before .before in
+    let b = booked (d .before) in
+    let e = roomy (b .before) in
     (book b .small, omega (arith, c .before .if4 .left), cue d .small, rw (cue d .same, book b .same) (e .if1 .left))
 
 returns-5 : tie.Need-returns-5
 returns-5 c =
     let d = c .before .before .before .before .before in
-    let b = d .before .before .before .before .before in
-    let e = b .before .before .before .before .before in
-    let a = e .before .before .before .before .args in
+    let b = booked (d .before) in
+    let e = roomy (b .before) in
+    let a = entry (e .before) .args in
     by-answer (a .book-there) (a .book .now) (a .cue-there) (a .cue .now) (a .text .now) (e .if1 .left) (book b) (cue d)
     (c .before .before .expand-files .ensures)
 

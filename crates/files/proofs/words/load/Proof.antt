@@ -15,10 +15,20 @@ Inv-loop bytes words₀ n i₀ words i = (words ≡ over words₀ 0 (take i (wor
 abbrev μ-loop : tie.MeasureT-loop
 μ-loop bytes words₀ n i₀ words i = n - i
 
+-- ---- the places of the code that are behind others: the entry, the loop's head
+
+abbrev entry : tie.At-loop Inv-loop μ-loop → tie.Start Inv-loop μ-loop
+entry c = c .before .before .before
+
+abbrev head : tie.After-word Inv-loop μ-loop → tie.At-loop Inv-loop μ-loop
+head c = c .before .before .before .before
+
+-- ---- the needs
+
 loop-again : tie.Need-loop-again Inv-loop μ-loop
 loop-again c =
-    let a = c .before .before .before .before .before .before .before .args in
-    let l = c .before .before .before .before .loop in
+    let a = entry (head c) .args in
+    let l = head c .loop in
     let t = c .before .before .before .loop-test .taken in (
       load-turn (a .words .now) (a .bytes .now) (l .words) (l .i) (l .inv .0) (c .word .result) (c .word .ensures) t,
       rw (length-set (l .words) (l .i) (c .word .result)) (l .inv .1),
@@ -27,7 +37,7 @@ loop-again c =
 
 returns : tie.Need-returns Inv-loop μ-loop
 returns c =
-    let a = c .before .before .before .before .args in
+    let a = entry (c .before) .args in
     let l = c .before .loop in
     (sym (words-length (a .bytes .now)), load-end (a .words .now) (a .bytes .now) (l .words) (l .i) (l .inv .0) (c .loop-test .left))
 
