@@ -18,34 +18,42 @@ Inv-loop book term due₀ i₀ due i = (i ≤ length term) × (i ≤ 4096) × (d
 abbrev μ-loop : tie.MeasureT-loop
 μ-loop book term due₀ i₀ due i = length term - i
 
+-- ---- the places of the code that are behind others: the entry, the loop's head
+
+abbrev entry : tie.At-loop Inv-loop μ-loop → tie.Start Inv-loop μ-loop
+entry c = c .before .before .before
+
+abbrev head : tie.After-is-symbol Inv-loop μ-loop → tie.At-loop Inv-loop μ-loop
+head c = c .before .before .before .before .before
+
+-- ---- the needs
+
 loop-holds : tie.Need-loop-holds Inv-loop μ-loop
 loop-holds c = (omega arith, omega arith, omega arith, refl)
 
 returns : tie.Need-returns Inv-loop μ-loop
 returns c = let l = c .before .before .before .loop in
-    let a = c .before .before .before .before .before .before .args in
+    let a = entry (c .before .before .before) .args in
     c .broken .ensures ∙ ap (wholeAnswer (a .term .now)) (sym (break-complete (signatureOf (a .book .now)) (a .term .now) (l .due) (l .i) (omega arith) (c .before .if1 .taken)) ∙ l .inv .3)
 
 returns-2 : tie.Need-returns-2 Inv-loop μ-loop
 returns-2 c = let l = c .before .before .before .before .loop in
-    let a = c .before .before .before .before .before .before .before .args in
+    let a = entry (c .before .before .before .before) .args in
     c .broken2 .ensures ∙ ap (wholeAnswer (a .term .now)) (sym (break-long (signatureOf (a .book .now)) (a .term .now) (l .due) (l .i) (omega arith) (omega arith)) ∙ l .inv .3)
 
 returns-3 : tie.Need-returns-3 Inv-loop μ-loop
 returns-3 c =
-    let c7 = c .before .before .before .before .before .before .before in
-    let c10 = c7 .before .before .before in
-    let l = c7 .loop in
-    let a = c10 .args in
+    let s = head (c .before .before) in
+    let l = s .loop in
+    let a = entry s .args in
     c .broken3 .ensures ∙ ap (wholeAnswer (a .term .now)) (sym (break-unknown (signatureOf (a .book .now)) (a .term .now) (l .due) (l .i) (omega arith)
     (sym (c .before .before .is-symbol .ensures) ∙ not-true _ (c .before .if3 .taken))) ∙ l .inv .3)
 
 loop-again : tie.Need-loop-again Inv-loop μ-loop
 loop-again c =
-    let c7 = c .before .before .before .before .before .before .before in
-    let c10 = c7 .before .before .before in
-    let l = c7 .loop in
-    let a = c10 .args in (
+    let s = head (c .before .before) in
+    let l = s .loop in
+    let a = entry s .args in (
       omega arith,
       omega arith,
       omega arith,
@@ -55,12 +63,12 @@ loop-again c =
 
 returns-4 : tie.Need-returns-4 Inv-loop μ-loop
 returns-4 c = let l = c .before .before .before .loop in
-    let a = c .before .before .before .before .before .before .args in
+    let a = entry (c .before .before .before) .args in
     c .broken4 .ensures ∙ ap (wholeAnswer (a .term .now)) (sym (break-short (signatureOf (a .book .now)) (a .term .now) (l .due) (l .i) (omega arith) (omega arith)) ∙ l .inv .3)
 
 returns-5 : tie.Need-returns-5 Inv-loop μ-loop
 returns-5 c = let l = c .before .before .loop in
-    let a = c .before .before .before .before .before .args in
+    let a = entry (c .before .before) .args in
     let e : l .i ≡ length (a .term .now) = omega arith in
     rw e (ap (wholeAnswer (a .term .now)) (sym (break-none (signatureOf (a .book .now)) (a .term .now) (l .due) (l .i) (omega arith) (omega arith)) ∙ l .inv .3))
 

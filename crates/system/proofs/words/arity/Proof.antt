@@ -11,20 +11,30 @@ use borrow.Author.Needs.{needs}
 use Rattle.system.proofs.words.arity.Statement.{statement}
 use Rattle.system.proofs.words.arity.Tie as tie
 
+-- ---- the places of the code that are behind others: the entry, the word as a number
+
+abbrev entry : tie.After-wide → tie.Start
+entry c = c .before .before
+
+abbrev numbered : tie.After-shared-slice-known2 → tie.After-wide
+numbered c = c .before .before .before
+
+-- ---- the needs
+
 shared-slice-read-wide : tie.Need-shared-slice-read-wide
-shared-slice-read-wide c = let ws = c .before .before .before .before .before .args .book .now in
-    signature-room ws (c .before .before .before .wide .result) (omega arith)
+shared-slice-read-wide c = let ws = entry (numbered c) .args .book .now in
+    signature-room ws (numbered c .wide .result) (omega arith)
 
 returns : tie.Need-returns
-returns c = let a = c .before .before .before .before .before .before .args in
-    let ws = a .book .now in
-    let h : c .before .before .before .before .wide .result < length (signatureOf ws) = omega arith in (
-      c .wide2 .ensures .0 ∙ sym (signature-arity ws (c .before .before .before .before .wide .result) h) ∙ ap (λ n. arity (signatureOf ws) n) (c .before .before .before .before .wide .ensures .0),
+returns c = let s = numbered (c .before) in
+    let ws = entry s .args .book .now in
+    let h : s .wide .result < length (signatureOf ws) = omega arith in (
+      c .wide2 .ensures .0 ∙ sym (signature-arity ws (s .wide .result) h) ∙ ap (λ n. arity (signatureOf ws) n) (s .wide .ensures .0),
       c .wide2 .ensures .1,
     )
 
 returns-2 : tie.Need-returns-2
-returns-2 c = let a = c .before .before .before .before .args in
+returns-2 c = let a = entry (c .before .before) .args in
     (sym (arity-none (signatureOf (a .book .now)) (a .w) (let e = c .before .before .wide .ensures in omega arith)), omega arith)
 
 pub arity-spec : {M : Type 1} → statement M

@@ -4,48 +4,77 @@ use Rattle.system.proofs.layout.entries.Asks.{entry-none, entry-over, e
 use Rattle.system.proofs.layout.entries.entry_of.Statement.{statement}
 use Rattle.system.proofs.layout.entries.entry_of.Tie as tie
 
+-- ---- the places of the code that are behind others: the entry, the symbol's number, its strategy, the strategy's length, the look at the entries before
+
+abbrev entry : tie.After-wide → tie.Start
+entry c = c .before .before .before
+
+abbrev numbered : tie.After-strategy-at → tie.After-wide
+numbered c = c .before .before .before
+
+abbrev found : tie.After-wide2 → tie.After-strategy-at
+found c = c .before .before
+
+abbrev counted : tie.After-stood-before → tie.After-wide2
+counted c = c .before .before
+
+abbrev looked : tie.After-wide3 → tie.After-stood-before
+looked c = c .before .before .before
+
+-- ---- the needs
+
 returns : tie.Need-returns
 returns c =
-    let a = c .before .before .before .before .before .args in
-    entry-none (a .book .now) (a .shape) (c .before .before .before .before .before .pre .0) (a .w) (c .before .before .wide .result) (a .f) (a .c) (c .before .before .wide .ensures .0)
-    (c .if1 .taken)
+    let e = entry (c .before .before) in
+    let a = e .args in
+    let f = c .before .before .wide in
+    entry-none (a .book .now) (a .shape) (e .pre .0) (a .w) (f .result) (a .f) (a .c) (f .ensures .0) (c .if1 .taken)
 
 returns-2 : tie.Need-returns-2
 returns-2 c =
-    let a = c .before .before .before .before .before .before .before .before .before .args in
-    let f = c .before .before .before .before .before .before .wide in
-    let k = c .before .before .before .strategy-at in
+    let p = found (c .before) in
+    let a = entry (numbered p) .args in
+    let f = numbered p .wide in
+    let k = p .strategy-at in
     let n = c .before .wide2 in
     entry-over (a .book .now) (a .w) (f .result) (k .result) (a .f) (a .c) (n .result) (f .ensures .0) (k .ensures) (n .ensures .0) (c .if2 .taken)
 
 returns-3 : tie.Need-returns-3
 returns-3 c =
-    let a = c .before .before .before .before .before .before .before .before .before .before .before .args in
-    let f = c .before .before .before .before .before .before .before .before .wide in
-    let k = c .before .before .before .before .before .strategy-at in
-    let n = c .before .before .before .wide2 in
+    let p = found (counted (c .before)) in
+    let a = entry (numbered p) .args in
+    let f = numbered p .wide in
+    let k = p .strategy-at in
+    let n = counted (c .before) .wide2 in
+    let s = c .before .stood-before in
     entry-repeated (a .book .now) (a .w) (f .result) (k .result) (a .f) (a .c) (n .result) (f .ensures .0) (k .ensures) (n .ensures .0) (c .before .before .if2 .left)
-    (c .before .stood-before .result) (c .before .stood-before .ensures) (c .if3 .taken)
+    (s .result) (s .ensures) (c .if3 .taken)
 
 returns-4 : tie.Need-returns-4
 returns-4 c =
-    let a = c .before .before .before .before .before .before .before .before .before .before .before .before .before .before .args in
-    let f = c .before .before .before .before .before .before .before .before .before .before .before .wide in
-    let k = c .before .before .before .before .before .before .before .before .strategy-at in
-    let n = c .before .before .before .before .before .before .wide2 in
-    entry-zero (a .book .now) (a .w) (f .result) (k .result) (a .f) (a .c) (n .result) (f .ensures .0) (k .ensures) (n .ensures .0) (c .before .before .before .before .before .if2 .left)
-    (c .before .before .before .before .stood-before .result) (c .before .before .before .before .stood-before .ensures) (c .before .before .before .if3 .left) (c .before .wide3 .result)
-    (c .before .wide3 .ensures .0) (c .if4 .taken)
+    let q = looked (c .before) in
+    let p = found (counted q) in
+    let a = entry (numbered p) .args in
+    let f = numbered p .wide in
+    let k = p .strategy-at in
+    let n = counted q .wide2 in
+    let s = q .stood-before in
+    let e = c .before .wide3 in
+    entry-zero (a .book .now) (a .w) (f .result) (k .result) (a .f) (a .c) (n .result) (f .ensures .0) (k .ensures) (n .ensures .0) (q .before .if2 .left)
+    (s .result) (s .ensures) (c .before .before .before .if3 .left) (e .result) (e .ensures .0) (c .if4 .taken)
 
 returns-5 : tie.Need-returns-5
 returns-5 c =
-    let a = c .before .before .before .before .before .before .before .before .before .before .before .before .before .before .args in
-    let f = c .before .before .before .before .before .before .before .before .before .before .before .wide in
-    let k = c .before .before .before .before .before .before .before .before .strategy-at in
-    let n = c .before .before .before .before .before .before .wide2 in
-    entry-more (a .book .now) (a .w) (f .result) (k .result) (a .f) (a .c) (n .result) (f .ensures .0) (k .ensures) (n .ensures .0) (c .before .before .before .before .before .if2 .left)
-    (c .before .before .before .before .stood-before .result) (c .before .before .before .before .stood-before .ensures) (c .before .before .before .if3 .left) (c .before .wide3 .result)
-    (c .before .wide3 .ensures .0) (c .if4 .left)
+    let q = looked (c .before) in
+    let p = found (counted q) in
+    let a = entry (numbered p) .args in
+    let f = numbered p .wide in
+    let k = p .strategy-at in
+    let n = counted q .wide2 in
+    let s = q .stood-before in
+    let e = c .before .wide3 in
+    entry-more (a .book .now) (a .w) (f .result) (k .result) (a .f) (a .c) (n .result) (f .ensures .0) (k .ensures) (n .ensures .0) (q .before .if2 .left)
+    (s .result) (s .ensures) (c .before .before .before .if3 .left) (e .result) (e .ensures .0) (c .if4 .left)
 
 pub entry-of-spec : {M : Type 1} → statement M
 entry-of-spec =

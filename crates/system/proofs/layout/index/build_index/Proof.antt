@@ -16,6 +16,16 @@ Inv-loop book shape marks₀ j₀ index j = Indexing book index j × (shape .sym
 abbrev μ-loop : tie.MeasureT-loop
 μ-loop book shape marks₀ j₀ index j = 64 - j
 
+-- ---- the places of the code that are behind others: the entry, the loop's head
+
+abbrev entry : tie.At-loop Inv-loop μ-loop → tie.Start Inv-loop μ-loop
+entry c = c .before .before .before
+
+abbrev head : tie.After-slice-known2 Inv-loop μ-loop → tie.At-loop Inv-loop μ-loop
+head c = c .before .before .before
+
+-- ---- the needs
+
 loop-holds : tie.Need-loop-holds Inv-loop μ-loop
 loop-holds c =
     let a = c .before .before .args in
@@ -26,28 +36,29 @@ loop-holds c =
 
 walk-on-requires : tie.Need-walk-on-requires Inv-loop μ-loop
 walk-on-requires c κs =
-    let l = c .before .before .before .loop in
+    let l = head c .loop in
     let m = l .inv .0 in
     let some = m .some in
-    (c .before .before .before .before .before .before .pre .0, m .suffix (l .j - 1) (omega arith), omega arith, c .before .if1 .taken)
+    (entry (head c) .pre .0, m .suffix (l .j - 1) (omega arith), omega arith, c .before .if1 .taken)
 
 loop-again : tie.Need-loop-again Inv-loop μ-loop
 loop-again c =
-    let a = c .before .before .before .before .before .before .before .args in
-    let l = c .before .before .before .before .loop in (
-      marking-next (a .book .now) (a .shape) (c .before .before .before .before .before .before .before .pre .0) (l .index) (l .j) (l .inv .0) (c .walk-on .result) (omega arith)
-          (c .walk-on .ensures),
+    let e = entry (head (c .before)) in
+    let a = e .args in
+    let l = head (c .before) .loop in (
+      marking-next (a .book .now) (a .shape) (e .pre .0) (l .index) (l .j) (l .inv .0) (c .walk-on .result) (omega arith) (c .walk-on .ensures),
       l .inv .1,
     )
 
 same-length : tie.Need-same-length Inv-loop μ-loop
-same-length c = c .before .before .loop .inv .0 .slots ∙ sym (c .before .before .before .before .before .pre .1)
+same-length c = let h = c .before .before in h .loop .inv .0 .slots ∙ sym (entry h .pre .1)
 
 returns : tie.Need-returns Inv-loop μ-loop
 returns c =
-    let a = c .before .before .before .before .before .args in
+    let e = entry (c .before .before) in
+    let a = e .args in
     let l = c .before .before .loop in
-    marking-end (a .book .now) (a .shape) (c .before .before .before .before .before .pre .0) (l .index) (l .j) (l .inv .0) (c .if1 .left)
+    marking-end (a .book .now) (a .shape) (e .pre .0) (l .index) (l .j) (l .inv .0) (c .if1 .left)
 
 pub build-index-spec : {M : Type 1} → statement M
 build-index-spec =

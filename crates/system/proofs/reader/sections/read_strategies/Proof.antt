@@ -19,31 +19,43 @@ Inv-loop book at n i₀ k₀ i k = (k ≤ n) × (n ≡ length (signatureOf book)
 abbrev μ-loop : tie.MeasureT-loop
 μ-loop book at n i₀ k₀ i k = n - k
 
+-- ---- the places of the code that are behind others: the entry, the loop's head
+
+abbrev entry : tie.At-loop Inv-loop μ-loop → tie.Start Inv-loop μ-loop
+entry c = c .before .before .before
+
+abbrev head : tie.After-read-strategy Inv-loop μ-loop → tie.At-loop Inv-loop μ-loop
+head c = c .before .before .before .before
+
+-- ---- the needs
+
 loop-holds : tie.Need-loop-holds Inv-loop μ-loop
 loop-holds c = (omega arith, c .symbols .ensures, omega arith, refl)
 
 mul-wide : tie.Need-mul-wide Inv-loop μ-loop
 mul-wide c = let l = c .before .loop in
-    let a = c .before .before .before .before .args in
+    let a = entry (c .before) .args in
     let h = signature-room (a .book .now) (l .k) (omega arith) in
     search needs
 
 shared-slice-read-wide : tie.Need-shared-slice-read-wide Inv-loop μ-loop
 shared-slice-read-wide c = let l = c .before .before .loop in
-    let a = c .before .before .before .before .before .args in
+    let a = entry (c .before .before) .args in
     signature-room (a .book .now) (l .k) (omega arith)
 
 returns : tie.Need-returns Inv-loop μ-loop
-returns c = let l = c .before .before .before .before .before .before .loop in
-    let a = c .before .before .before .before .before .before .before .before .before .args in
+returns c = let s = head (c .before .before) in
+    let l = s .loop in
+    let a = entry s .args in
     let ws = a .book .now in
     let h : l .k < length (signatureOf ws) = omega arith in
     let e = c .before .before .read-strategy .ensures .0 ∙ ap (λ n. sectionOf (readStrategy ws n (l .i))) (c .before .before .before .wide .ensures .0 ∙ sym (signature-word ws (l .k) h)) in
     (sym (each-stop (readStrategy ws) (signatureOf ws) (l .k) (l .i) h (c .before .before .read-strategy .result) e (c .if1 .taken)) ∙ l .inv .3, c .before .before .read-strategy .ensures .1)
 
 loop-again : tie.Need-loop-again Inv-loop μ-loop
-loop-again c = let l = c .before .before .before .before .before .before .loop in
-    let a = c .before .before .before .before .before .before .before .before .before .args in
+loop-again c = let s = head (c .before .before) in
+    let l = s .loop in
+    let a = entry s .args in
     let ws = a .book .now in
     let h : l .k < length (signatureOf ws) = omega arith in
     let e = c .before .before .read-strategy .ensures .0 ∙ ap (λ n. sectionOf (readStrategy ws n (l .i))) (c .before .before .before .wide .ensures .0 ∙ sym (signature-word ws (l .k) h)) in (
@@ -55,7 +67,7 @@ loop-again c = let l = c .before .before .before .before .before .before .loop i
 
 returns-2 : tie.Need-returns-2 Inv-loop μ-loop
 returns-2 c = let l = c .before .loop in
-    let a = c .before .before .before .before .args in
+    let a = entry (c .before) .args in
     (sym (each-end (readStrategy (a .book .now)) (signatureOf (a .book .now)) (l .k) (l .i) (omega arith)) ∙ l .inv .3, omega arith)
 
 pub read-strategies-spec : {M : Type 1} → statement M

@@ -10,9 +10,19 @@ use borrow.Author.Needs.{needs}
 use Rattle.system.proofs.reader.sections.read_strategy.Statement.{statement}
 use Rattle.system.proofs.reader.sections.read_strategy.Tie as tie
 
+-- ---- the places of the code that are behind others: the start, the length checked
+
+abbrev start : tie.Else1 → tie.Start
+start c = c .before .before .before
+
+abbrev checked : tie.After-read-numbers → tie.Else1
+checked c = c .before .before .before
+
 -- the length is in its range
-size : (c : tie.Else1) → Inside (c .before .before .before .args .book .now) (c .before .before .before .args .at) 0 16
+size : (c : tie.Else1) → Inside (start c .args .book .now) (start c .args .at) 0 16
 size c = c .before .check .ensures .1 (c .if1 .left)
+
+-- ---- the needs
 
 returns : tie.Need-returns
 returns c = let a = c .before .before .before .args in
@@ -33,11 +43,11 @@ read-numbers-requires c κs = let h = size (c .before .before) .here in
     omega arith
 
 returns-2 : tie.Need-returns-2
-returns-2 c = let a = c .before .before .before .before .before .before .args in
+returns-2 c = let a = start (checked c) .args in
     let w = c .before .wide .ensures .0 in (
       c .read-numbers .ensures .0 entry refl
           ∙ ap (λ k. sectionOf (times k (number (a .book .now) entry 0 (a .arity)) (a .at + 1))) w
-          ∙ sym (strategy-entries (a .book .now) (a .arity) (a .at) (size (c .before .before .before))),
+          ∙ sym (strategy-entries (a .book .now) (a .arity) (a .at) (size (checked c))),
       c .read-numbers .ensures .1,
     )
 

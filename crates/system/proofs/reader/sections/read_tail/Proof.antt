@@ -12,18 +12,26 @@ use borrow.Author.Needs.{needs}
 use Rattle.system.proofs.reader.sections.read_tail.Statement.{statement}
 use Rattle.system.proofs.reader.sections.read_tail.Tie as tie
 
+-- ---- the places of the code that are behind others: the entry, the count checked
+
+abbrev entry : tie.Else1 → tie.Start
+entry c = c .before .before .before
+
+abbrev checked : tie.After-read-rules → tie.Else1
+checked c = c .before .before .before
+
 -- the count is in its range
-count : (c : tie.Else1) → Inside (c .before .before .before .args .book .now) (c .before .before .before .args .at) 0 128
+count : (c : tie.Else1) → Inside (entry c .args .book .now) (entry c .args .at) 0 128
 count c = c .before .check .ensures .1 (c .if1 .left)
 
 -- the rules, as many as the count says
-rules : (c : tie.After-read-rules) → c .read-rules .result ≡
-    sectionOf (times (getD (c .before .before .before .before .before .before .args .book .now) (c .before .before .before .before .before .before .args .at) 0)
-    (readRule (c .before .before .before .before .before .before .args .book .now) (signatureOf (c .before .before .before .before .before .before .args .book .now)))
-    (c .before .before .before .before .before .before .args .at + 1))
+rules : (c : tie.After-read-rules) → let a = entry (checked c) .args in
+    c .read-rules .result ≡ sectionOf (times (getD (a .book .now) (a .at) 0) (readRule (a .book .now) (signatureOf (a .book .now))) (a .at + 1))
 rules c =
-    let a = c .before .before .before .before .before .before .args in
+    let a = entry (checked c) .args in
     c .read-rules .ensures .0 ∙ ap (λ k. sectionOf (times k (readRule (a .book .now) (signatureOf (a .book .now))) (a .at + 1))) (c .before .wide .ensures .0)
+
+-- ---- the needs
 
 returns : tie.Need-returns
 returns c = let a = c .before .before .before .args in
@@ -44,27 +52,24 @@ read-rules-requires c κs = let h = count (c .before .before) .here in
     omega arith
 
 returns-2 : tie.Need-returns-2
-returns-2 c = let a = c .before .before .before .before .before .before .before .before .args in
-    let t = c .before .before .read-rules in
-    (sym (rules-bad (a .book .now) (signatureOf (a .book .now)) (a .at) (count (c .before .before .before .before .before)) (t .result) (rules (c .before .before)) (c .if2 .taken)), t .ensures .1)
+returns-2 c = let q = c .before .before in
+    let a = entry (checked q) .args in
+    let t = q .read-rules in
+    (sym (rules-bad (a .book .now) (signatureOf (a .book .now)) (a .at) (count (checked q)) (t .result) (rules q) (c .if2 .taken)), t .ensures .1)
 
 returns-3 : tie.Need-returns-3
 returns-3 c =
-    let c4 = c .before .before .before .before in
-    let c7 = c4 .before .before .before in
-    let c10 = c7 .before .before .before in
-    let a = c10 .args in
-    let t = c4 .read-rules in
-    (sym (rules-surplus (a .book .now) (signatureOf (a .book .now)) (a .at) (count c7) (t .result) (rules c4) (c .before .before .if2 .left) (c .if3 .taken)), t .ensures .1)
+    let q = c .before .before .before .before in
+    let a = entry (checked q) .args in
+    let t = q .read-rules in
+    (sym (rules-surplus (a .book .now) (signatureOf (a .book .now)) (a .at) (count (checked q)) (t .result) (rules q) (c .before .before .if2 .left) (c .if3 .taken)), t .ensures .1)
 
 returns-4 : tie.Need-returns-4
 returns-4 c =
-    let c4 = c .before .before .before .before in
-    let c7 = c4 .before .before .before in
-    let c10 = c7 .before .before .before in
-    let a = c10 .args in
-    let t = c4 .read-rules in
-    (sym (rules-end (a .book .now) (signatureOf (a .book .now)) (a .at) (count c7) (t .result) (rules c4) (c .before .before .if2 .left) (c .if3 .left)), t .ensures .1)
+    let q = c .before .before .before .before in
+    let a = entry (checked q) .args in
+    let t = q .read-rules in
+    (sym (rules-end (a .book .now) (signatureOf (a .book .now)) (a .at) (count (checked q)) (t .result) (rules q) (c .before .before .if2 .left) (c .if3 .left)), t .ensures .1)
 
 pub read-tail-spec : {M : Type 1} → statement M
 read-tail-spec =

@@ -12,9 +12,19 @@ use borrow.Author.Needs.{needs}
 use Rattle.system.proofs.reader.sides.read_side.Statement.{statement}
 use Rattle.system.proofs.reader.sides.read_side.Tie as tie
 
+-- ---- the places of the code that are behind others: the entry, the length checked
+
+abbrev entry : tie.Else1 → tie.Start
+entry c = c .before .before .before
+
+abbrev checked : tie.After-read-words → tie.Else1
+checked c = c .before .before .before
+
 -- the length is in its range
-size : (c : tie.Else1) → Inside (c .before .before .before .args .book .now) (c .before .before .before .args .at) 1 64
+size : (c : tie.Else1) → Inside (entry c .args .book .now) (entry c .args .at) 1 64
 size c = c .before .check .ensures .1 (c .if1 .left)
+
+-- ---- the needs
 
 returns : tie.Need-returns
 returns c = let a = c .before .before .before .args in (
@@ -38,11 +48,11 @@ read-words-requires c κs = let h = size (c .before .before) .here in
     omega arith
 
 returns-2 : tie.Need-returns-2
-returns-2 c = let a = c .before .before .before .before .before .before .args in
+returns-2 c = let a = entry (checked c) .args in
     let w = c .before .wide .ensures .0 in (
       c .read-words .ensures .0
           ∙ ap (λ k. sideOf (readWords (a .book .now) (signatureOf (a .book .now)) (a .role) true k 1 (a .known) (a .at + 1))) w
-          ∙ sym (side-words (a .book .now) (signatureOf (a .book .now)) (a .role) (a .known) (a .at) (size (c .before .before .before))),
+          ∙ sym (side-words (a .book .now) (signatureOf (a .book .now)) (a .role) (a .known) (a .at) (size (checked c))),
       c .read-words .ensures .1,
     )
 

@@ -21,57 +21,65 @@ Inv-loop book at n role known due₀ seen₀ j₀ due seen j = (j ≤ n) × (at 
 abbrev μ-loop : tie.MeasureT-loop
 μ-loop book at n role known due₀ seen₀ j₀ due seen j = n - j
 
+-- ---- the places of the code that are behind others: the entry, the loop's head
+
+abbrev entry : tie.At-loop Inv-loop μ-loop → tie.Start Inv-loop μ-loop
+entry c = c .before .before
+
+abbrev head : tie.After-side-fault Inv-loop μ-loop → tie.At-loop Inv-loop μ-loop
+head c = c .before .before .before .before
+
+-- ---- the needs
+
 loop-holds : tie.Need-loop-holds Inv-loop μ-loop
 loop-holds c = let a = c .before .args in
     (omega arith, omega arith, omega arith, omega arith, words-start (a .book .now) (signatureOf (a .book .now)) (a .role) (a .n) 1 (a .known) (a .at) 0 refl)
 
 returns : tie.Need-returns Inv-loop μ-loop
 returns c =
-    let c4 = c .before .before .before .before in
     let l = c .before .before .loop in
-    let a = c4 .args in (
+    let a = entry (c .before .before) .args in (
       sym (words-missing (a .book .now) (signatureOf (a .book .now)) (a .role) (eqb (l .j) 0) (a .n - l .j) (l .due) (l .seen) (a .at + l .j) (omega arith) (c .if1 .taken)) ∙ l .inv .4,
       (omega arith, omega arith),
     )
 
 returns-2 : tie.Need-returns-2 Inv-loop μ-loop
 returns-2 c =
-    let c5 = c .before .before .before .before .before in
-    let c7 = c5 .before .before in
-    let l = c5 .loop in
-    let a = c7 .args in (
+    let s = head (c .before) in
+    let l = s .loop in
+    let a = entry s .args in (
       sym (words-fault (a .book .now) (signatureOf (a .book .now)) (a .role) (eqb (l .j) 0) (a .n - l .j) (l .due) (l .seen) (a .at + l .j) (omega arith) (omega arith)
           (c .before .side-fault .result) (c .before .side-fault .ensures) (c .if2 .taken)) ∙ l .inv .4,
       (omega arith, omega arith),
     )
 
 sub-due : tie.Need-sub-due Inv-loop μ-loop
-sub-due c = let l = c .before .before .before .before .before .loop in
-    let a = c .before .before .before .before .before .before .before .args in
+sub-due c = let s = head (c .before) in
+    let l = s .loop in
+    let a = entry s .args in
     let h = side-open (signatureOf (a .book .now)) (a .role) (eqb (l .j) 0) (l .due) (l .seen) (getD (a .book .now) (a .at + l .j) 0) (sym (c .before .side-fault .ensures) ∙ c .if2 .left) in
     omega arith
 
 loop-again : tie.Need-loop-again Inv-loop μ-loop
 loop-again c =
-    let c7 = c .before .before .before .before .before .before .before in
-    let c9 = c7 .before .before in
-    let l = c7 .loop in
-    let a = c9 .args in
+    let f = c .before .before .before .side-fault in
+    let s = head (c .before .before .before) in
+    let l = s .loop in
+    let a = entry s .args in
     let g = signatureOf (a .book .now) in
     let w = getD (a .book .now) (a .at + l .j) 0 in
-    let h = side-open g (a .role) (eqb (l .j) 0) (l .due) (l .seen) w (sym (c .before .before .before .side-fault .ensures) ∙ c .before .before .if2 .left) in
-    let t = words-turn (a .book .now) g (a .role) (a .n) (l .due) (l .seen) (a .at) (l .j) (omega arith) (omega arith) (c .before .before .before .side-fault .result)
+    let h = side-open g (a .role) (eqb (l .j) 0) (l .due) (l .seen) w (sym (f .ensures) ∙ c .before .before .if2 .left) in
+    let t = words-turn (a .book .now) g (a .role) (a .n) (l .due) (l .seen) (a .at) (l .j) (omega arith) (omega arith) (f .result)
     (c .before .arity .result) (c .learn .result)
-    (c .before .before .before .side-fault .ensures) (c .before .before .if2 .left) (c .before .arity .ensures .0) (c .learn .ensures .0) in
+    (f .ensures) (c .before .before .if2 .left) (c .before .arity .ensures .0) (c .learn .ensures .0) in
     let k = c .learn .ensures .1 in
     let r = c .before .arity .ensures .1 in
     (omega arith, omega arith, omega arith, omega arith, sym t ∙ l .inv .4)
 
 returns-3 : tie.Need-returns-3 Inv-loop μ-loop
 returns-3 c =
-    let c4 = c .before .before .before .before in
     let l = c .before .before .loop in
-    let a = c4 .args in
+    let a = entry (c .before .before) .args in
     let e : a .at + l .j ≡ a .at + a .n = omega arith in (
       rw (← e) (sym (words-short (a .book .now) (signatureOf (a .book .now)) (a .role) (eqb (l .j) 0) (a .n - l .j) (l .due) (l .seen) (a .at + l .j) (omega arith) (omega arith))
           ∙ l .inv .4),
@@ -80,9 +88,8 @@ returns-3 c =
 
 returns-4 : tie.Need-returns-4 Inv-loop μ-loop
 returns-4 c =
-    let c4 = c .before .before .before .before in
     let l = c .before .before .loop in
-    let a = c4 .args in
+    let a = entry (c .before .before) .args in
     let e : a .at + l .j ≡ a .at + a .n = omega arith in (
       rw (← e) (sym (words-done (a .book .now) (signatureOf (a .book .now)) (a .role) (eqb (l .j) 0) (a .n - l .j) (l .due) (l .seen) (a .at + l .j) (omega arith) (omega arith))
           ∙ l .inv .4),

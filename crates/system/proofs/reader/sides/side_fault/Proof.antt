@@ -10,42 +10,49 @@ use borrow.Author.Needs.{needs}
 use Rattle.system.proofs.reader.sides.side_fault.Statement.{statement}
 use Rattle.system.proofs.reader.sides.side_fault.Tie as tie
 
+-- ---- the places of the code that are behind others: the entry, whether the word is a symbol
+
+abbrev entry : tie.After-is-symbol → tie.Start
+entry c = c .before .before .before
+
+abbrev asked : tie.After-wide → tie.After-is-symbol
+asked c = c .before .before
+
+-- ---- the needs
+
 returns : tie.Need-returns
 returns c = let a = c .before .before .args in
     sym (ap numberOr0 (side-complete (signatureOf (a .book .now)) (a .role) (a .first) (a .due) (a .known) (a .w) (c .if1 .taken)))
 
 returns-2 : tie.Need-returns-2
-returns-2 c = let a = c .before .before .before .before .args in
+returns-2 c = let a = entry (c .before) .args in
     sym (ap numberOr0 (side-symbol (signatureOf (a .book .now)) (a .role) (a .first) (a .due) (a .known) (a .w) (omega arith) (sym (c .before .is-symbol .ensures) ∙ c .if2 .taken)))
 
 returns-3 : tie.Need-returns-3
 returns-3 c =
-    let c6 = c .before .before .before .before .before .before in
-    let a = c6 .args in
+    let s = asked (c .before) in
+    let a = entry s .args in
     let w = c .before .wide .ensures in
     sym (ap numberOr0 (side-low (signatureOf (a .book .now)) (a .role) (a .first) (a .due) (a .known) (a .w) (omega arith)
-    (sym (c .before .before .before .is-symbol .ensures) ∙ c .before .before .if2 .left) (omega arith)))
+    (sym (s .is-symbol .ensures) ∙ c .before .before .if2 .left) (omega arith)))
 
 returns-4 : tie.Need-returns-4
 returns-4 c =
-    let c4 = c .before .before .before .before in
-    let c7 = c4 .before .before .before in
-    let a = c7 .args in
+    let s = asked (c .before .before) in
+    let a = entry s .args in
     let w = c .before .before .wide .ensures in
     sym (ap numberOr0 (side-high (signatureOf (a .book .now)) (a .role) (a .first) (a .due) (a .known) (a .w) (omega arith)
-    (sym (c4 .is-symbol .ensures) ∙ c .before .before .before .if2 .left) (omega arith)))
+    (sym (s .is-symbol .ensures) ∙ c .before .before .before .if2 .left) (omega arith)))
 
 returns-5 : tie.Need-returns-5
 returns-5 c =
-    let c4 = c .before .before .before .before in
-    let c5 = c4 .before in
-    let c8 = c5 .before .before .before in
-    let a = c8 .args in
+    let s = asked (c .before .before .before) in
+    let a = entry s .args in
     let w = c .before .before .before .wide .ensures in
     c .variable-fault .ensures
     ∙ ap (λ k. numberOr0 (variableFault (a .role) (a .first) (a .known) (k - 32768))) (w .0)
-    ∙ sym (ap numberOr0 (side-variable (signatureOf (a .book .now)) (a .role) (a .first) (a .due) (a .known) (a .w) (omega arith) (sym (c5 .is-symbol .ensures) ∙ c4 .if2 .left)
-    (omega arith) (omega arith)))
+    ∙ sym (ap numberOr0 (side-variable (signatureOf (a .book .now)) (a .role) (a .first) (a .due) (a .known) (a .w) (omega arith)
+    (sym (s .is-symbol .ensures) ∙ c .before .before .before .before .if2 .left) (omega arith) (omega arith)))
 
 pub side-fault-spec : {M : Type 1} → statement M
 side-fault-spec =
