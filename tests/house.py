@@ -10,7 +10,7 @@ import sys
 LINE = {"src": 150, "specs": 150, "proofs": 200}  # characters
 FILE = 300  # lines of a file of proofs
 BODY = 40  # lines of a function's body
-CHAIN = 18  # places of the code that a proof goes back by `.before` in one go: further back, they are named
+CHAIN = 5  # places of the code that a proof goes back by `.before` in one go: further back, they are named
 PARAMETERS = 6
 # document 01 asks for both loops in one function; two pairs of buffers are lent to one call
 LONG_BODY = {"first_rule"}

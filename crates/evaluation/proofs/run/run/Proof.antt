@@ -19,10 +19,17 @@ Inv-loop book shape term limit area₀ index positions₀ n₀ level₀ steps₀
 abbrev μ-loop : tie.MeasureT-loop
 μ-loop book shape term limit area₀ index positions₀ n₀ level₀ steps₀ area positions n level steps = limit - steps
 
--- ---- the places of the code that are behind others: the entry, the loop's head, `advance`, a rewrite that is next
+-- ---- the places of the code that are behind others: the call, the area started, the entry, the loop's head, `advance`, a rewrite that is
+-- next, one that would be too long, one that was made
+
+abbrev call : tie.After-start Inv-loop μ-loop → tie.Start Inv-loop μ-loop
+call c = c .before .before .before .before .before
+
+abbrev started : tie.After-index Inv-loop μ-loop → tie.After-start Inv-loop μ-loop
+started c = c .before .before .before
 
 abbrev entry : tie.At-loop Inv-loop μ-loop → tie.Start Inv-loop μ-loop
-entry c = c .before .before .before .before .before .before .before .before .before .before .before
+entry c = call (started (c .before .before .before))
 
 abbrev head : tie.After-advance Inv-loop μ-loop → tie.At-loop Inv-loop μ-loop
 head c = c .before .before .before .before
@@ -32,6 +39,12 @@ advanced c = c .before .before .before
 
 abbrev next : tie.After-rewrite Inv-loop μ-loop → tie.After-enum-told3 Inv-loop μ-loop
 next c = c .before .before .before .before
+
+abbrev refused : tie.After-enum-told4 Inv-loop μ-loop → tie.After-rewrite Inv-loop μ-loop
+refused c = c .before .before .before .before
+
+abbrev made : tie.After-known-told Inv-loop μ-loop → tie.After-rewrite Inv-loop μ-loop
+made c = c .before .before .before .before .before
 
 -- the round, read once
 abbrev round : tie.After-advance Inv-loop μ-loop → Round
@@ -81,20 +94,22 @@ rewrote : (c : tie.After-rewrite Inv-loop μ-loop) → Goes (round (advanced (ne
 rewrote c = goes (round (advanced (next c .before .before))) (before (next c)) (omega (arith, c .before .before .before .if1 .left)) (c .rewrite .result) _ (c .rewrite .ensures)
 
 -- the term would be too long
-longer : (c : tie.After-enum-told4 Inv-loop μ-loop) → let r = c .before .before .before .before in
+longer : (c : tie.After-enum-told4 Inv-loop μ-loop) → let r = refused c in
     Stops (round (advanced (next r .before .before))) overlong (r .rewrite .last .1 .0)
-longer c = let r = c .before .before .before .before in subst (Goes (round (advanced (next r .before .before))) (r .rewrite .last .1 .0)) (c .enum-told4 .given .1) (rewrote r)
+longer c = let r = refused c in subst (Goes (round (advanced (next r .before .before))) (r .rewrite .last .1 .0)) (c .enum-told4 .given .1) (rewrote r)
+
+-- ---- the needs
 
 start-requires : tie.Need-start-requires Inv-loop μ-loop
 start-requires c κs = let q = c .before .before .before .before .pre in (omega (arith, q .bounded), q .words)
 
 build-index-requires : tie.Need-build-index-requires Inv-loop μ-loop
-build-index-requires c κs = (c .before .before .before .before .before .before .before .before .pre .accepted, refl)
+build-index-requires c κs = (call (started c) .pre .accepted, refl)
 
 loop-holds : tie.Need-loop-holds Inv-loop μ-loop
 loop-holds c =
-    let t = c .before .before .before .before .before in
-    let e = t .before .before .before .before .before in
+    let t = started (c .before .before) in
+    let e = call t in
     let a = e .args in
     let wf = well (a .book .now) (a .shape) (e .pre .accepted) in
     running-start (systemOf (a .book .now)) wf (a .limit) (a .term .now) (t .start .last .0) _ (e .pre .whole) (e .pre .bounded) (t .start .ensures) refl refl
@@ -161,21 +176,21 @@ outcome-requires-4 c κs = tt
 same-length-4 : tie.Need-same-length-4 Inv-loop μ-loop
 same-length-4 c =
     let s = c .before .before .before in
-    let r = s .before .before .before .before .before .before in
+    let r = refused (s .before .before) in
     s .clear-state3 .kept .0 ∙ r .rewrite .kept .1 .0 ∙ same-area (advanced (next r .before .before))
 
 returns-4 : tie.Need-returns-4 Inv-loop μ-loop
 returns-4 c = let s = c .before .before .before in ends-stopped (longer (s .before .before)) (c .outcome4 .result) _ (c .outcome4 .ensures) (s .clear-state3 .ensures)
 
 add-steps : tie.Need-add-steps Inv-loop μ-loop
-add-steps c = let r = c .before .before .before .before .before in omega (arith, r .before .before .before .if1 .left, entry (head (advanced (next r .before .before))) .fits .limit)
+add-steps c = let r = made c in omega (arith, r .before .before .before .if1 .left, entry (head (advanced (next r .before .before))) .fits .limit)
 
 loop-less : tie.Need-loop-less Inv-loop μ-loop
-loop-less c = let l = c .before .before .before .before .before .before .before .before .if1 .left in omega arith
+loop-less c = let l = made c .before .before .before .if1 .left in omega arith
 
 loop-again : tie.Need-loop-again Inv-loop μ-loop
 loop-again c =
-    let r = c .before .before .before .before .before in
+    let r = made c in
     subst (Goes (round (advanced (next r .before .before))) (r .rewrite .last .1 .0)) (c .before .r .given .1) (rewrote r)
 
 pub run-spec : {M : Type 1} → statement M

@@ -13,17 +13,31 @@ use Rattle.evaluation.proofs.Expanding.{size-bounded, whole-length, who
 use Rattle.evaluation.proofs.scanned.expand_scanned.Statement.{statement}
 use Rattle.evaluation.proofs.scanned.expand_scanned.Tie as tie
 
+-- ---- the places of the code that are behind others: the call, seen from where the room is checked, from where all is, and from where
+-- all is passed; the evaluation run; the answer finished
+
+abbrev call : tie.After-room → tie.Start
+call c = c .before .before .before .before .before
+
 abbrev start : tie.After-earlier → tie.Start
-start c = c .before .before .before .before .before .before .before
+start c = call (c .before .before)
+
+abbrev entry : tie.Else1 → tie.Start
+entry c = start (c .before .before)
+
+abbrev evaluated : tie.After-finish-arg2 → tie.After-run
+evaluated c = c .before .before .before .before
+
+abbrev finished : tie.After-slice-known5 → tie.After-finish
+finished c = c .before .before .before .before
+
+-- ---- what is known there
 
 -- the first of the checks that refuses
 first : (c : tie.After-earlier) → let a = start c .args in c .earlier .result ≡ checked (a .book .now) (a .term .now) (a .out .now) (a .work .now)
 first c = c .earlier .ensures ∙ (λ i. earlier (c .before .before .room .ensures i) (c .before .check .ensures i))
 
 -- none does
-abbrev entry : tie.Else1 → tie.Start
-entry c = start (c .before .before)
-
 passes : (c : tie.Else1) → let a = entry c .args in Passed (a .book .now) (a .term .now) (a .out .now) (a .work .now)
 passes c = passed _ _ _ _ (sym (ap (λ y. y .number) (first (c .before .before))) ∙ c .if1 .left)
 
@@ -33,6 +47,8 @@ good c = let a = entry c .args in checks (a .book .now) (a .term .now) (passes c
 -- the lent part came back with its length
 ran : (c : tie.After-run) → length (c .run .last .1 .1 .1 .1 .0) ≡ 8192
 ran c = let d = c .before .before in c .run .kept .1 .1 .1 .1 .0 ∙ length-take-le 8192 (entry d .args .work .now) (passes d .room-work)
+
+-- ---- the needs
 
 returns : tie.Need-returns
 returns c =
@@ -58,7 +74,7 @@ run-requires c κs =
 
 finish-requires : tie.Need-finish-requires
 finish-requires c κs =
-    let q = c .before .before .before .before in
+    let q = evaluated c in
     let d = q .before .before in
     let a = entry d .args in
     let p = passes d in
@@ -69,8 +85,8 @@ finish-requires c κs =
 
 returns-2 : tie.Need-returns-2
 returns-2 c =
-    let f = c .before .before .before .before in
-    let q = f .before .before .before .before .before in
+    let f = finished c in
+    let q = evaluated (f .before) in
     let d = q .before .before in
     let a = entry d .args in
     let p = passes d in
@@ -87,4 +103,4 @@ expand-scanned-spec =
     run-requires finish-requires (λ c. search needs) (λ c. search needs) returns-2)
   where
     check-requires : tie.Need-check-requires
-    check-requires c κs = c .before .before .before .before .before .pre
+    check-requires c κs = call c .pre

@@ -9,10 +9,20 @@ use borrow.Author.Needs.{needs}
 use Rattle.evaluation.proofs.scanned.finish.Statement.{statement}
 use Rattle.evaluation.proofs.scanned.finish.Tie as tie
 
+-- ---- the places of the code that are behind others: the entry, the answer copied
+
+abbrev entry : tie.After-copy-in-arg2 → tie.Start
+entry c = c .before .before .before .before .before
+
+abbrev copied : tie.After-clear → tie.After-copy-in
+copied c = c .before .before .before .before
+
+-- ---- the needs
+
 returns : tie.Need-returns
 returns c =
-    let k = c .before .before .before .before .before .before in
-    let d = k .before .before .before .before .before .before in
+    let k = copied (c .before .before) in
+    let d = entry (k .before) in
     let a = d .args in
     let words = ap (λ n. over (a .out .now) 0 (take n (a .work .now))) (sub-zero (a .e .size)) in
     let cleared = front-cleared (a .work .now) 8192 (a .e .size) (omega arith) (omega arith) (d .pre .3) in

@@ -12,9 +12,13 @@ use Rattle.machine.proofs.advance.take_transition.Tie as tie
 within : (c : tie.Start) → let a = c .args in Bounds (a .area .now) (a .positions .now) (a .at .n) (a .at .level)
 within c = let a = c .args in bounds (a .book .now) (a .shape) (c .pre .0) (a .area .now) (a .positions .now) (a .at .n) (a .at .level) (c .pre .2)
 
+-- where the position is read
+abbrev entry : tie.After-slice-known3 → tie.Start
+entry c = c .before .before .before .before .before
+
 -- where the count is read
 abbrev reading : tie.After-slice-known4 → tie.Start
-reading c = c .before .before .before .before .before .before
+reading c = entry (c .before)
 
 -- where the entry is known
 abbrev asked : tie.After-entry-of → tie.Start

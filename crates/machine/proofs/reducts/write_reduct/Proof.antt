@@ -13,12 +13,23 @@ Inv-loop book area₀ at base rhs size starts lengths to₀ j₀ area to j =
 abbrev μ-loop : tie.MeasureT-loop
 μ-loop book area₀ at base rhs size starts lengths to₀ j₀ area to j = size - j
 
+-- ---- the places of the code that are behind others: the entry, the loop's head, a variable met
+
+abbrev entry : tie.At-loop Inv-loop μ-loop → tie.Start Inv-loop μ-loop
+entry c = c .before .before .before .before .before
+
+abbrev head : tie.After-wide Inv-loop μ-loop → tie.At-loop Inv-loop μ-loop
+head c = c .before .before .before
+
+abbrev variable : tie.After-slice-known2 Inv-loop μ-loop → tie.Else1 Inv-loop μ-loop
+variable c = c .before .before .before .before
+
 -- the round, read once
 abbrev round : tie.After-wide Inv-loop μ-loop → Round
 round c =
-    let x = c .before .before .before .before .before .before .before .before in
+    let x = entry (head c) in
     let a = x .args in
-    let l = c .before .before .before .loop in
+    let l = head c .loop in
     record {
       book = a .book .now;
       ws₀ = a .area .now;
@@ -32,6 +43,8 @@ round c =
       writing = l .inv;
       here = c .before .before .loop-test .taken;
     }
+
+-- ---- the needs
 
 loop-holds : tie.Need-loop-holds Inv-loop μ-loop
 loop-holds c =
@@ -63,18 +76,20 @@ move-words-requires c κs =
 
 add-to-2 : tie.Need-add-to-2 Inv-loop μ-loop
 add-to-2 c =
-    let w = c .before .before .before .before .before .wide in
-    omega (arith, variable-room (round (c .before .before .before .before .before)) (w .result) (w .ensures .0) (c .before .before .before .before .if1 .left))
+    let v = variable c in
+    let w = v .before .wide in
+    omega (arith, variable-room (round (v .before)) (w .result) (w .ensures .0) (v .if1 .left))
 
 loop-again-2 : tie.Need-loop-again-2 Inv-loop μ-loop
 loop-again-2 c =
-    let k = round (c .before .before .before .before .before) in
-    let w = c .before .before .before .before .before .wide in
-    writes-variable k (w .result) (w .ensures .0) (c .before .before .before .before .if1 .left) _ (c .before .before .move-words .ensures)
+    let v = variable c in
+    let k = round (v .before) in
+    let w = v .before .wide in
+    writes-variable k (w .result) (w .ensures .0) (v .if1 .left) _ (c .before .before .move-words .ensures)
 
 returns : tie.Need-returns Inv-loop μ-loop
 returns c =
-    let x = c .before .before .before .before .before .before in
+    let x = entry (c .before) in
     let a = x .args in
     let l = c .before .loop in
     writing-ends (a .book .now) (a .area .now) (a .c) (a .at) (a .base) (x .pre) (l .to) (l .j) (l .area) (l .inv) (c .loop-test .left)

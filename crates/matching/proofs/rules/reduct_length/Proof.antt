@@ -16,11 +16,20 @@ Inv-loop book rhs size lengths total₀ j₀ total j = (j ≤ size) × (total �
 abbrev μ-loop : tie.MeasureT-loop
 μ-loop book rhs size lengths total₀ j₀ total j = size - j
 
+-- ---- the places of the code that are behind others: the entry, the loop's head
+
+abbrev entry : tie.At-loop Inv-loop μ-loop → tie.Start Inv-loop μ-loop
+entry c = c .before .before
+
+abbrev head : tie.After-wide Inv-loop μ-loop → tie.At-loop Inv-loop μ-loop
+head c = c .before .before .before
+
+-- ---- the needs
+
 loop-again : tie.Need-loop-again Inv-loop μ-loop
 loop-again c =
-    let c4 = c .before .before .before .before in
-    let c6 = c4 .before .before in
-    let a = c6 .args in let l = c4 .loop in let w = c .before .wide in let r = c6 .pre .0 in (
+    let h = head (c .before) in
+    let a = entry h .args in let l = h .loop in let w = c .before .wide in let r = entry h .pre .0 in (
       omega arith,
       omega arith,
       omega (
@@ -32,19 +41,17 @@ loop-again c =
 
 array-read-total : tie.Need-array-read-total Inv-loop μ-loop
 array-read-total c =
-    let c4 = c .before .before .before .before in
-    let c6 = c4 .before .before in
-    let a = c6 .args in let l = c4 .loop in omega (arith, c6 .pre .0 .known (l .j) (c .before .before .before .loop-test .taken), c .before .wide .ensures .0)
+    let h = head (c .before) in
+    let a = entry h .args in let l = h .loop in omega (arith, entry h .pre .0 .known (l .j) (c .before .before .before .loop-test .taken), c .before .wide .ensures .0)
 
 add-total-2 : tie.Need-add-total-2 Inv-loop μ-loop
-add-total-2 c = let w = c .before .wide in omega (arith, c .before .before .before .before .before .before .pre .1 (w .result - 32768))
+add-total-2 c = let w = c .before .wide in omega (arith, entry (head (c .before)) .pre .1 (w .result - 32768))
 
 loop-again-2 : tie.Need-loop-again-2 Inv-loop μ-loop
 loop-again-2 c =
-    let c4 = c .before .before .before .before in
-    let c6 = c4 .before .before in
-    let a = c6 .args in let l = c4 .loop in let w = c .before .wide in let r = c6 .pre .0 in
-    let u = c6 .pre .1 (w .result - 32768) in (
+    let h = head (c .before) in
+    let a = entry h .args in let l = h .loop in let w = c .before .wide in let r = entry h .pre .0 in
+    let u = entry h .pre .1 (w .result - 32768) in (
       omega arith,
       omega arith,
       omega (
@@ -55,7 +62,7 @@ loop-again-2 c =
     )
 
 returns : tie.Need-returns Inv-loop μ-loop
-returns c = let a = c .before .before .before .args in let l = c .before .loop in omega (arith, length-done (a .t4) (a .book .now) (a .rhs) (a .size) (l .j) (c .loop-test .left))
+returns c = let a = entry (c .before) .args in let l = c .before .loop in omega (arith, length-done (a .t4) (a .book .now) (a .rhs) (a .size) (l .j) (c .loop-test .left))
 
 pub reduct-length-spec : {M : Type 1} → statement M
 reduct-length-spec =

@@ -16,19 +16,27 @@ Inv-loop book shape f k₀ at₀ k at = Passed book shape (otherHead f) k at
 abbrev μ-loop : tie.MeasureT-loop
 μ-loop book shape f k₀ at₀ k at = shape .rules - k
 
+-- ---- the places of the code that are behind others: the entry, the loop's head
+
+abbrev entry : tie.At-loop Inv-loop μ-loop → tie.Start Inv-loop μ-loop
+entry c = c .before .before
+
+abbrev head : tie.After-rule-at Inv-loop μ-loop → tie.At-loop Inv-loop μ-loop
+head c = c .before .before .before
+
 -- the rule of this turn
 turn : (c : tie.After-rule-at Inv-loop μ-loop) →
-    Turn (c .before .before .before .before .before .args .book .now) (c .before .before .before .before .before .args .shape) (c .before .before .before .loop .k)
-    (c .before .before .before .loop .at) (c .rule-at .result)
-turn c =
-    let c5 = c .before .before .before .before .before in
-    turn-of (c5 .pre) (c .before .if1 .taken) (c .before .before .before .loop .inv .rest) (c .rule-at .ensures)
+    let h = head c in
+    let a = entry h .args in Turn (a .book .now) (a .shape) (h .loop .k) (h .loop .at) (c .rule-at .result)
+turn c = let h = head c in turn-of (entry h .pre) (c .before .if1 .taken) (h .loop .inv .rest) (c .rule-at .ensures)
+
+-- ---- the needs
 
 loop-holds : tie.Need-loop-holds Inv-loop μ-loop
 loop-holds c = every-starts (otherHead (c .before .args .f)) (c .before .pre)
 
 rule-at-requires : tie.Need-rule-at-requires Inv-loop μ-loop
-rule-at-requires c κs = room (c .before .before .before .before .pre) (c .if1 .taken) (c .before .before .loop .inv .rest)
+rule-at-requires c κs = let h = c .before .before in room (entry h .pre) (c .if1 .taken) (h .loop .inv .rest)
 
 mul-wide : tie.Need-mul-wide Inv-loop μ-loop
 mul-wide c = let w = turn c .here in omega arith
@@ -38,21 +46,21 @@ shared-slice-read-wide c = let w = turn (c .before) .here in omega arith
 
 returns : tie.Need-returns Inv-loop μ-loop
 returns c =
-    let c6 = c .before .before .before .before .before .before in
-    let c8 = c6 .before .before in
-    let f = c8 .args .f in let t = turn (c .before .before .before) in
-    sym (defined-every (systemOf (c8 .args .book .now)) f false (every-fails (otherHead f) t (c6 .loop .inv) (head-same t f (c .before .wide .ensures .0) (c .if2 .taken))))
+    let r = c .before .before .before in
+    let h = head r in
+    let f = entry h .args .f in let t = turn r in
+    sym (defined-every (systemOf (entry h .args .book .now)) f false (every-fails (otherHead f) t (h .loop .inv) (head-same t f (c .before .wide .ensures .0) (c .if2 .taken))))
 
 loop-again : tie.Need-loop-again Inv-loop μ-loop
 loop-again c =
-    let c6 = c .before .before .before .before .before .before in
-    let c8 = c6 .before .before in
-    let f = c8 .args .f in let t = turn (c .before .before .before) in every-goes (otherHead f) t (c6 .loop .inv) (head-other t f (c .before .wide .ensures .0) (c .if2 .left))
+    let r = c .before .before .before in
+    let h = head r in
+    let f = entry h .args .f in let t = turn r in every-goes (otherHead f) t (h .loop .inv) (head-other t f (c .before .wide .ensures .0) (c .if2 .left))
 
 returns-2 : tie.Need-returns-2 Inv-loop μ-loop
 returns-2 c =
-    let c4 = c .before .before .before .before in
-    let a = c4 .args in sym (defined-every (systemOf (a .book .now)) (a .f) true (every-ends (otherHead (a .f)) (c4 .pre) (c .before .before .loop .inv) (c .if1 .left)))
+    let h = c .before .before in
+    let a = entry h .args in sym (defined-every (systemOf (a .book .now)) (a .f) true (every-ends (otherHead (a .f)) (entry h .pre) (h .loop .inv) (c .if1 .left)))
 
 pub defined-spec : {M : Type 1} → statement M
 defined-spec =

@@ -7,19 +7,25 @@ use borrow.Author.Needs.{needs}
 use Rattle.matching.proofs.safety.is_variable.Statement.{statement}
 use Rattle.matching.proofs.safety.is_variable.Tie as tie
 
+-- ---- the places of the code that are behind others: the entry
+
+abbrev entry : tie.After-spans → tie.Start
+entry c = c .before .before .before .before .before
+
+-- ---- the needs
+
 returns : tie.Need-returns
 returns c = let a = c .before .before .before .args in sym (variable-none (signatureOf (a .book .now)) (a .lhs .now) (a .i) (c .if1 .taken))
 
 returns-2 : tie.Need-returns-2
 returns-2 c =
-    let c6 = c .before .before .before .before .before .before in
-    let a = c6 .args in let x = c .before .spans in sym (variable-past (signatureOf (a .book .now)) (a .lhs .now) (a .i) (x .result) (x .ensures .0) (c .if2 .taken))
+    let a = entry (c .before) .args in let x = c .before .spans in sym (variable-past (signatureOf (a .book .now)) (a .lhs .now) (a .i) (x .result) (x .ensures .0) (c .if2 .taken))
 
 returns-3 : tie.Need-returns-3
 returns-3 c =
-    let c8 = c .before .before .before .before .before .before .before .before in
-    let a = c8 .args in
-    let x = c .before .before .before .spans in ap (λ y. leb 32768 y) (c .wide .ensures .0) ∙ sym (variable-here (signatureOf (a .book .now)) (a .lhs .now) (a .i) (x .result) (x .ensures .0))
+    let s = c .before .before .before in
+    let a = entry s .args in
+    let x = s .spans in ap (λ y. leb 32768 y) (c .wide .ensures .0) ∙ sym (variable-here (signatureOf (a .book .now)) (a .lhs .now) (a .i) (x .result) (x .ensures .0))
 
 pub is-variable-spec : {M : Type 1} → statement M
 is-variable-spec =

@@ -13,46 +13,50 @@ Inv-loop book shape f₀ at₀ f at = Through book shape f at
 abbrev μ-loop : tie.MeasureT-loop
 μ-loop book shape f₀ at₀ f at = shape .symbols - f
 
+-- ---- the places of the code that are behind others: the entry, the loop's head
+
+abbrev entry : tie.At-loop Inv-loop μ-loop → tie.Start Inv-loop μ-loop
+entry c = c .before .before
+
+abbrev head : tie.Then1 Inv-loop μ-loop → tie.At-loop Inv-loop μ-loop
+head c = c .before .before
+
+-- ---- the needs
+
 loop-holds : tie.Need-loop-holds Inv-loop μ-loop
 loop-holds c = test-starts (c .before .pre)
 
 passes-requires : tie.Need-passes-requires Inv-loop μ-loop
-passes-requires c κs = (c .before .before .before .before .pre, test-strategy (c .before .before .before .before .pre) (c .before .before .loop .inv) (c .if1 .taken))
+passes-requires c κs = let h = head c in (entry h .pre, test-strategy (entry h .pre) (h .loop .inv) (c .if1 .taken))
 
 returns : tie.Need-returns Inv-loop μ-loop
 returns c =
-    let c4 = c .before .before .before .before in
-    let c6 = c4 .before .before in
-    test-fails (c6 .pre) (c4 .loop .inv) (c .before .before .if1 .taken) (c .before .passes .ensures) (not-true _ (c .if2 .taken))
+    let t = c .before .before in
+    test-fails (entry (head t) .pre) (head t .loop .inv) (t .if1 .taken) (c .before .passes .ensures) (not-true _ (c .if2 .taken))
 
 add-at : tie.Need-add-at Inv-loop μ-loop
-add-at c = let w = test-strategy (c .before .before .before .before .before .before .pre) (c .before .before .before .before .loop .inv) (c .before .before .if1 .taken) in omega arith
+add-at c = let t = c .before .before in let w = test-strategy (entry (head t) .pre) (head t .loop .inv) (t .if1 .taken) in omega arith
 
 mul-wide : tie.Need-mul-wide Inv-loop μ-loop
-mul-wide c = let w = test-strategy (c .before .before .before .before .before .before .pre) (c .before .before .before .before .loop .inv) (c .before .before .if1 .taken) in omega arith
+mul-wide c = let t = c .before .before in let w = test-strategy (entry (head t) .pre) (head t .loop .inv) (t .if1 .taken) in omega arith
 
 shared-slice-read-wide : tie.Need-shared-slice-read-wide Inv-loop μ-loop
 shared-slice-read-wide c =
-    let c5 = c .before .before .before .before .before in
-    let c7 = c5 .before .before in
-    let w = test-strategy (c7 .pre) (c5 .loop .inv) (c .before .before .before .if1 .taken) in omega arith
+    let t = c .before .before .before in
+    let w = test-strategy (entry (head t) .pre) (head t .loop .inv) (t .if1 .taken) in omega arith
 
 add-at-2 : tie.Need-add-at-2 Inv-loop μ-loop
 add-at-2 c =
-    let c4 = c .before .before .before .before in
-    let c6 = c4 .before .before in
-    let c8 = c6 .before .before in
-    let w = test-strategy (c8 .pre) (c6 .loop .inv) (c4 .if1 .taken) in omega arith
+    let t = c .before .before .before .before in
+    let w = test-strategy (entry (head t) .pre) (head t .loop .inv) (t .if1 .taken) in omega arith
 
 loop-again : tie.Need-loop-again Inv-loop μ-loop
 loop-again c =
-    let c4 = c .before .before .before .before in
-    let c6 = c4 .before .before in
-    let c8 = c6 .before .before in
-    test-goes (c8 .pre) (c6 .loop .inv) (c4 .if1 .taken) (c .before .before .before .passes .ensures) (not-false _ (c .before .before .if2 .left)) (c .wide .ensures .0)
+    let t = c .before .before .before .before in
+    test-goes (entry (head t) .pre) (head t .loop .inv) (t .if1 .taken) (c .before .before .before .passes .ensures) (not-false _ (c .before .before .if2 .left)) (c .wide .ensures .0)
 
 returns-2 : tie.Need-returns-2 Inv-loop μ-loop
-returns-2 c = test-ends (c .before .before .before .before .pre) (c .before .before .loop .inv) (c .if1 .left)
+returns-2 c = let h = c .before .before in test-ends (entry h .pre) (h .loop .inv) (c .if1 .left)
 
 pub tested-spec : {M : Type 1} → statement M
 tested-spec =
