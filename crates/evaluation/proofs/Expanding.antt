@@ -7,6 +7,7 @@ use mathlib.Core.List.{List, [], _++_}
 use lib.ListN.{length, take, drop, length-append, length-drop}
 use lib.Seq.{take-at, drop-at, sets-eq}
 use borrow.Author.Tests.{le-leb, lt-leb}
+use Rattle.system.specs.Limits.{areaWords, termWords}
 use Rattle.buffers.specs.Words.{over, zeros}
 use Rattle.buffers.specs.moves.Parts.{pad}
 use Rattle.buffers.proofs.Pads.{length-zeros, take-pad}
@@ -30,7 +31,7 @@ use Rattle.rewriting.proofs.Done.{theorem-done, steps-last}
 pub record Checks (book term : List ℕ) : Type 0 where
   pub accepted : read book ≡ ok (systemOf book) (length book)
   pub whole : Whole (systemOf book .arities) term
-  pub bounded : length term ≤ 4096
+  pub bounded : length term ≤ termWords
 
 pub checks : (book term : List ℕ) → termAnswer book term .number ≡ 0 → Checks book term
 unfolding systemOf
@@ -54,17 +55,17 @@ module _ (book term : List ℕ) (c : Checks book term) where
 abbrev pub narrowed : Answer
 narrowed = record { number = 10; place = 0; steps = 0 }
 
-pub narrow-answer : (out work : ℕ) → out < 4096 → room out work ≡ narrowed
+pub narrow-answer : (out work : ℕ) → out < termWords → room out work ≡ narrowed
 unfolding room
-narrow-answer out work h = rw (lt-leb 4096 out h, room)
+narrow-answer out work h = rw (lt-leb termWords out h, room)
 
-pub narrow-work : (out work : ℕ) → 4096 ≤ out → work < 8192 → room out work ≡ narrowed
+pub narrow-work : (out work : ℕ) → termWords ≤ out → work < areaWords → room out work ≡ narrowed
 unfolding room
-narrow-work out work h k = rw (le-leb 4096 out h, lt-leb 8192 work k, room)
+narrow-work out work h k = rw (le-leb termWords out h, lt-leb areaWords work k, room)
 
-pub enough : (out work : ℕ) → 4096 ≤ out → 8192 ≤ work → room out work ≡ record { number = 0; place = 0; steps = 0 }
+pub enough : (out work : ℕ) → termWords ≤ out → areaWords ≤ work → room out work ≡ record { number = 0; place = 0; steps = 0 }
 unfolding room
-enough out work h k = rw (le-leb 4096 out h, le-leb 8192 work k, room)
+enough out work h k = rw (le-leb termWords out h, le-leb areaWords work k, room)
 
 pub earlier-first : (a b : Answer) → (a .number ≡ 0 → ⊥) → earlier a b ≡ a
 unfolding earlier
@@ -80,15 +81,15 @@ earlier-second a b e = rw (e, earlier)
 
 -- what passes the checks
 pub record Passed (book term out work : List ℕ) : Type 0 where
-  pub room-answer : 4096 ≤ length out
-  pub room-work : 8192 ≤ length work
+  pub room-answer : termWords ≤ length out
+  pub room-work : areaWords ≤ length work
   pub good : termAnswer book term .number ≡ 0
 
 pub passed : (book term out work : List ℕ) → checked book term out work .number ≡ 0 → Passed book term out work
 passed book term out work z =
-    elim (decLt (length out) 4096) [
+    elim (decLt (length out) termWords) [
       | yes h ↦ absurd (short (narrow-answer (length out) (length work) h))
-      | no h ↦ elim (decLt (length work) 8192) [
+      | no h ↦ elim (decLt (length work) areaWords) [
         | yes k ↦ absurd (short (narrow-work (length out) (length work) (omega arith) k))
         | no k ↦ record {
           room-answer = omega arith;
@@ -119,10 +120,10 @@ module _ (book term : List ℕ) (limit : ℕ) (out work : List ℕ) where
   goes e = rw (e, expansion)
 
   -- the checks pass
-  pub passing : 4096 ≤ length out → 8192 ≤ length work → checked book term out work ≡ termAnswer book term
+  pub passing : termWords ≤ length out → areaWords ≤ length work → checked book term out work ≡ termAnswer book term
   passing h k = earlier-second _ (termAnswer book term) (ap (λ y. y .number) (enough (length out) (length work) h k))
 
-  pub evaluates : 4096 ≤ length out → 8192 ≤ length work → termAnswer book term .number ≡ 0 →
+  pub evaluates : termWords ≤ length out → areaWords ≤ length work → termAnswer book term .number ≡ 0 →
       expansion book term limit out work ≡ expansionOf out work (evaluation (systemOf book) limit term)
   evaluates h k g = goes (ap (λ y. y .number) (passing h k) ∙ g)
 
@@ -134,9 +135,9 @@ module _ (book term : List ℕ) (limit : ℕ) (out work : List ℕ) where
 
   pub course : Course
   course =
-      elim (decLt (length out) 4096) [
+      elim (decLt (length out) termWords) [
         | yes h ↦ narrow (first (narrow-answer (length out) (length work) h))
-        | no h ↦ elim (decLt (length work) 8192) [
+        | no h ↦ elim (decLt (length work) areaWords) [
           | yes k ↦ narrow (first (narrow-work (length out) (length work) (omega arith) k))
           | no k ↦ elim (ℕ-discrete (termAnswer book term .number) 0) [
             | no b ↦
@@ -159,10 +160,10 @@ pub same-result : {r r′ : Answer} {out out′ work work′ : List ℕ} → r �
 same-result p q s i = result (p i) (q i) (s i)
 
 -- what is handed back is no longer than a term may be
-pub size-bounded : (book term : List ℕ) (limit : ℕ) → Checks book term → (e : RunResult) (ws : List ℕ) → Ran (evaluation (systemOf book) limit term) e ws → e .size ≤ 4096
+pub size-bounded : (book term : List ℕ) (limit : ℕ) → Checks book term → (e : RunResult) (ws : List ℕ) → Ran (evaluation (systemOf book) limit term) e ws → e .size ≤ termWords
 size-bounded book term limit c e ws = go (evaluation (systemOf book) limit term) refl
   where
-    go : (o : Outcome) → evaluation (systemOf book) limit term ≡ o → Ran o e ws → e .size ≤ 4096
+    go : (o : Outcome) → evaluation (systemOf book) limit term ≡ o → Ran o e ws → e .size ≤ termWords
     go (finished r) q h = let d = theorem-done (systemOf book) (checks-well book term c) limit term r (c .whole) (c .bounded) q in
         let z = ap (λ y. y .size) (h .0) in
         omega (arith, steps-last (systemOf book) (d .path))
@@ -170,35 +171,35 @@ size-bounded book term limit c e ws = go (evaluation (systemOf book) limit term)
 
 -- the words that are handed back stand at the area's front, whatever comes after it
 ends-words : (r : Config) (e : RunResult) (ws rest : List ℕ) → Ran (finished r) e ws → take (e .size) (ws ++ rest) ≡ r .term
-ends-words r e ws rest h = (λ i. take (h .0 i .size) (h .1 i ++ rest)) ∙ take-pad 8192 (r .term) rest (length (r .term)) refl
+ends-words r e ws rest h = (λ i. take (h .0 i .size) (h .1 i ++ rest)) ∙ take-pad areaWords (r .term) rest (length (r .term)) refl
 
 -- and only zeros behind them
-ends-front : (o : Outcome) (e : RunResult) (ws rest : List ℕ) → Ran o e ws → ws ≡ pad 8192 (take (e .size) (ws ++ rest))
-ends-front (finished r) e ws rest h = h .1 ∙ ap (pad 8192) (sym (ends-words r e ws rest h))
-ends-front (stopped n k) e ws rest h = h .1 ∙ pad-empty ∙ ap (λ y. pad 8192 (take (y .size) (ws ++ rest))) (sym (h .0))
+ends-front : (o : Outcome) (e : RunResult) (ws rest : List ℕ) → Ran o e ws → ws ≡ pad areaWords (take (e .size) (ws ++ rest))
+ends-front (finished r) e ws rest h = h .1 ∙ ap (pad areaWords) (sym (ends-words r e ws rest h))
+ends-front (stopped n k) e ws rest h = h .1 ∙ pad-empty ∙ ap (λ y. pad areaWords (take (y .size) (ws ++ rest))) (sym (h .0))
   where
-    pad-empty : zeros 8192 ≡ pad 8192 []
+    pad-empty : zeros areaWords ≡ pad areaWords []
     pad-empty = unfold pad in refl
 
 -- the area is lent as the first words of the work buffer; what stands behind it is as it was
-module _ (work ws : List ℕ) (room : 8192 ≤ length work) (size : length ws ≡ 8192) where
-  pub whole-length : length (ws ++ drop 8192 work) ≡ length work
+module _ (work ws : List ℕ) (room : areaWords ≤ length work) (size : length ws ≡ areaWords) where
+  pub whole-length : length (ws ++ drop areaWords work) ≡ length work
   whole-length = rw (length-append, length-drop, size) (omega arith)
 
-  pub whole-front : (o : Outcome) (e : RunResult) → Ran o e ws → take 8192 (ws ++ drop 8192 work) ≡ pad 8192 (take (e .size) (ws ++ drop 8192 work))
-  whole-front o e h = take-at ws (drop 8192 work) 8192 size ∙ ends-front o e ws (drop 8192 work) h
+  pub whole-front : (o : Outcome) (e : RunResult) → Ran o e ws → take areaWords (ws ++ drop areaWords work) ≡ pad areaWords (take (e .size) (ws ++ drop areaWords work))
+  whole-front o e h = take-at ws (drop areaWords work) areaWords size ∙ ends-front o e ws (drop areaWords work) h
 
-  zeroed : over (ws ++ drop 8192 work) 0 (zeros 8192) ≡ over work 0 (zeros 8192)
+  zeroed : over (ws ++ drop areaWords work) 0 (zeros areaWords) ≡ over work 0 (zeros areaWords)
   zeroed =
-      let n = length-zeros 8192 in
-      let k : 0 + length (zeros 8192) ≡ 8192 = omega arith in
-      sets-eq (zeros 8192) (ws ++ drop 8192 work) 0 (rw whole-length (omega arith))
-      ∙ rw (k, drop-at ws (drop 8192 work) 8192 size)
-      (sym (sets-eq (zeros 8192) work 0 (omega arith) ∙ rw k))
+      let n = length-zeros areaWords in
+      let k : 0 + length (zeros areaWords) ≡ areaWords = omega arith in
+      sets-eq (zeros areaWords) (ws ++ drop areaWords work) 0 (rw whole-length (omega arith))
+      ∙ rw (k, drop-at ws (drop areaWords work) areaWords size)
+      (sym (sets-eq (zeros areaWords) work 0 (omega arith) ∙ rw k))
 
   -- the end: the numbers, the answer buffer and the work buffer
   pub finishes : (o : Outcome) (e : RunResult) (out : List ℕ) → Ran o e ws →
-      result (record { number = e .number; place = e .size; steps = e .steps }) (over out 0 (take (e .size) (ws ++ drop 8192 work)))
-      (over (ws ++ drop 8192 work) 0 (zeros 8192)) ≡ expansionOf out work o
-  finishes (finished r) e out h = same-result (rw (h .0)) (ap (over out 0) (ends-words r e ws (drop 8192 work) h)) zeroed
-  finishes (stopped n k) e out h = same-result (rw (h .0)) (ap (λ y. over out 0 (take (y .size) (ws ++ drop 8192 work))) (h .0)) zeroed
+      result (record { number = e .number; place = e .size; steps = e .steps }) (over out 0 (take (e .size) (ws ++ drop areaWords work)))
+      (over (ws ++ drop areaWords work) 0 (zeros areaWords)) ≡ expansionOf out work o
+  finishes (finished r) e out h = same-result (rw (h .0)) (ap (over out 0) (ends-words r e ws (drop areaWords work) h)) zeroed
+  finishes (stopped n k) e out h = same-result (rw (h .0)) (ap (λ y. over out 0 (take (y .size) (ws ++ drop areaWords work))) (h .0)) zeroed

@@ -5,6 +5,7 @@ use native.Mathlib.Omega.{arith}
 use mathlib.Core.Path.{_≡_, refl, sym, _∙_, subst, subst₂}
 use mathlib.Core.List.{List, [], _∷_, _++_, append-nil, flatten}
 use lib.ListN.{length, getD, set, take, drop, length-append}
+use Rattle.system.specs.Limits.{levels, termWords}
 use Rattle.system.specs.Signature.{Signature, Symbol}
 use Rattle.system.specs.System.{System, strategy, head}
 use Rattle.system.specs.Terms.{more, Whole, Member, first, later, WellFormed}
@@ -49,9 +50,9 @@ module _ (s : System) where
     walk-whole (open′ {w} {i} {us} {v} d m k f) h = walk-whole f (node-whole g w (set us i v) (node-set g w us i v d (walk-whole k (d .wholes i m))))
 
     -- a walk on the subterm at an active position is a list of steps of the whole term
-    pub walk-steps : {l n : ℕ} {es u v : List ℕ} (k : Walk s l es u v n) (a b : List ℕ) → Bounded s k a b → length (a ++ (u ++ b)) ≤ 4096 →
+    pub walk-steps : {l n : ℕ} {es u v : List ℕ} (k : Walk s l es u v n) (a b : List ℕ) → Bounded s k a b → length (a ++ (u ++ b)) ≤ termWords →
         Whole g (a ++ (u ++ b)) → Whole g u → Active s (a ++ (u ++ b)) (length a) →
-        ((e : ℕ) → Member e es → Member e (strategy s (head u))) → Steps s 4096 n (a ++ (u ++ b)) (a ++ (v ++ b))
+        ((e : ℕ) → Member e es → Member e (strategy s (head u))) → Steps s termWords n (a ++ (u ++ b)) (a ++ (v ++ b))
     walk-steps end a b fit l ht h act st = done l
     walk-steps (pass q k) a b fit l ht h act st = walk-steps k a b fit l ht h act (λ e z. st e (later z))
     walk-steps (fire {x} q k) a b fit l ht h act st =
@@ -85,17 +86,17 @@ module _ (s : System) where
         (node-whole g w (set us i v) (node-set g w us i v d hv)) (active-change a b _ h act) (λ e z. st e (later z)))
 
     -- whatever the limit: what an evaluation hands back
-    pub theorem-done : (limit : ℕ) (t : List ℕ) (r : Config) → Whole g t → length t ≤ 4096 → evaluation s limit t ≡ finished r → Done s limit t (r .term) (r .steps)
+    pub theorem-done : (limit : ℕ) (t : List ℕ) (r : Config) → Whole g t → length t ≤ termWords → evaluation s limit t ≡ finished r → Done s limit t (r .term) (r .steps)
     unfolding evaluation
     theorem-done limit t r h l e =
-        let c = evaluate-local s limit wf 64 [] [] t 0 r h (rw (append-nil t) e) in
+        let c = evaluate-local s limit wf levels [] [] t 0 r h (rw (append-nil t) e) in
         let q : r .term ≡ c .outcome = c .term ∙ append-nil (c .outcome) in
         let n : r .steps ≡ c .taken = c .steps ∙ zero-add (c .taken) in
-        let path : Steps s 4096 (r .steps) t (r .term) = subst₂ (λ k v. Steps s 4096 k t v) (sym n) (sym q) (rw (append-nil t, append-nil (c .outcome)) at
+        let path : Steps s termWords (r .steps) t (r .term) = subst₂ (λ k v. Steps s termWords k t v) (sym n) (sym q) (rw (append-nil t, append-nil (c .outcome)) at
         (walk-steps (c .walk) [] [] (c .bounded) (rw (append-nil t) l) (rw (append-nil t) h) h root (λ e z. z))) in
         record {
           path = path;
-          none = λ z. steps-none (subst (λ k. Steps s 4096 k t (r .term)) z path);
+          none = λ z. steps-none (subst (λ k. Steps s termWords k t (r .term)) z path);
           whole = rw q (c .whole);
           afford = c .afford (omega arith);
         }

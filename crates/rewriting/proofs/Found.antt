@@ -9,6 +9,7 @@ use mathlib.Core.Option.{none}
 use mathlib.Core.List.{List, [], _∷_, _++_, append-nil, flatten}
 use lib.ListN.{length, getD, set, length-set}
 use lib.Seq.{getD-set-same, getD-set-other}
+use Rattle.system.specs.Limits.{levels}
 use Rattle.system.specs.Signature.{Signature, Symbol}
 use Rattle.system.specs.System.{System, strategy, head}
 use Rattle.system.specs.Terms.{more, Whole, Member, first, later, WellFormed}
@@ -136,14 +137,14 @@ module _ (s : System) where
     pub theorem-found : (limit : ℕ) (t : List ℕ) (r : Config) → Whole g t → evaluation s limit t ≡ finished r → Stable s (r .term)
     unfolding evaluation
     theorem-found limit t r h e =
-        let c = evaluate-local s limit wf 64 [] [] t 0 r h (rw (append-nil t) e) in
-        let k : Inert s 64 (c .outcome) = walk-found (c .walk) h (start h) (λ i st. inl st) in
+        let c = evaluate-local s limit wf levels [] [] t 0 r h (rw (append-nil t) e) in
+        let k : Inert s levels (c .outcome) = walk-found (c .walk) h (start h) (λ i st. inl st) in
         subst (Stable s) (sym (c .term ∙ append-nil (c .outcome))) (go (c .outcome) (c .whole) k)
       where
-        go : (v : List ℕ) → Whole g v → Inert s 64 v → Stable s v
+        go : (v : List ℕ) → Whole g v → Inert s levels v → Stable s v
         go v h c = record {
           whole = h;
-          normal = λ p act k m x. let y = active-at s wf (λ u. (l : ℕ) × Inert s l u) inert-inherited h (64, c) act in
+          normal = λ p act k m x. let y = active-at s wf (λ u. (l : ℕ) × Inert s l u) inert-inherited h (levels, c) act in
               unfired s wf (y .whole) (y .before) (y .behind) (inert-contraction (y .has .0) (y .whole) (y .has .1)) k m (rw (← y .equal, ← y .position) x);
-          again = λ limit. rw (append-nil v) at (inert-rests s wf limit 64 [] [] v 0 h c);
+          again = λ limit. rw (append-nil v) at (inert-rests s wf limit levels [] [] v 0 h c);
         }

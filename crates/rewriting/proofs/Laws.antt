@@ -6,6 +6,7 @@ use mathlib.Core.Option.{none, some}
 use mathlib.Core.List.{List, [], _∷_, _++_}
 use lib.ListN.{length, getD, drop}
 use lib.Seq.{drop-cons}
+use Rattle.system.specs.Limits.{levels}
 use Rattle.system.specs.Signature.{argument, replace}
 use Rattle.system.specs.System.{System, strategy}
 use Rattle.matching.specs.Matching.{Contraction, contraction}
@@ -88,9 +89,9 @@ module _ (s : System) (limit : ℕ) where
   resume-start zero p r = resume-deep 0 [] p r
   resume-start (suc l) p r = resume-top l 0 p r ∙ sym (evaluate-again s limit l p r)
 
-  pub resume-evaluation : (t : List ℕ) → resume s limit 64 (0 ∷ []) 0 (record { term = t; steps = 0 }) ≡ evaluation s limit t
+  pub resume-evaluation : (t : List ℕ) → resume s limit levels (0 ∷ []) 0 (record { term = t; steps = 0 }) ≡ evaluation s limit t
   unfolding evaluation
-  resume-evaluation t = resume-start 64 0 (record { term = t; steps = 0 })
+  resume-evaluation t = resume-start levels 0 (record { term = t; steps = 0 })
 
   -- the laws at the innermost level
   module _ (l c p : ℕ) (r : Config) where

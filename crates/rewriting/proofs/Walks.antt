@@ -7,6 +7,7 @@ use mathlib.Core.List.{List, [], _∷_, _++_, flatten}
 use lib.ListN.{length, getD, set, take, drop}
 use native.Mathlib.Decide.{decLt, decLe}
 use borrow.Author.Tests.{lt-ltb, le-ltb, le-leb, lt-leb}
+use Rattle.system.specs.Limits.{termWords}
 use Rattle.system.specs.Signature.{Signature, Symbol, arity, argument, replace}
 use Rattle.system.specs.System.{System, strategy, head}
 use Rattle.system.specs.Terms.{Whole, Member, first, later, WellFormed}
@@ -31,7 +32,7 @@ pub data Walk (s : System) : ℕ → List ℕ → List ℕ → List ℕ → ℕ 
 abbrev pub Bounded : (s : System) {l n : ℕ} {es u v : List ℕ} → Walk s l es u v n → List ℕ → List ℕ → Type 0
 Bounded s end a b = Unit {0}
 Bounded s (pass q k) a b = Bounded s k a b
-Bounded s (fire {x} q k) a b = (length (a ++ (x .reduct ++ b)) ≤ 4096) × Bounded s k a b
+Bounded s (fire {x} q k) a b = (length (a ++ (x .reduct ++ b)) ≤ termWords) × Bounded s k a b
 Bounded s (open′ {w} {i} {us} d m k f) a b = Bounded s k (a ++ w ∷ flatten (take i us)) (flatten (drop (suc i) us) ++ b) × Bounded s f a b
 
 pub run-path : (r : Config) (t : List ℕ) (n : ℕ) → r .term ≡ t → r .steps ≡ n → r ≡ record { term = t; steps = n }
@@ -55,32 +56,32 @@ module _ (s : System) where
       unfolding rewrite
       rewrite-spent h on = rw (le-ltb (r .steps) limit h, rewrite)
 
-      pub rewrite-long : r .steps < limit → 4096 < length (replace g (r .term) p (x .reduct)) → (on : Config → Outcome) → rewrite s limit p r x on ≡ stopped overlong (r .steps)
+      pub rewrite-long : r .steps < limit → termWords < length (replace g (r .term) p (x .reduct)) → (on : Config → Outcome) → rewrite s limit p r x on ≡ stopped overlong (r .steps)
       unfolding rewrite
-      rewrite-long h m on = rw (lt-ltb (r .steps) limit h, rewrite) (rw (lt-leb _ 4096 m))
+      rewrite-long h m on = rw (lt-ltb (r .steps) limit h, rewrite) (rw (lt-leb _ termWords m))
 
-      pub rewrite-goes : r .steps < limit → length (replace g (r .term) p (x .reduct)) ≤ 4096 → (on : Config → Outcome) →
+      pub rewrite-goes : r .steps < limit → length (replace g (r .term) p (x .reduct)) ≤ termWords → (on : Config → Outcome) →
           rewrite s limit p r x on ≡ on (record { term = replace g (r .term) p (x .reduct); steps = suc (r .steps) })
       unfolding rewrite
-      rewrite-goes h m on = rw (lt-ltb (r .steps) limit h, rewrite) (rw (le-leb _ 4096 m))
+      rewrite-goes h m on = rw (lt-ltb (r .steps) limit h, rewrite) (rw (le-leb _ termWords m))
 
       -- a rewrite stops at a limit, or goes on with the changed term, whatever comes after
       pub data RewriteCase : Type 0 where
         halts : (n : Limit) (k : ℕ) → ((on : Config → Outcome) → rewrite s limit p r x on ≡ stopped n k) → RewriteCase
-        goes : r .steps < limit → length (replace g (r .term) p (x .reduct)) ≤ 4096 →
+        goes : r .steps < limit → length (replace g (r .term) p (x .reduct)) ≤ termWords →
             ((on : Config → Outcome) → rewrite s limit p r x on ≡ on (record { term = replace g (r .term) p (x .reduct); steps = suc (r .steps) })) → RewriteCase
 
       pub rewritten : RewriteCase
       rewritten = elim (decLt (r .steps) limit) [
         | no h ↦ halts spent (r .steps) (rewrite-spent (omega arith))
-        | yes h ↦ elim (decLe (length (replace g (r .term) p (x .reduct))) 4096) [
+        | yes h ↦ elim (decLe (length (replace g (r .term) p (x .reduct))) termWords) [
           | no m ↦ halts overlong (r .steps) (rewrite-long h (omega arith))
           | yes m ↦ goes h m (rewrite-goes h m)
         ]
       ]
 
     pub rewrite-finished : (p : ℕ) (r : Config) (x : Contraction) (on : Config → Outcome) (r′ : Config) → rewrite s limit p r x on ≡ finished r′ →
-        (r .steps < limit) × (length (replace g (r .term) p (x .reduct)) ≤ 4096) ×
+        (r .steps < limit) × (length (replace g (r .term) p (x .reduct)) ≤ termWords) ×
         (on (record { term = replace g (r .term) p (x .reduct); steps = suc (r .steps) }) ≡ finished r′)
     rewrite-finished p r x on r′ e = elim (rewritten p r x) [ halts n k h ↦ never n k r′ (sym (h on) ∙ e) | goes l m h ↦ (l, m, sym (h on) ∙ e) ]
 

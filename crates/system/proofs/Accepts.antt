@@ -12,7 +12,7 @@ use lib.ListN.{length, getD, drop-of-length-le, List·getD-eq-default}
 use lib.Seq.{drop-length}
 use lib.Dec.{ltb}
 use borrow.Author.Tests.{le-ltb, ltb-false}
-use Rattle.system.specs.Limits.{variable}
+use Rattle.system.specs.Limits.{variable, maxArity, maxEntries, maxRules, maxSymbols, sideWords}
 use Rattle.system.specs.Signature.{Signature, arity}
 use Rattle.system.specs.System.{System, Rule, noRule, strategy}
 use Rattle.system.specs.Terms.{Forest, more, Member, WellFormedRule, WellFormed}
@@ -34,7 +34,7 @@ use Rattle.system.proofs.Sides.{Taken, reads-words, taken-forest, taken
 
 -- a strategy of a symbol that has arity a
 abbrev pub Strategy : ℕ → List ℕ → Type 0
-Strategy a es = (length es ≤ 16) × ((e : ℕ) → Member e es → e ≤ a)
+Strategy a es = (length es ≤ maxEntries) × ((e : ℕ) → Member e es → e ≤ a)
 
 module _ (ws : List ℕ) where
   pub reads-strategy : (a : ℕ) → Reads ws (readStrategy ws a) encodeList (Strategy a)
@@ -43,7 +43,7 @@ module _ (ws : List ℕ) where
       reads-iff
       (λ es h. (h .1, member-index (λ e. e ≤ a) es (λ k l. h .2 k l .1)))
       (λ es h. (zero-le, h .0, λ k l. (zero-le, h .1 (getD es k 0) (member-getD es k l))))
-      (reads-counted length (λ n. times n (number ws entry 0 a)) (λ n. reads-numbers ws entry 0 a n) range 0 16)
+      (reads-counted length (λ n. times n (number ws entry 0 a)) (λ n. reads-numbers ws entry 0 a n) range 0 maxEntries)
 
   pub reads-strategies : (g : Signature) →
       Reads ws (each (readStrategy ws) g) encodeStrategies (λ ess. (length ess ≡ length g) × Pairwise 0 [] Strategy g ess)
@@ -58,7 +58,7 @@ forest-some (more p f) = omega arith
 
 -- a side that was read
 abbrev pub TakenSide : Signature → SideRole → ℕ → Reading → Type 0
-TakenSide g h known r = (1 ≤ length (r .words)) × (length (r .words) ≤ 64) × Taken g h true 1 known (r .known) (r .words)
+TakenSide g h known r = (1 ≤ length (r .words)) × (length (r .words) ≤ sideWords) × Taken g h true 1 known (r .known) (r .words)
 
 abbrev pub encodeRule : Rule → List ℕ
 encodeRule r = encodeList (r .lhs) ++ encodeList (r .rhs)
@@ -74,7 +74,7 @@ encode-none = refl
 -- the rules after their count, up to the end
 pub record Rules (ws : List ℕ) (g : Signature) (i j : ℕ) (rs : List Rule) : Type 0 where
   pub stand : Between ws i j (length rs ∷ encodeRules rs)
-  pub few : length rs ≤ 128
+  pub few : length rs ≤ maxRules
   pub wellFormedRules : Every noRule (WellFormedRule g) rs
   pub ends : length ws ≤ j
 
@@ -82,7 +82,7 @@ module _ (ws : List ℕ) (g : Signature) where
   pub reads-side : (h : SideRole) (known : ℕ) → Reads ws (readSide ws g h known) (λ r. encodeList (r .words)) (TakenSide g h known)
   unfolding readSide encodeList
   reads-side h known =
-      reads-counted (λ r. length (r .words)) (λ n. readWords ws g h true n 1 known) (λ n. reads-words ws g h true n 1 known) range 1 64
+      reads-counted (λ r. length (r .words)) (λ n. readWords ws g h true n 1 known) (λ n. reads-words ws g h true n 1 known) range 1 sideWords
 
   module _ (below : length g ≤ variable) where
     pub reads-rule : Reads ws (readRule ws g) encodeRule (WellFormedRule g)
@@ -137,12 +137,12 @@ module _ (ws : List ℕ) (g : Signature) where
     unfolding readEnd
     at-end i l = rw (le-ltb i (length ws) l, readEnd)
 
-    counted-rules : {i n k j : ℕ} {rs : List Rule} → number ws range 0 128 i ≡ ok n k → times n (readRule ws g) k ≡ ok rs j → length ws ≤ j → Rules ws g i j rs
+    counted-rules : {i n k j : ℕ} {rs : List Rule} → number ws range 0 maxRules i ≡ ok n k → times n (readRule ws g) k ≡ ok rs j → length ws ≤ j → Rules ws g i j rs
     counted-rules {n} {j} {rs} c t l =
         let h = reads-rules n .good t in
-        let b = reads-number ws range 0 128 .good c .1 in
+        let b = reads-number ws range 0 maxRules .good c .1 in
         let e = h .0 in
-        record { stand = rw e (between-join (reads-number ws range 0 128 .sound c) (reads-rules n .sound t)); few = omega arith; wellFormedRules = h .1; ends = l }
+        record { stand = rw e (between-join (reads-number ws range 0 maxRules .sound c) (reads-rules n .sound t)); few = omega arith; wellFormedRules = h .1; ends = l }
 
     same-rules : {i k j : ℕ} {rs rs′ : List Rule} → ok rs k ≡ ok rs′ j → Rules ws g i k rs → Rules ws g i j rs′
     same-rules e h = rw (← ok-value e, ← ok-place e) h
@@ -150,7 +150,7 @@ module _ (ws : List ℕ) (g : Signature) where
     pub rules-read : (i : ℕ) {j : ℕ} {rs : List Rule} → readRules ws g i ≡ ok rs j → Rules ws g i j rs
     unfolding readRules
     rules-read i e =
-        let a = then-ok (number ws range 0 128 i) _ e in
+        let a = then-ok (number ws range 0 maxRules i) _ e in
         let b = then-ok (times (a .value) (readRule ws g) (a .place)) _ (a .goes) in
         let c = then-ok (readEnd ws (b .place)) _ (b .goes) in
         let d = ends-at (c .reads) in
@@ -160,7 +160,7 @@ module _ (ws : List ℕ) (g : Signature) where
     unfolding readRules
     read-rules i j rs h =
         let s = between-split (one (length rs)) (encodeRules rs) (h .stand) in
-        let c = reads-number ws range 0 128 .complete (s .0) (zero-le, h .few) in
+        let c = reads-number ws range 0 maxRules .complete (s .0) (zero-le, h .few) in
         let t = reads-rules (length rs) .complete (s .1) (refl, h .wellFormedRules) in
         rw c (rw t (rw (at-end j (h .ends))))
 
@@ -173,7 +173,7 @@ pub record ReadAs (ws : List ℕ) (j : ℕ) (s : System) : Type 0 where
   pub ends : length ws ≤ j
 
 -- the arities and strategies by index, as the lists are read
-pub narrow-every : (g : Signature) → Every 0 (λ w. (0 ≤ w) × (w ≤ 8)) g → (f : ℕ) → arity g f ≤ 8
+pub narrow-every : (g : Signature) → Every 0 (λ w. (0 ≤ w) × (w ≤ maxArity)) g → (f : ℕ) → arity g f ≤ maxArity
 narrow-every g h f = elim (decLt f (length g)) [ yes l ↦ rw (arity-getD g f) (h f l .1) | no l ↦ rw (arity-none g f (omega arith)) zero-le ]
 
 pub strategy-every : (s : System) → length (s .strategies) ≡ length (s .arities) → Pairwise 0 [] Strategy (s .arities) (s .strategies) →
@@ -189,13 +189,13 @@ unfolding strategy
 every-strategy s w k l = (w .strategyBound k, rw (arity-getD (s .arities) k) at (w .entryBound k))
 
 module _ (ws : List ℕ) where
-  joined : {n a b m c d j : ℕ} {g : Signature} {ess : List (List ℕ)} {rs : List Rule} → number ws range 1 256 0 ≡ ok n a → times n (number ws range 0 8) a ≡ ok g b →
+  joined : {n a b m c d j : ℕ} {g : Signature} {ess : List (List ℕ)} {rs : List Rule} → number ws range 1 maxSymbols 0 ≡ ok n a → times n (number ws range 0 maxArity) a ≡ ok g b →
       number ws range n n b ≡ ok m c → each (readStrategy ws) g c ≡ ok ess d → readRules ws g d ≡ ok rs j → ReadAs ws j (record { arities = g; strategies = ess; rules = rs })
   unfolding encode encodeList
   joined {n} {a} {b} {m} {c} {d} {j} {g} {ess} {rs} count symbolBound again strategyCount rules =
       let s : System = record { arities = g; strategies = ess; rules = rs } in
-      let bn = reads-number ws range 1 256 .good count in
-      let bg = reads-numbers ws range 0 8 n .good symbolBound in
+      let bn = reads-number ws range 1 maxSymbols .good count in
+      let bg = reads-numbers ws range 0 maxArity n .good symbolBound in
       let bm = reads-number ws range n n .good again in
       let bs = reads-strategies ws g .good strategyCount in
       let lg : length g ≡ n = bg .0 in
@@ -214,7 +214,7 @@ module _ (ws : List ℕ) where
           ruleBound = rr .few;
           wellFormedRules = rr .wellFormedRules;
         };
-        stands = rw (← lm, lg) (between-join (reads-number ws range 1 256 .sound count) (between-join (reads-numbers ws range 0 8 n .sound symbolBound)
+        stands = rw (← lm, lg) (between-join (reads-number ws range 1 maxSymbols .sound count) (between-join (reads-numbers ws range 0 maxArity n .sound symbolBound)
             (between-join (reads-number ws range n n .sound again) (between-join (reads-strategies ws g .sound strategyCount) (rr .stand)))));
         ends = rr .ends;
       }
@@ -225,8 +225,8 @@ module _ (ws : List ℕ) where
   pub system-read : {j : ℕ} {s : System} → read ws ≡ ok s j → ReadAs ws j s
   unfolding read readSystem
   system-read e =
-      let a = then-ok (number ws range 1 256 0) _ e in
-      let b = then-ok (times (a .value) (number ws range 0 8) (a .place)) _ (a .goes) in
+      let a = then-ok (number ws range 1 maxSymbols 0) _ e in
+      let b = then-ok (times (a .value) (number ws range 0 maxArity) (a .place)) _ (a .goes) in
       let c = then-ok (number ws range (a .value) (a .value) (b .place)) _ (b .goes) in
       let d = then-ok (each (readStrategy ws) (b .value) (c .place)) _ (c .goes) in
       let r = then-ok (readRules ws (b .value) (d .place)) _ (d .goes) in
@@ -237,13 +237,13 @@ module _ (ws : List ℕ) where
   read-system j s h =
       let g = s .arities in
       let w = h .well in
-      let symbolBound : length g ≤ 256 = w .symbolBound in
+      let symbolBound : length g ≤ maxSymbols = w .symbolBound in
       let e₁ = between-split (one (length g)) _ (h .stands) in
       let e₂ = between-split g _ (e₁ .1) in
       let e₃ = between-split (one (length (s .strategies))) _ (e₂ .1) in
       let e₄ = between-split (encodeStrategies (s .strategies)) _ (e₃ .1) in
-      let a = reads-number ws range 1 256 .complete (e₁ .0) (w .someSymbols, symbolBound) in
-      let b = reads-numbers ws range 0 8 (length g) .complete (e₂ .0) (refl, λ k l. (zero-le, rw (arity-getD g k) at (w .arityBound k))) in
+      let a = reads-number ws range 1 maxSymbols .complete (e₁ .0) (w .someSymbols, symbolBound) in
+      let b = reads-numbers ws range 0 maxArity (length g) .complete (e₂ .0) (refl, λ k l. (zero-le, rw (arity-getD g k) at (w .arityBound k))) in
       let c = reads-number ws range (length g) (length g) .complete (e₃ .0) (let o = w .strategyCount in omega arith) in
       let d = reads-strategies ws g .complete (e₄ .0) (w .strategyCount, every-strategy s w) in
       let r = read-rules ws g (omega arith) _ j (s .rules) (record { stand = e₄ .1; few = w .ruleBound; wellFormedRules = w .wellFormedRules; ends = h .ends }) in

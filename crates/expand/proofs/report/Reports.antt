@@ -6,6 +6,7 @@ use mathlib.Core.Bool.{Bool}
 use mathlib.Core.List.{List, [], _∷_, append-nil}
 use lib.ListN.{length, take, drop, getD}
 use borrow.Author.Tests.{lt-ltb, le-ltb}
+use Rattle.system.specs.Limits.{areaWords, termWords}
 use Rattle.buffers.specs.Words.{zeros}
 use Rattle.system.specs.declared.Answer.{Answer}
 use Rattle.evaluation.specs.Expansion.{expansion, result}
@@ -43,7 +44,7 @@ text-short ws = refl
 
 -- it has one
 pub text-words : (ws ts : List ℕ) → 0 < length ts →
-    textOf (holds ws) (holds ts) ≡ answerText (expansion ws (drop 1 ts) (getD ts 0 0) (zeros 4096) (zeros 8192))
+    textOf (holds ws) (holds ts) ≡ answerText (expansion ws (drop 1 ts) (getD ts 0 0) (zeros termWords) (zeros areaWords))
 unfolding textOf
 text-words ws [] h = absurd (omega arith)
 text-words ws (x ∷ ts) h = refl

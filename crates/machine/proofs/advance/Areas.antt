@@ -6,6 +6,7 @@ use mathlib.Core.Path.{_≡_, sym, ap, _∙_, subst}
 use mathlib.Core.List.{List, [], _∷_, _++_}
 use lib.ListN.{length, drop, set, length-append}
 use lib.Seq.{take-at, drop-at, getD-at, getD-drop, set-set, append-snoc}
+use Rattle.system.specs.Limits.{areaWords, termWords}
 use Rattle.buffers.specs.moves.Parts.{pad}
 use Rattle.buffers.specs.Words.{zeros}
 use Rattle.buffers.proofs.Over.{set-right}
@@ -13,28 +14,28 @@ use Rattle.buffers.proofs.Pads.{length-pad, take-pad, pad-zero, pad-push}
 use Rattle.system.specs.System.{System}
 use Rattle.machine.specs.advance.Area.{area, termIn, outerIn, countIn, Valid, Positioned, Represents, Tracks}
 
-module _ (t counts : List ℕ) (small : length t ≤ 4096) where
-  pub area-length : length counts ≤ 4096 → length (area t counts) ≡ 8192
+module _ (t counts : List ℕ) (small : length t ≤ termWords) where
+  pub area-length : length counts ≤ termWords → length (area t counts) ≡ areaWords
   unfolding area
-  area-length h = rw (length-append, length-pad 4096 t small, length-pad 4096 counts h)
+  area-length h = rw (length-append, length-pad termWords t small, length-pad termWords counts h)
 
   pub area-term : (n : ℕ) → length t ≡ n → termIn (area t counts) n ≡ t
   unfolding area
-  area-term n e = take-pad 4096 t (pad 4096 counts) n e
+  area-term n e = take-pad termWords t (pad termWords counts) n e
 
-  area-counts : drop 4096 (area t counts) ≡ pad 4096 counts
+  area-counts : drop termWords (area t counts) ≡ pad termWords counts
   unfolding area
-  area-counts = drop-at (pad 4096 t) (pad 4096 counts) 4096 (length-pad 4096 t small)
+  area-counts = drop-at (pad termWords t) (pad termWords counts) termWords (length-pad termWords t small)
 
   -- a store among the counts
-  area-set : (i v : ℕ) → set (area t counts) (4096 + i) v ≡ pad 4096 t ++ set (pad 4096 counts) i v
+  area-set : (i v : ℕ) → set (area t counts) (termWords + i) v ≡ pad termWords t ++ set (pad termWords counts) i v
   unfolding area
-  area-set i v = set-right (pad 4096 t) (pad 4096 counts) 4096 i v (length-pad 4096 t small)
+  area-set i v = set-right (pad termWords t) (pad termWords counts) termWords i v (length-pad termWords t small)
 
-module _ (ws t outer : List ℕ) (c n level : ℕ) (is : ws ≡ area t (outer ++ c ∷ [])) (small : length t ≤ 4096) (words : length t ≡ n) (levels : length outer ≡ level) (room : level < 64) where
-  padded : pad 4096 (outer ++ c ∷ []) ≡ outer ++ (c ∷ zeros (4096 - length (outer ++ c ∷ [])))
+module _ (ws t outer : List ℕ) (c n level : ℕ) (is : ws ≡ area t (outer ++ c ∷ [])) (small : length t ≤ termWords) (words : length t ≡ n) (levels : length outer ≡ level) (room : level < 64) where
+  padded : pad termWords (outer ++ c ∷ []) ≡ outer ++ (c ∷ zeros (termWords - length (outer ++ c ∷ [])))
   unfolding pad
-  padded = append-snoc outer c (zeros (4096 - length (outer ++ c ∷ [])))
+  padded = append-snoc outer c (zeros (termWords - length (outer ++ c ∷ [])))
 
   -- what it holds
   pub held-term : termIn ws n ≡ t
@@ -44,22 +45,22 @@ module _ (ws t outer : List ℕ) (c n level : ℕ) (is : ws ≡ area t (outer ++
   held-outer = rw (is, area-counts t (outer ++ c ∷ []) small, padded) (take-at outer _ level levels)
 
   pub held-count : countIn ws level ≡ c
-  held-count = rw is (sym (getD-drop 4096 (area t (outer ++ c ∷ [])) level 0) ∙ rw (area-counts t (outer ++ c ∷ []) small, padded) (getD-at outer c _ 0 level levels))
+  held-count = rw is (sym (getD-drop termWords (area t (outer ++ c ∷ [])) level 0) ∙ rw (area-counts t (outer ++ c ∷ []) small, padded) (getD-at outer c _ 0 level levels))
 
-  pub held-length : length ws ≡ 8192
+  pub held-length : length ws ≡ areaWords
   held-length = rw is (area-length t (outer ++ c ∷ []) small (rw length-append (omega arith)))
 
   -- another count for the innermost level
-  pub count-set : (v : ℕ) → set ws (4096 + level) v ≡ area t (outer ++ v ∷ [])
+  pub count-set : (v : ℕ) → set ws (termWords + level) v ≡ area t (outer ++ v ∷ [])
   unfolding area
   count-set v =
-      let e : (x : ℕ) → pad 4096 (outer ++ x ∷ []) ≡ set (pad 4096 outer) level x = λ x. sym (pad-push 4096 outer level x levels (omega arith)) in
-      rw is (area-set t (outer ++ c ∷ []) small level v ∙ ap (λ y. pad 4096 t ++ y) (rw (e c, e v) (set-set (pad 4096 outer) level c v)))
+      let e : (x : ℕ) → pad termWords (outer ++ x ∷ []) ≡ set (pad termWords outer) level x = λ x. sym (pad-push termWords outer level x levels (omega arith)) in
+      rw is (area-set t (outer ++ c ∷ []) small level v ∙ ap (λ y. pad termWords t ++ y) (rw (e c, e v) (set-set (pad termWords outer) level c v)))
 
   -- none: the level is left
-  pub count-cleared : set ws (4096 + level) 0 ≡ area t outer
+  pub count-cleared : set ws (termWords + level) 0 ≡ area t outer
   unfolding area
-  count-cleared = count-set 0 ∙ ap (λ y. pad 4096 t ++ y) (pad-zero 4096 outer (omega arith))
+  count-cleared = count-set 0 ∙ ap (λ y. pad termWords t ++ y) (pad-zero termWords outer (omega arith))
 
   module _ (s : System) (valid : Valid s t outer c) where
     pub represents : Represents s ws n level
@@ -83,6 +84,6 @@ module _ (ws t outer : List ℕ) (c n level : ℕ) (is : ws ≡ area t (outer ++
     }
 
 -- a new level's count is 0 already
-pub area-pushed : (t outer : List ℕ) → length outer < 4096 → area t outer ≡ area t (outer ++ 0 ∷ [])
+pub area-pushed : (t outer : List ℕ) → length outer < termWords → area t outer ≡ area t (outer ++ 0 ∷ [])
 unfolding area
-area-pushed t outer h = ap (λ y. pad 4096 t ++ y) (sym (pad-zero 4096 outer h))
+area-pushed t outer h = ap (λ y. pad termWords t ++ y) (sym (pad-zero termWords outer h))

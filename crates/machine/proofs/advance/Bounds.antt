@@ -5,6 +5,7 @@ use mathlib.Core.Path.{_≡_, ap, _∙_}
 use mathlib.Core.List.{List}
 use lib.ListN.{length, getD}
 use lib.Seq.{take-all}
+use Rattle.system.specs.Limits.{areaWords, termWords}
 use Rattle.system.specs.declared.Shape.{Shape}
 use Rattle.system.specs.System.{System}
 use Rattle.system.specs.Book.{systemOf, Accepted}
@@ -15,9 +16,9 @@ use Rattle.machine.proofs.advance.States.{valid-within}
 use Rattle.machine.proofs.advance.Areas.{held-length}
 
 pub record Bounds (ws positions : List ℕ) (n level : ℕ) : Type 0 where
-  pub total : length ws ≡ 8192
+  pub total : length ws ≡ areaWords
   pub slots : length positions ≡ 64
-  pub small : n ≤ 4096
+  pub small : n ≤ termWords
   pub shallow : level < 64
   pub within : getD positions level 0 < n
   -- so that one more fits a word

@@ -8,6 +8,7 @@ use mathlib.Core.Bool.{false}
 use mathlib.Core.List.{List, [], _∷_, _++_}
 use lib.ListN.{length, getD, take, drop, set, length-append, length-set}
 use lib.Seq.{take-all, take-suc, take-take, take-append-le, getD-take, getD-set-same, getD-set-other, length-take-le}
+use Rattle.system.specs.Limits.{termWords}
 use Rattle.buffers.proofs.Over.{part-slice}
 use Rattle.system.specs.declared.Shape.{Shape}
 use Rattle.system.specs.Signature.{span, argument}
@@ -107,7 +108,7 @@ module _ (τ : Taking) where
   wf : WellFormed s
   wf = well b (τ .shape) (τ .accepted)
 
-  small : length t ≤ 4096
+  small : length t ≤ termWords
   small = valid .bounded
 
   words : length t ≡ n
@@ -134,47 +135,47 @@ module _ (τ : Taking) where
       (asks entries f c)
 
   -- no entry is left
-  pub performed-end : τ .e ≡ entry.End → Performed s at ws positions End (set ws (4096 + level) 0) positions
+  pub performed-end : τ .e ≡ entry.End → Performed s at ws positions End (set ws (termWords + level) 0) positions
   performed-end q =
       performed s at ws positions (to.end outer) (leads-end s t outer f c (asked-end entries f c (subst (Asks entries f c) q asked)))
-      (set ws (4096 + level) 0) positions cleared refl popped
+      (set ws (termWords + level) 0) positions cleared refl popped
     where
-      cleared : set ws (4096 + level) 0 ≡ area t outer
+      cleared : set ws (termWords + level) 0 ≡ area t outer
       cleared = count-cleared ws t outer c n level (v .represents .equal) small words levels room
 
-      popped : (m : ℕ) → length outer ≡ suc m → Tracks s (set ws (4096 + level) 0) positions n m
+      popped : (m : ℕ) → length outer ≡ suc m → Tracks s (set ws (termWords + level) 0) positions n m
       popped m z =
           let ds = take m outer in
           let d = getD outer m 0 in
           let y : outer ≡ ds ++ d ∷ [] = sym (take-all (suc m) outer (omega arith)) ∙ take-suc outer m 0 (omega arith) in
           let l : length ds ≡ m = length-take-le m outer (omega arith) in
-          holds (set ws (4096 + level) 0) t ds d n m (cleared ∙ ap (area t) y) small words l (omega (arith, room, levels)) s
+          holds (set ws (termWords + level) 0) t ds d n m (cleared ∙ ap (area t) y) small words l (omega (arith, room, levels)) s
           (valid-pop s wf t outer c valid ds d y) positions (v .slots)
           (λ j g. v .positioned j (omega arith) ∙ ap (λ y. position s t y 0) (sym (take-take j m outer (omega arith))))
 
   -- one more entry is begun
-  begun : set ws (4096 + level) (c + 1) ≡ area t (outer ++ suc c ∷ [])
+  begun : set ws (termWords + level) (c + 1) ≡ area t (outer ++ suc c ∷ [])
   begun = count-set ws t outer c n level (v .represents .equal) small words levels room (c + 1) ∙ ap (λ y. area t (outer ++ y ∷ [])) (add-one c)
 
-  begun-holds : c < length entries → (m : ℕ) → length (outer ++ suc c ∷ []) ≡ suc m → Tracks s (set ws (4096 + level) (c + 1)) positions n m
+  begun-holds : c < length entries → (m : ℕ) → length (outer ++ suc c ∷ []) ≡ suc m → Tracks s (set ws (termWords + level) (c + 1)) positions n m
   begun-holds more m z =
       let l : length outer ≡ m = (let y = length-append outer (suc c ∷ []) in omega arith) in
-      holds (set ws (4096 + level) (c + 1)) t outer (suc c) n m begun small words l (omega (arith, valid .room)) s
+      holds (set ws (termWords + level) (c + 1)) t outer (suc c) n m begun small words l (omega (arith, valid .room)) s
       (valid-pass s wf t outer c valid more) positions (v .slots) (v .positioned)
 
   -- the entry stood before
-  pub performed-repeated : τ .e ≡ entry.Repeated → Performed s at ws positions Repeated (set ws (4096 + level) (c + 1)) positions
+  pub performed-repeated : τ .e ≡ entry.Repeated → Performed s at ws positions Repeated (set ws (termWords + level) (c + 1)) positions
   performed-repeated q =
       let a = asked-again entries f c (subst (Asks entries f c) q asked) in
       performed s at ws positions (to.repeated outer (suc c)) (leads-repeated s t outer f c (a .0) (a .1))
-      (set ws (4096 + level) (c + 1)) positions begun refl (begun-holds (a .0))
+      (set ws (termWords + level) (c + 1)) positions begun refl (begun-holds (a .0))
 
   -- the rules are to be tried
-  pub performed-rules : τ .e ≡ entry.Rules → Performed s at ws positions Rules (set ws (4096 + level) (c + 1)) positions
+  pub performed-rules : τ .e ≡ entry.Rules → Performed s at ws positions Rules (set ws (termWords + level) (c + 1)) positions
   performed-rules q =
       let a = asked-rules entries f c (subst (Asks entries f c) q asked) in
       performed s at ws positions (to.rules outer (suc c)) (leads-rules s t outer f c (a .0) (a .1) (a .2))
-      (set ws (4096 + level) (c + 1)) positions begun refl (begun-holds (a .0))
+      (set ws (termWords + level) (c + 1)) positions begun refl (begun-holds (a .0))
 
   module _ (i : ℕ) (q : τ .e ≡ entry.Argument i) where
     asks-inner : (c < length entries) × (stood entries f c ≡ false) × (getD entries c 0 ≡ suc i)
@@ -214,12 +215,12 @@ module _ (τ : Taking) where
           rw (spans, w, add-one p, ← signature b (τ .shape) (τ .accepted), here-is) (sym (position-snoc s t outer (suc c) 0 ∙ rw entry-is))
 
       -- the argument is opened
-      pub performed-argument : Performed s at ws positions Argument (set ws (4096 + level) (c + 1)) (set positions (level + 1) (p + 1 + r))
+      pub performed-argument : Performed s at ws positions Argument (set ws (termWords + level) (c + 1)) (set positions (level + 1) (p + 1 + r))
       performed-argument =
           performed s at ws positions (to.argument inner) (leads-argument s t outer f c more (asks-inner .1) i entry-is (omega (arith, levels)))
-          (set ws (4096 + level) (c + 1)) (set positions (level + 1) (p + 1 + r)) pushed (λ j. set positions (sym depth j) (start j)) opened
+          (set ws (termWords + level) (c + 1)) (set positions (level + 1) (p + 1 + r)) pushed (λ j. set positions (sym depth j) (start j)) opened
         where
-          pushed : set ws (4096 + level) (c + 1) ≡ area t (inner ++ 0 ∷ [])
+          pushed : set ws (termWords + level) (c + 1) ≡ area t (inner ++ 0 ∷ [])
           pushed = begun ∙ area-pushed t inner (omega (arith, depth))
 
           positioned : Positioned s t inner (set positions (level + 1) (p + 1 + r))
@@ -232,9 +233,9 @@ module _ (τ : Taking) where
                 ∙ ap (λ y. position s t y 0) (sym (take-append-le j outer (suc c ∷ []) (omega (arith, depth, levels))))
           ]
 
-          opened : (m : ℕ) → length (inner ++ 0 ∷ []) ≡ suc m → Tracks s (set ws (4096 + level) (c + 1)) (set positions (level + 1) (p + 1 + r)) n m
+          opened : (m : ℕ) → length (inner ++ 0 ∷ []) ≡ suc m → Tracks s (set ws (termWords + level) (c + 1)) (set positions (level + 1) (p + 1 + r)) n m
           opened m z =
               let l : length inner ≡ m = (let y = length-append inner (0 ∷ []) in omega arith) in
-              holds (set ws (4096 + level) (c + 1)) t inner 0 n m pushed small words l (omega (arith, depth)) s
+              holds (set ws (termWords + level) (c + 1)) t inner 0 n m pushed small words l (omega (arith, depth)) s
               (valid-open s wf t outer c valid more i entry-is (omega (arith, levels))) (set positions (level + 1) (p + 1 + r))
               (length-set positions (level + 1) (p + 1 + r) ∙ v .slots) positioned

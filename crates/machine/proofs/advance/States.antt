@@ -5,6 +5,7 @@ use mathlib.Core.Path.{_≡_, refl, sym, ap, _∙_, subst}
 use mathlib.Core.Option.{some}
 use mathlib.Core.List.{List, [], _∷_, _++_}
 use lib.ListN.{length, getD, drop, length-append}
+use Rattle.system.specs.Limits.{termWords}
 use Rattle.system.specs.Signature.{Symbol, replace}
 use Rattle.system.specs.System.{System}
 use Rattle.system.specs.Terms.{Whole, WellFormed}
@@ -53,7 +54,7 @@ module _ (s : System) (t : List ℕ) where
       (level {p = p} {c = c} {i = i} {cs = cs} (rw qo l) (rw qo e) (rw qd (x .0)), rw qd (x .1))
 
 -- the state that an evaluation starts in
-pub valid-start : (s : System) (t : List ℕ) → Whole (s .arities) t → length t ≤ 4096 → Valid s t [] 0
+pub valid-start : (s : System) (t : List ℕ) → Whole (s .arities) t → length t ≤ termWords → Valid s t [] 0
 valid-start s t h f = record { whole = h; bounded = f; room = omega arith; opened = base; begun = omega arith }
 
 module _ (s : System) (wf : WellFormed s) where
@@ -105,7 +106,7 @@ module _ (s : System) (wf : WellFormed s) where
     }
 
     -- a step
-    pub valid-fire : (x : Contraction) → contraction s (drop here t) ≡ some x → length (replace (s .arities) t here (x .reduct)) ≤ 4096 →
+    pub valid-fire : (x : Contraction) → contraction s (drop here t) ≡ some x → length (replace (s .arities) t here (x .reduct)) ≤ termWords →
         Valid s (replace (s .arities) t here (x .reduct)) cs 0
     valid-fire x f m =
         let x′ = valid-here in

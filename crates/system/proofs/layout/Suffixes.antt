@@ -4,6 +4,7 @@ use native.Mathlib.Omega.{arith}
 use mathlib.Core.Path.{_≡_, ap}
 use mathlib.Core.List.{List}
 use lib.ListN.{length, getD}
+use Rattle.system.specs.Limits.{maxSymbols}
 use Rattle.system.specs.declared.Shape.{Shape}
 use Rattle.system.specs.System.{System, strategy}
 use Rattle.system.specs.Answers.{signatureOf}
@@ -21,7 +22,7 @@ module _ (b : List ℕ) (sh : Shape) (acc : Accepted b sh) where
       let m : length (s .arities) ≡ length (signatureOf b) = ap length (signature b sh acc) in
       omega (arith, symbol-count b sh acc, well b sh acc .strategyCount)
 
-  pub symbols-few : sh .symbols ≤ 256
+  pub symbols-few : sh .symbols ≤ maxSymbols
   symbols-few = let w = well b sh acc in let few = w .symbolBound in let same = w .strategyCount in omega (arith, strategy-count)
 
   listed : (k at : ℕ) → k < sh .symbols → SuffixAt b k at → Listed b at (strategy s k) (suffixFrom s (k + 1))

@@ -8,12 +8,13 @@ use mathlib.Core.Bool.{false}
 use mathlib.Core.List.{List, [], _∷_}
 use lib.ListN.{length, getD, drop, drop-of-length-le}
 use lib.Seq.{drop-cons}
+use Rattle.system.specs.Limits.{termWords}
 use Rattle.system.specs.Signature.{Signature, Symbol, isSymbol, arity}
 use Rattle.system.specs.TermCheck.{termFault}
 use Rattle.system.proofs.TermChecks.{fault-word, fault-complete, fault-long, fault-unknown, fault-early, fault-end}
 
 module _ (g : Signature) where
-  word : (due w : ℕ) (ws : List ℕ) (i : ℕ) → 0 < due → i < 4096 → Symbol g w → termFault g due (w ∷ ws) i ≡ termFault g (due - 1 + arity g w) ws (suc i)
+  word : (due w : ℕ) (ws : List ℕ) (i : ℕ) → 0 < due → i < termWords → Symbol g w → termFault g due (w ∷ ws) i ≡ termFault g (due - 1 + arity g w) ws (suc i)
   word zero w ws i d h e = absurd (omega arith)
   word (suc due) w ws i d h e = fault-word g due w ws i h e ∙ ap (λ n. termFault g (n + arity g w) ws (suc i)) (omega arith)
 
@@ -27,13 +28,13 @@ module _ (g : Signature) where
       pub break-complete : due ≡ 0 → termFault g due (drop q t) q ≡ some q
       break-complete e = rw (e, drop-cons t q 0 here) (fault-complete g (getD t q 0) (drop (suc q) t) q)
 
-      pub break-long : 4096 ≤ q → termFault g due (drop q t) q ≡ some q
+      pub break-long : termWords ≤ q → termFault g due (drop q t) q ≡ some q
       break-long h = rw (drop-cons t q 0 here) (fault-long g due (getD t q 0) (drop (suc q) t) q h)
 
       pub break-unknown : isSymbol g (getD t q 0) ≡ false → termFault g due (drop q t) q ≡ some q
       break-unknown e = rw (drop-cons t q 0 here) (fault-unknown g due (getD t q 0) (drop (suc q) t) q e)
 
-      pub break-next : 0 < due → q < 4096 → Symbol g (getD t q 0) →
+      pub break-next : 0 < due → q < termWords → Symbol g (getD t q 0) →
           termFault g due (drop q t) q ≡ termFault g (due - 1 + arity g (getD t q 0)) (drop (q + 1) t) (q + 1)
       break-next d h e = rw (add-one q, drop-cons t q 0 here) (word due (getD t q 0) (drop (suc q) t) q d h e)
 

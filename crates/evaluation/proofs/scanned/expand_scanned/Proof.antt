@@ -5,6 +5,7 @@ use mathlib.Core.Path.{_≡_, sym, ap, _∙_}
 use lib.ListN.{length}
 use lib.Seq.{length-take-le}
 use borrow.Author.Needs.{needs}
+use Rattle.system.specs.Limits.{areaWords}
 use Rattle.system.specs.Book.{systemOf}
 use Rattle.rewriting.specs.Evaluation.{evaluation}
 use Rattle.evaluation.specs.Expansion.{result, earlier, checked}
@@ -45,8 +46,8 @@ good : (c : tie.Else1) → let a = entry c .args in Checks (a .book .now) (a .te
 good c = let a = entry c .args in checks (a .book .now) (a .term .now) (passes c .good)
 
 -- the lent part came back with its length
-ran : (c : tie.After-run) → length (c .run .last .1 .1 .1 .1 .0) ≡ 8192
-ran c = let d = c .before .before in c .run .kept .1 .1 .1 .1 .0 ∙ length-take-le 8192 (entry d .args .work .now) (passes d .room-work)
+ran : (c : tie.After-run) → length (c .run .last .1 .1 .1 .1 .0) ≡ areaWords
+ran c = let d = c .before .before in c .run .kept .1 .1 .1 .1 .0 ∙ length-take-le areaWords (entry d .args .work .now) (passes d .room-work)
 
 -- ---- the needs
 
@@ -69,7 +70,7 @@ run-requires c κs =
       accepted = checks-accepted (a .book .now) (a .term .now) k (a .scan .shape) (ap (λ y. y .shape) (entry d .pre));
       whole = k .whole;
       bounded = k .bounded;
-      words = length-take-le 8192 (a .work .now) (passes d .room-work);
+      words = length-take-le areaWords (a .work .now) (passes d .room-work);
     }
 
 finish-requires : tie.Need-finish-requires

@@ -1,4 +1,5 @@
 -- `scanned::finish` meets its contract.
+use Rattle.system.specs.Limits.{areaWords}
 use Rattle.buffers.specs.Words.{over}
 use Rattle.evaluation.proofs.run.Cleared.{front-cleared}
 use native.Mathlib.Omega.{arith}
@@ -25,7 +26,7 @@ returns c =
     let d = entry (k .before) in
     let a = d .args in
     let words = ap (λ n. over (a .out .now) 0 (take n (a .work .now))) (sub-zero (a .e .size)) in
-    let cleared = front-cleared (a .work .now) 8192 (a .e .size) (omega arith) (omega arith) (d .pre .3) in
+    let cleared = front-cleared (a .work .now) areaWords (a .e .size) (omega arith) (omega arith) (d .pre .3) in
     (refl, (k .copy-in .ensures ∙ words, c .before .before .clear .ensures ∙ cleared))
 
 pub finish-spec : {M : Type 1} → statement M

@@ -3,6 +3,7 @@ use mathlib.Core.Path.{_≡_}
 use native.Mathlib.Omega.{arith}
 use Prim.Native.Nat.{_+_, _-_, _*_, _≤_}
 use lib.ListN.{drop, take}
+use Rattle.system.specs.Limits.{variable}
 use Rattle.matching.specs.rules.Searches.{reductLength}
 use Rattle.matching.proofs.Reducts.{length-done, length-symbol, length-variable}
 use borrow.Author.Needs.{needs}
@@ -45,13 +46,13 @@ array-read-total c =
     let a = entry h .args in let l = h .loop in omega (arith, entry h .pre .0 .known (l .j) (c .before .before .before .loop-test .taken), c .before .wide .ensures .0)
 
 add-total-2 : tie.Need-add-total-2 Inv-loop μ-loop
-add-total-2 c = let w = c .before .wide in omega (arith, entry (head (c .before)) .pre .1 (w .result - 32768))
+add-total-2 c = let w = c .before .wide in omega (arith, entry (head (c .before)) .pre .1 (w .result - variable))
 
 loop-again-2 : tie.Need-loop-again-2 Inv-loop μ-loop
 loop-again-2 c =
     let h = head (c .before) in
     let a = entry h .args in let l = h .loop in let w = c .before .wide in let r = entry h .pre .0 in
-    let u = entry h .pre .1 (w .result - 32768) in (
+    let u = entry h .pre .1 (w .result - variable) in (
       omega arith,
       omega arith,
       omega (

@@ -1,5 +1,6 @@
 -- `safety::is_variable` meets its contract.
 use lib.Dec.{leb}
+use Rattle.system.specs.Limits.{variable}
 use Rattle.matching.proofs.safety.SafetySteps.{variable-none, variable-past, variable-here}
 use mathlib.Core.Path.{sym, ap, _∙_}
 use Rattle.system.specs.Answers.{signatureOf}
@@ -25,7 +26,7 @@ returns-3 : tie.Need-returns-3
 returns-3 c =
     let s = c .before .before .before in
     let a = entry s .args in
-    let x = s .spans in ap (λ y. leb 32768 y) (c .wide .ensures .0) ∙ sym (variable-here (signatureOf (a .book .now)) (a .lhs .now) (a .i) (x .result) (x .ensures .0))
+    let x = s .spans in ap (λ y. leb variable y) (c .wide .ensures .0) ∙ sym (variable-here (signatureOf (a .book .now)) (a .lhs .now) (a .i) (x .result) (x .ensures .0))
 
 pub is-variable-spec : {M : Type 1} → statement M
 is-variable-spec =

@@ -4,6 +4,7 @@ use native.Mathlib.Omega.{arith}
 use mathlib.Core.Path.{_≡_, refl, sym, ap, _∙_}
 use mathlib.Core.List.{List}
 use lib.ListN.{length, getD}
+use Rattle.system.specs.Limits.{maxArity, maxSymbols}
 use Rattle.system.specs.declared.reader.numbers.Section.{Section}
 use Rattle.system.specs.Signature.{Signature}
 use Rattle.system.specs.System.{System}
@@ -31,7 +32,7 @@ module _ (ws : List ℕ) where
   afterArities n g i = andThen (number ws range n n i) (afterCount g)
 
   abbrev pub afterFirst : ℕ → ℕ → Parsed System
-  afterFirst n i = andThen (times n (number ws range 0 8) i) (afterArities n)
+  afterFirst n i = andThen (times n (number ws range 0 maxArity) i) (afterArities n)
 
   -- ---- a section that is refused
 
@@ -65,17 +66,17 @@ module _ (ws : List ℕ) where
 
   -- ---- the sections in turn
 
-  pub scan-start : read ws ≡ andThen (number ws range 1 256 0) afterFirst
+  pub scan-start : read ws ≡ andThen (number ws range 1 maxSymbols 0) afterFirst
   unfolding read readSystem
   scan-start = refl
 
-  pub scan-count : (n : ℕ) → n ≡ getD ws 0 0 → Inside ws 0 1 256 → AfterFirst n
-  scan-count n many some = rw many (scan-start ∙ then-inside ws range 1 256 0 afterFirst some)
+  pub scan-count : (n : ℕ) → n ≡ getD ws 0 0 → Inside ws 0 1 maxSymbols → AfterFirst n
+  scan-count n many some = rw many (scan-start ∙ then-inside ws range 1 maxSymbols 0 afterFirst some)
 
   module _ (n : ℕ) where
-    pub scan-arities : n ≡ getD ws 0 0 → AfterFirst n → (a : Section) → a ≡ sectionOf (times n (number ws range 0 8) 1) → a .number ≡ 0 → AfterArities n
+    pub scan-arities : n ≡ getD ws 0 0 → AfterFirst n → (a : Section) → a ≡ sectionOf (times n (number ws range 0 maxArity) 1) → a .number ≡ 0 → AfterArities n
     scan-arities many e a ia good =
-        let x = success (times n (number ws range 0 8) 1) a ia good in
+        let x = success (times n (number ws range 0 maxArity) 1) a ia good in
         let s = numbers-signature ws n (x .equal) (sym many) in
         let q = x .equal ∙ ap (λ g. ok g (a .place)) (s .0) ∙ ap (λ j. ok (signatureOf ws) j) (s .1) in
         (e ∙ ok-then q (afterArities n), ap length (sym (s .0)) ∙ s .2)

@@ -6,6 +6,7 @@ use mathlib.Core.Bool.{true}
 use mathlib.Core.List.{List}
 use lib.ListN.{length, getD}
 use borrow.Author.Tests.{lt-ltb, le-ltb}
+use Rattle.system.specs.Limits.{maxEntries, maxRules, sideWords}
 use Rattle.system.specs.declared.reader.sides.SideRole.{SideRole}
 use Rattle.system.specs.declared.reader.sides.SideRole.the-variants.{Left, Right}
 use Rattle.system.specs.declared.reader.numbers.Section.{Section}
@@ -32,26 +33,26 @@ module _ {B : Type 0} (ws : List ℕ) (f : Fault) (low high i : ℕ) (on : ℕ �
 -- ---- a strategy
 
 module _ (ws : List ℕ) (a i : ℕ) where
-  pub strategy-refused : (r : ℕ) → r ≡ sectionOf (number ws range 0 16 i) .number → (r ≡ 0 → ⊥) → sectionOf (readStrategy ws a i) ≡ record { number = r; place = i }
+  pub strategy-refused : (r : ℕ) → r ≡ sectionOf (number ws range 0 maxEntries i) .number → (r ≡ 0 → ⊥) → sectionOf (readStrategy ws a i) ≡ record { number = r; place = i }
   unfolding readStrategy
-  strategy-refused r is bad = section-bad ws range 0 16 i (λ n. times n (number ws entry 0 a)) r is bad
+  strategy-refused r is bad = section-bad ws range 0 maxEntries i (λ n. times n (number ws entry 0 a)) r is bad
 
-  pub strategy-entries : Inside ws i 0 16 → sectionOf (readStrategy ws a i) ≡ sectionOf (times (getD ws i 0) (number ws entry 0 a) (i + 1))
+  pub strategy-entries : Inside ws i 0 maxEntries → sectionOf (readStrategy ws a i) ≡ sectionOf (times (getD ws i 0) (number ws entry 0 a) (i + 1))
   unfolding readStrategy
-  strategy-entries n = ap sectionOf (then-inside ws range 0 16 i (λ n. times n (number ws entry 0 a)) n)
+  strategy-entries n = ap sectionOf (then-inside ws range 0 maxEntries i (λ n. times n (number ws entry 0 a)) n)
 
 -- ---- a side
 
 module _ (ws : List ℕ) (g : Signature) (role : SideRole) (known i : ℕ) where
-  pub side-refused : (r : ℕ) → r ≡ sectionOf (number ws range 1 64 i) .number → (r ≡ 0 → ⊥) → sideOf (readSide ws g role known i) ≡ record { number = r; place = i; known = 0 }
+  pub side-refused : (r : ℕ) → r ≡ sectionOf (number ws range 1 sideWords i) .number → (r ≡ 0 → ⊥) → sideOf (readSide ws g role known i) ≡ record { number = r; place = i; known = 0 }
   unfolding readSide
   side-refused r is bad =
-      let x = refused (number ws range 1 64 i) (record { number = r; place = i }) (sym (number-refused ws range 1 64 i r is bad)) bad in
+      let x = refused (number ws range 1 sideWords i) (record { number = r; place = i }) (sym (number-refused ws range 1 sideWords i r is bad)) bad in
       ap sideOf (fault-then (x .equal) _) ∙ (λ j. record { number = x .number j; place = i; known = 0 })
 
-  pub side-words : Inside ws i 1 64 → sideOf (readSide ws g role known i) ≡ sideOf (readWords ws g role true (getD ws i 0) 1 known (i + 1))
+  pub side-words : Inside ws i 1 sideWords → sideOf (readSide ws g role known i) ≡ sideOf (readWords ws g role true (getD ws i 0) 1 known (i + 1))
   unfolding readSide
-  side-words n = ap sideOf (then-inside ws range 1 64 i (λ n. readWords ws g role true n 1 known) n)
+  side-words n = ap sideOf (then-inside ws range 1 sideWords i (λ n. readWords ws g role true n 1 known) n)
 
 -- ---- a rule
 
@@ -92,14 +93,14 @@ module _ (ws : List ℕ) (g : Signature) (i : ℕ) where
   abbrev rulesOf : ℕ → ℕ → Parsed (List Rule)
   rulesOf n j = andThen (times n (readRule ws g) j) ending
 
-  pub rules-refused : (r : ℕ) → r ≡ sectionOf (number ws range 0 128 i) .number → (r ≡ 0 → ⊥) → sectionOf (readRules ws g i) ≡ record { number = r; place = i }
+  pub rules-refused : (r : ℕ) → r ≡ sectionOf (number ws range 0 maxRules i) .number → (r ≡ 0 → ⊥) → sectionOf (readRules ws g i) ≡ record { number = r; place = i }
   unfolding readRules
-  rules-refused r is bad = section-bad ws range 0 128 i rulesOf r is bad
+  rules-refused r is bad = section-bad ws range 0 maxRules i rulesOf r is bad
 
-  module _ (n : Inside ws i 0 128) (t : Section) (is : t ≡ sectionOf (times (getD ws i 0) (readRule ws g) (i + 1))) where
+  module _ (n : Inside ws i 0 maxRules) (t : Section) (is : t ≡ sectionOf (times (getD ws i 0) (readRule ws g) (i + 1))) where
     here : readRules ws g i ≡ rulesOf (getD ws i 0) (i + 1)
     unfolding readRules
-    here = then-inside ws range 0 128 i rulesOf n
+    here = then-inside ws range 0 maxRules i rulesOf n
 
     pub rules-bad : (t .number ≡ 0 → ⊥) → sectionOf (readRules ws g i) ≡ t
     rules-bad bad = ap sectionOf here ∙ stop (times (getD ws i 0) (readRule ws g) (i + 1)) t is ending bad

@@ -1,4 +1,5 @@
 -- The loop keeps: the check of the words from i on, with what is due, answers as that of the whole term.
+use Rattle.system.specs.Limits.{termWords}
 use Rattle.system.proofs.terms.TermSteps.{break-complete, break-long, break-unknown, break-next, break-short, break-none}
 use Rattle.system.specs.Answers.{signatureOf, wholeAnswer}
 use Rattle.system.specs.TermCheck.{termFault}
@@ -13,7 +14,7 @@ use Rattle.system.proofs.terms.first_break.Statement.{statement}
 use Rattle.system.proofs.terms.first_break.Tie as tie
 
 abbrev Inv-loop : tie.InvT-loop
-Inv-loop book term due₀ i₀ due i = (i ≤ length term) × (i ≤ 4096) × (due ≤ 1 + 65535 * i) × (termFault (signatureOf book) due (drop i term) i ≡ termFault (signatureOf book) 1 term 0)
+Inv-loop book term due₀ i₀ due i = (i ≤ length term) × (i ≤ termWords) × (due ≤ 1 + 65535 * i) × (termFault (signatureOf book) due (drop i term) i ≡ termFault (signatureOf book) 1 term 0)
 
 abbrev μ-loop : tie.MeasureT-loop
 μ-loop book term due₀ i₀ due i = length term - i

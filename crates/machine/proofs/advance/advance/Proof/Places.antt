@@ -5,6 +5,7 @@ use Prim.Native.Nat.{_-_, _<_}
 use native.Mathlib.Omega.{arith}
 use mathlib.Core.Path.{_≡_, _∙_, subst}
 use lib.ListN.{length}
+use Rattle.system.specs.Limits.{areaWords}
 use Rattle.system.specs.Book.{systemOf}
 use Rattle.matching.specs.declared.FirstRule.the-variants.{Nothing}
 use Rattle.machine.specs.advance.Transition.{Performed}
@@ -95,7 +96,7 @@ left c = c .before .before .before
 pub some-around : (c : tie.Else1 Inv-loop μ-loop) → 0 < round (left c) .level
 some-around c = let h = c .if1 .left in omega arith
 
-pub left-bounds : (c : tie.Else1 Inv-loop μ-loop) → (round (left c) .level < 64) × (length (round (left c) .ws′) ≡ 8192)
+pub left-bounds : (c : tie.Else1 Inv-loop μ-loop) → (round (left c) .level < 64) × (length (round (left c) .ws′) ≡ areaWords)
 left-bounds c = let w = round-bounds (round (left c)) in (w .shallow, taken (left c) .take-transition .kept .1 .1 .1 .0 ∙ w .total)
 
 pub left-down : (c : tie.After-wide2 Inv-loop μ-loop) → let τ = round (left (c .before .before .before)) in Goes τ (τ .level - 1) (τ .level - 1) (c .wide2 .result)

@@ -5,16 +5,18 @@ use mathlib.Core.Path.{_≡_, _∙_, sym}
 use lib.ListN.{length, length-set}
 use lib.Seq.{getD-set-same}
 use borrow.Author.Needs.{needs}
+use Rattle.system.specs.layout.Index.{markCount}
+use Rattle.system.specs.Limits.{maxSymbols}
 use Rattle.system.proofs.layout.Suffixes.{symbols-few}
 use Rattle.system.proofs.layout.index.Indexing.{Indexing, marking-start, marking-next, marking-end}
 use Rattle.system.proofs.layout.index.build_index.Statement.{statement}
 use Rattle.system.proofs.layout.index.build_index.Tie as tie
 
 abbrev Inv-loop : tie.InvT-loop
-Inv-loop book shape marks₀ j₀ index j = Indexing book index j × (shape .symbols ≤ 256)
+Inv-loop book shape marks₀ j₀ index j = Indexing book index j × (shape .symbols ≤ maxSymbols)
 
 abbrev μ-loop : tie.MeasureT-loop
-μ-loop book shape marks₀ j₀ index j = 64 - j
+μ-loop book shape marks₀ j₀ index j = markCount - j
 
 -- ---- the places of the code that are behind others: the entry, the loop's head
 
@@ -31,7 +33,7 @@ loop-holds c =
     let a = c .before .before .args in
     let p = c .before .before .pre in
     let s = a .shape .strategies in
-    let slots : length (a .index .now) ≡ 64 = p .1 in
+    let slots : length (a .index .now) ≡ markCount = p .1 in
     (marking-start (a .book .now) (a .shape) (p .0) _ (length-set (a .index .now) 0 s ∙ slots) (getD-set-same (a .index .now) 0 s 0 (omega arith)), symbols-few (a .book .now) (a .shape) (p .0))
 
 walk-on-requires : tie.Need-walk-on-requires Inv-loop μ-loop

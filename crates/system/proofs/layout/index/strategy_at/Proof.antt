@@ -2,11 +2,12 @@
 use Prim.Native.Nat.{_≤_, _/_}
 use native.Mathlib.Omega.{arith}
 use borrow.Author.Needs.{needs}
+use Rattle.system.specs.Limits.{maxSymbols}
 use Rattle.system.proofs.layout.Suffixes.{symbols-few, suffix-strategy}
 use Rattle.system.proofs.layout.index.strategy_at.Statement.{statement}
 use Rattle.system.proofs.layout.index.strategy_at.Tie as tie
 
-few : (c : tie.Start) → c .args .shape .symbols ≤ 256
+few : (c : tie.Start) → c .args .shape .symbols ≤ maxSymbols
 few c = symbols-few (c .args .book .now) (c .args .shape) (c .pre .0)
 
 mul-walk-on : tie.Need-mul-walk-on

@@ -1,6 +1,7 @@
 -- The whole book: after each section that was taken an equation says what is still to be read.
 use Prim.Native.Nat.{ℕ, _+_}
 use mathlib.Core.List.{List}
+use Rattle.system.specs.Limits.{maxArity, maxSymbols}
 use Rattle.system.proofs.reader.sections.ScanSteps.{afterFirst, afterArities, afterCount, afterStrategies, scan-refused, number-bad}
 use Rattle.system.proofs.reader.sections.ScanSteps.{AfterFirst, AfterArities, AfterCount, AfterStrategies}
 use Rattle.system.proofs.reader.sections.ScanSteps.{scan-start, scan-count, scan-arities, scan-strategies-count, scan-strategies, scan-whole}
@@ -57,7 +58,7 @@ rules-left c =
 returns : tie.Need-returns
 returns c = let ws = c .before .before .before .before .args .book .now in
     let k = c .before .before .check in
-    c .refused .ensures ∙ sym (number-bad ws range 1 256 0 (afterFirst ws) (scan-start ws) (k .result) (k .ensures .0 range refl) (c .before .if1 .taken))
+    c .refused .ensures ∙ sym (number-bad ws range 1 maxSymbols 0 (afterFirst ws) (scan-start ws) (k .result) (k .ensures .0 range refl) (c .before .if1 .taken))
 
 shared-slice-read-wide : tie.Need-shared-slice-read-wide
 shared-slice-read-wide c = let n = c .before .before .check .ensures .1 (c .before .if1 .left) in let h = n .here in omega arith
@@ -69,7 +70,8 @@ returns-2 : tie.Need-returns-2
 returns-2 c = let w = c .before .before .before .before in
     let ws = book w in
     let a = c .before .before .before .read-numbers in
-    c .refused2 .ensures ∙ sym (scan-refused ws (times (count w) (number ws range 0 8) 1) (afterArities ws (count w)) (arities-left w) (a .result) (a .ensures .0 range refl) (c .before .if2 .taken))
+    c .refused2 .ensures ∙ sym (scan-refused ws (times (count w) (number ws range 0 maxArity) 1) (afterArities ws (count w)) (arities-left w) (a .result)
+    (a .ensures .0 range refl) (c .before .if2 .taken))
 
 add-check : tie.Need-add-check
 add-check c = let w = counted c .wide .ensures in omega arith

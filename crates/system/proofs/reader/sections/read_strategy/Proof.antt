@@ -1,4 +1,5 @@
 -- A strategy: its length decides, and then its entries.
+use Rattle.system.specs.Limits.{maxEntries}
 use Rattle.system.proofs.reader.sections.SectionSteps.{strategy-refused, strategy-entries}
 use Rattle.system.specs.reader.Sections.{sectionOf, Inside}
 use Rattle.system.specs.Parser.{times, number}
@@ -19,7 +20,7 @@ abbrev checked : tie.After-read-numbers → tie.Else1
 checked c = c .before .before .before
 
 -- the length is in its range
-size : (c : tie.Else1) → Inside (start c .args .book .now) (start c .args .at) 0 16
+size : (c : tie.Else1) → Inside (start c .args .book .now) (start c .args .at) 0 maxEntries
 size c = c .before .check .ensures .1 (c .if1 .left)
 
 -- ---- the needs

@@ -1,4 +1,5 @@
 -- The rules: their count decides, then the rules, then whether a word is left.
+use Rattle.system.specs.Limits.{maxRules}
 use Rattle.system.proofs.reader.sections.SectionSteps.{rules-refused, rules-bad, rules-surplus, rules-end}
 use Rattle.system.specs.Answers.{signatureOf}
 use Rattle.system.specs.reader.Sections.{sectionOf, Inside}
@@ -21,7 +22,7 @@ abbrev checked : tie.After-read-rules → tie.Else1
 checked c = c .before .before .before
 
 -- the count is in its range
-count : (c : tie.Else1) → Inside (entry c .args .book .now) (entry c .args .at) 0 128
+count : (c : tie.Else1) → Inside (entry c .args .book .now) (entry c .args .at) 0 maxRules
 count c = c .before .check .ensures .1 (c .if1 .left)
 
 -- the rules, as many as the count says

@@ -1,4 +1,5 @@
 -- A side: its length decides, and then its words.
+use Rattle.system.specs.Limits.{sideWords}
 use Rattle.system.proofs.reader.sections.SectionSteps.{side-refused, side-words}
 use Rattle.system.specs.Answers.{signatureOf}
 use Rattle.system.specs.reader.Sections.{sideOf, Inside}
@@ -21,7 +22,7 @@ abbrev checked : tie.After-read-words → tie.Else1
 checked c = c .before .before .before
 
 -- the length is in its range
-size : (c : tie.Else1) → Inside (entry c .args .book .now) (entry c .args .at) 1 64
+size : (c : tie.Else1) → Inside (entry c .args .book .now) (entry c .args .at) 1 sideWords
 size c = c .before .check .ensures .1 (c .if1 .left)
 
 -- ---- the needs

@@ -1,4 +1,5 @@
 -- The checks of one word of a side, in their order: one law for each way out.
+use Rattle.system.specs.Limits.{variable}
 use Rattle.system.proofs.SideWords.{side-complete, side-symbol, side-low, side-high, side-variable}
 use Rattle.system.specs.Answers.{signatureOf}
 use Rattle.system.specs.reader.Sections.{numberOr0}
@@ -50,7 +51,7 @@ returns-5 c =
     let a = entry s .args in
     let w = c .before .before .before .wide .ensures in
     c .variable-fault .ensures
-    ∙ ap (λ k. numberOr0 (variableFault (a .role) (a .first) (a .known) (k - 32768))) (w .0)
+    ∙ ap (λ k. numberOr0 (variableFault (a .role) (a .first) (a .known) (k - variable))) (w .0)
     ∙ sym (ap numberOr0 (side-variable (signatureOf (a .book .now)) (a .role) (a .first) (a .due) (a .known) (a .w) (omega arith)
     (sym (s .is-symbol .ensures) ∙ c .before .before .before .before .if2 .left) (omega arith) (omega arith)))
 
