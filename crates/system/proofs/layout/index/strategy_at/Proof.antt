@@ -3,6 +3,7 @@ use Prim.Native.Nat.{_≤_, _/_}
 use native.Mathlib.Omega.{arith}
 use borrow.Author.Needs.{needs}
 use Rattle.system.specs.Limits.{maxSymbols}
+use Rattle.system.specs.layout.Index.{stride}
 use Rattle.system.proofs.layout.Suffixes.{symbols-few, suffix-strategy}
 use Rattle.system.proofs.layout.index.strategy_at.Statement.{statement}
 use Rattle.system.proofs.layout.index.strategy_at.Tie as tie
@@ -20,7 +21,7 @@ walk-on-requires : tie.Need-walk-on-requires
 walk-on-requires c κs =
     let a = c .before .before .before .args in
     let p = c .before .before .before .pre in
-    (p .0, p .1 .suffix (a .f / 4) (omega arith), omega arith, p .2)
+    (p .0, p .1 .suffix (a .f / stride) (omega arith), omega arith, p .2)
 
 returns : tie.Need-returns
 returns c =
