@@ -21,14 +21,7 @@ taken() { # CASE LENGTH LINE WORDS..
 # the file
 no show.book
 prints 'no book' missing
-zeros 42503 > show.book
-prints 'a book of an odd length, one byte too long' long
-zeros 42504 > show.book
-prints 'a book two bytes too long' long
-zeros 100000 > show.book
-prints 'a book of many bytes too many' long
-zeros 42501 > show.book
-prints 'a book one byte below its limit' odd
+long_and_odd_books
 zeros 1 > show.book
 prints 'a book of one byte' odd
 

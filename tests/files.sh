@@ -18,6 +18,18 @@ book_b="5 0 2 1 1 0 5 0 1 1 2 1 0 2 1 0 1 0 3 1 4 3 1 0 4 4 2 1 32768 32769 1 32
 # book B with the words that follow it
 book() { words $book_b "$@" > show.book; }
 
+# a book's file that is too long or odd, whatever else there is: one word in both programs
+long_and_odd_books() {
+    zeros 42503 > show.book
+    prints 'a book of an odd length, one byte too long' long
+    zeros 42504 > show.book
+    prints 'a book two bytes too long' long
+    zeros 100000 > show.book
+    prints 'a book of many bytes too many' long
+    zeros 42501 > show.book
+    prints 'a book one byte below its limit' odd
+}
+
 # what the program prints here, its lines given one by one; the last line must be ended too
 prints() { # CASE LINE..
     local name=$1

@@ -16,14 +16,7 @@ no show.book; no show.cue
 prints 'neither file' missing
 cue 10 2 3 4
 prints 'no book' missing
-zeros 42503 > show.book
-prints 'a book of an odd length, one byte too long' long
-zeros 42504 > show.book
-prints 'a book two bytes too long' long
-zeros 100000 > show.book
-prints 'a book of many bytes too many' long
-zeros 42501 > show.book
-prints 'a book one byte below its limit' odd
+long_and_odd_books
 zeros 42502 > show.book
 answers 'a book as long as it may be' '2 0 0'
 : > show.book

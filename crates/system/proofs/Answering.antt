@@ -18,7 +18,7 @@ use Rattle.system.proofs.Located.{read-signature}
 use Rattle.system.proofs.words.SpanSteps.{tail, tail-length}
 
 -- a term that is checked
-pub record Checked (ws t : List ℕ) : Type 0 where
+pub record CheckedTerm (ws t : List ℕ) : Type 0 where
   pub system : System
   pub size : ℕ
   pub equal : read ws ≡ ok system size
@@ -32,7 +32,7 @@ module _ (ws t : List ℕ) where
   some-words g [] e = absurd (let z : _≡_ {A = ℕ} 0 1 = cc in omega arith)
   some-words g (w ∷ ws) e = omega arith
 
-  pub checked : termAnswer ws t .number ≡ 0 → Checked ws t
+  pub checked : termAnswer ws t .number ≡ 0 → CheckedTerm ws t
   unfolding termAnswer
   checked e = go (read ws) refl
     where
@@ -40,7 +40,7 @@ module _ (ws t : List ℕ) where
       inner g none q z = q
       inner g (some i) q z = absurd (omega arith)
 
-      go : (o : Parsed System) → read ws ≡ o → Checked ws t
+      go : (o : Parsed System) → read ws ≡ o → CheckedTerm ws t
       go (fault f i) q = absurd (fault-not-zero f (rw (q, termAnswer) at e))
       go (ok x i) q =
           let a = read-signature ws q in
@@ -59,7 +59,7 @@ module _ (ws t : List ℕ) where
       go (fault f j) q = rw (q, argumentAt)
       go (ok x j) q = inner x j q (termFault (x .arities) 1 t 0) refl
 
-  module _ (c : Checked ws t) where
+  module _ (c : CheckedTerm ws t) where
     found : (i : ℕ) → argumentAt ws t i ≡ nthArgument (signatureOf ws) t i
     unfolding argumentAt
     found i = rw (c .equal, argumentAt) (rw (c .arities) (rw (c .whole) (ap (λ g. nthArgument g t i) (c .arities))))

@@ -66,9 +66,9 @@ pub ends-stopped : {k : Round} {l : Limit} {ws : List ℕ} → Stops k l ws → 
     e ≡ record { number = limitNumber l; size = 0; steps = k .steps } → ws′ ≡ zeros areaWords → Ran (outcome k) e ws′
 ends-stopped h e ws′ q z = rw (h .stops) (q, z)
 
--- the subterm of the innermost level, where a rewrite is next
-abbrev pub subterm : Round → Subterm
-subterm k = record { level = k .a .level; at = getD (k .positions′) (k .a .level) 0; width = k .a .width }
+-- the redex: the subterm of the innermost level, where a rewrite is next
+abbrev pub redex : Round → Subterm
+redex k = record { level = k .a .level; at = getD (k .positions′) (k .a .level) 0; width = k .a .width }
 
 -- the counts of the state that the round starts from, and the term with the steps so far (`advance` leaves the term as it is)
 abbrev counts : Round → List ℕ
@@ -80,7 +80,7 @@ now k = record { term = termIn (k .ws′) (k .n); steps = k .steps }
 -- a rewrite is next, and the rounds that are left from here are the evaluation asked for
 pub record Before (k : Round) : Type 0 where
   pub holds : Tracks (systemOf (k .book)) (k .ws′) (k .positions′) (k .n) (k .a .level)
-  pub reducible : Reducible (k .book) (k .ws′) (k .n) (subterm k) (k .a .matched)
+  pub reducible : Reducible (k .book) (k .ws′) (k .n) (redex k) (k .a .matched)
   pub begun : ℕ
   pub next : advance (systemOf (k .book)) levels (counts k) (now k .term) 0 ≡ ready (outerIn (k .ws′) (k .a .level)) begun (reducible .x)
   pub same : remains (systemOf (k .book)) (k .limit) (counts k) (now k) ≡ outcome k
@@ -170,7 +170,7 @@ module _ (k : Round) where
     outer = outerIn (k .ws′) (k .a .level)
 
     abbrev p : ℕ
-    p = subterm k .at
+    p = redex k .at
 
     abbrev valid : Valid s t′ outer (countIn (k .ws′) (k .a .level))
     valid = b .holds .represents .valid
@@ -193,7 +193,7 @@ module _ (k : Round) where
     x = b .reducible .x
 
     abbrev after : List ℕ
-    after = rewritten s (k .ws′) (k .n) (subterm k) x
+    after = rewritten s (k .ws′) (k .n) (redex k) x
 
     -- the state that the area was made from
     abbrev made : (ws : List ℕ) → length after ≤ termWords → ws ≡ area after (outer ++ 0 ∷ []) → Made s ws (k .positions′) (length after) (k .a .level)
@@ -212,10 +212,10 @@ module _ (k : Round) where
           positioned = rw ep (positions-kept s formed t′ outer c valid (x .reduct) (k .positions′) (b .holds .positioned));
         }
 
-    pub goes : k .steps < k .limit → (r : Reduced) (ws : List ℕ) → Rewrites (k .book) (k .ws′) (k .n) (subterm k) r ws → Goes k ws r
+    pub goes : k .steps < k .limit → (r : Reduced) (ws : List ℕ) → Rewrites (k .book) (k .ws′) (k .n) (redex k) r ws → Goes k ws r
     goes l r ws h = go (h x (b .reducible .contracts))
       where
-        go : Rewritten s (k .ws′) (k .n) (subterm k) x r ws → Goes k ws r
+        go : Rewritten s (k .ws′) (k .n) (redex k) x r ws → Goes k ws r
         go (long f q w) = rw q (record {
           stops = sym (b .same) ∙ iterate-long s (k .limit) left (counts k) (now k) outer (b .begun) x (b .next) l (rw (b .reducible .place) at f);
           layout = subst (λ y. Layout y (k .n) (k .a .level)) (sym w) before-layout;

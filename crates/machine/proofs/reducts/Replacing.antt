@@ -18,7 +18,7 @@ use Rattle.matching.proofs.Reducts.{reduct-length}
 use Rattle.system.specs.Limits.{termWords, areaWords}
 use Rattle.machine.specs.declared.reducts.Instance.{Instance}
 use Rattle.machine.specs.declared.reducts.Subterm.{Subterm}
-use Rattle.machine.specs.reducts.Reduct.{side, bindings, reduct, Writable}
+use Rattle.machine.specs.reducts.Reduct.{side, instanceBindings, reduct, Writable}
 use Rattle.machine.specs.reducts.Replaced.{subtermIn, Room, Replaceable, replaced, Replaced}
 
 -- ---- laws of words written over a list
@@ -200,7 +200,7 @@ module _ {book ws : List ℕ} {n : ℕ} {u : Subterm} {c : Instance} {k : ℕ} (
         room = omega (arith, asked .counted);
       }
 
-  value₂ : (v : ℕ) → value (drop (base room) (w₂ room)) (bindings c) v ≡ value (contraction room) (bindings c) v
+  value₂ : (v : ℕ) → value (drop (base room) (w₂ room)) (instanceBindings c) v ≡ value (contraction room) (instanceBindings c) v
   unfolding value
   value₂ v = rw (behind₂ room) (at (getD (c .lengths) v 0) (getD (c .starts) v 0) (asked .behind .later v) (rw (contraction-length room) at (asked .inside .inside v)))
     where
@@ -218,10 +218,10 @@ module _ {book ws : List ℕ} {n : ℕ} {u : Subterm} {c : Instance} {k : ℕ} (
   x = reduct book c (contraction room)
 
   reduct₂ : reduct book c (drop (base room) (w₂ room)) ≡ x
-  reduct₂ = instance-cong (value (drop (base room) (w₂ room)) (bindings c)) (value (contraction room) (bindings c)) (side book c) (λ w v st e. value₂ v)
+  reduct₂ = instance-cong (value (drop (base room) (w₂ room)) (instanceBindings c)) (value (contraction room) (instanceBindings c)) (side book c) (λ w v st e. value₂ v)
 
   x-length : length x ≡ k
-  x-length = reduct-length (contraction room) (bindings c) (asked .inside) (side book c) ∙ sym (asked .counted)
+  x-length = reduct-length (contraction room) (instanceBindings c) (asked .inside) (side book c) ∙ sym (asked .counted)
 
   -- how many words the term has then, and how many are to be cleared behind it
   abbrev new : ℕ

@@ -17,11 +17,11 @@ use Rattle.matching.proofs.Matched.{instance-nil}
 use Rattle.matching.proofs.Words.{fill-symbol, fill-variable}
 use Rattle.matching.proofs.Reducts.{length-symbol, length-variable, value-length}
 use Rattle.machine.specs.declared.reducts.Instance.{Instance}
-use Rattle.machine.specs.reducts.Reduct.{side, bindings, reduct, Writable}
+use Rattle.machine.specs.reducts.Reduct.{side, instanceBindings, reduct, Writable}
 
 -- the first j words of the right side, filled from ws
 abbrev filled : List ℕ → Instance → List ℕ → ℕ → List ℕ
-filled book c ws j = instance (value ws (bindings c)) (take j (side book c))
+filled book c ws j = instance (value ws (instanceBindings c)) (take j (side book c))
 
 -- they are written, up to the index `to`
 pub record Writing (book ws₀ : List ℕ) (c : Instance) (at base to j : ℕ) (ws : List ℕ) : Type 0 where
@@ -36,9 +36,9 @@ module _ (book ws₀ : List ℕ) (c : Instance) (at base : ℕ) where
   writing-starts = record {
     inside = omega arith;
     kept = refl;
-    next = rw (instance-nil (value (drop base ws₀) (bindings c))) (omega arith);
+    next = rw (instance-nil (value (drop base ws₀) (instanceBindings c))) (omega arith);
     left = refl;
-    equal = rw (instance-nil (value (drop base ws₀) (bindings c)));
+    equal = rw (instance-nil (value (drop base ws₀) (instanceBindings c)));
   }
 
   side-length : Writable book ws₀ c at base → length (side book c) ≡ c .size
@@ -47,7 +47,7 @@ module _ (book ws₀ : List ℕ) (c : Instance) (at base : ℕ) where
   pub writing-ends : Writable book ws₀ c at base → (to j : ℕ) (ws : List ℕ) → Writing book ws₀ c at base to j ws → c .size ≤ j →
       ws ≡ over ws₀ at (reduct book c (drop base ws₀))
   writing-ends asked to j ws v h =
-      v .equal ∙ ap (λ y. over ws₀ at (instance (value (drop base ws₀) (bindings c)) y)) (take-all j (side book c) (omega (arith, side-length asked)))
+      v .equal ∙ ap (λ y. over ws₀ at (instance (value (drop base ws₀) (instanceBindings c)) y)) (take-all j (side book c) (omega (arith, side-length asked)))
 
 -- a round of the loop, in which word j of the right side is written
 pub record Round : Type 0 where
@@ -75,7 +75,7 @@ module _ (k : Round) where
   ls = side (k .book) (k .c)
 
   abbrev σ : ℕ → List ℕ
-  σ = value (drop (k .base) (k .ws₀)) (bindings (k .c))
+  σ = value (drop (k .base) (k .ws₀)) (instanceBindings (k .c))
 
   -- what was written before it
   abbrev before : List ℕ
@@ -155,7 +155,7 @@ module _ (k : Round) where
     pub writes-variable : (ws′ : List ℕ) → ws′ ≡ over (k .ws) (k .to) (part (k .base + from) n (k .ws)) → Wrote k (k .to + n) ws′
     writes-variable ws′ e =
         let v = k .writing in
-        let z = value-length (drop (k .base) (k .ws₀)) (bindings (k .c)) (k .asked .inside) (w - variable) in
+        let z = value-length (drop (k .base) (k .ws₀)) (instanceBindings (k .c)) (k .asked .inside) (w - variable) in
         record {
           inside = omega (arith, k .here);
           kept = ap length e ∙ length-sets (k .ws) (k .to) (part (k .base + from) n (k .ws)) ∙ v .kept;

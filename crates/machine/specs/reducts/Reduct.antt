@@ -16,12 +16,12 @@ instanceOf m rhs size = record { rhs = rhs; size = size; starts = m .starts; len
 abbrev pub side : List ℕ → Instance → List ℕ
 side book c = take (c .size) (drop (c .rhs) book)
 
-abbrev pub bindings : Instance → Bindings
-bindings c = record { starts = c .starts; lengths = c .lengths }
+abbrev pub instanceBindings : Instance → Bindings
+instanceBindings c = record { starts = c .starts; lengths = c .lengths }
 
 -- the right side, in which each variable stands for its stretch of ws
 abbrev pub reduct : List ℕ → Instance → List ℕ → List ℕ
-reduct book c ws = instance (value ws (bindings c)) (side book c)
+reduct book c ws = instance (value ws (instanceBindings c)) (side book c)
 
 -- the reduct is to be written at `at`, and the words of the redex stand from `base` on, behind it
 pub record Writable (book ws : List ℕ) (c : Instance) (at base : ℕ) : Type 0 where

@@ -7,7 +7,7 @@ use lib.ListN.{length}
 use borrow.Author.Needs.{needs}
 use Rattle.system.specs.Answers.{argumentAt}
 use Rattle.system.proofs.words.SpanSteps.{tail, tail-length}
-use Rattle.system.proofs.Answering.{Checked, checked, argument-refused, argument-zero, argument-beyond, argument-there, tells-none, tells-some}
+use Rattle.system.proofs.Answering.{CheckedTerm, checked, argument-refused, argument-zero, argument-beyond, argument-there, tells-none, tells-some}
 use Rattle.system.proofs.argument_span.Statement.{statement}
 use Rattle.system.proofs.argument_span.Tie as tie
 
@@ -22,7 +22,7 @@ passed c = c .before .before .before
 abbrev counted : tie.After-spans → tie.After-arity
 counted c = c .before .before .before
 
-whole : (c : tie.Else1) → let a = entry (c .before) .args in Checked (a .book .now) (a .term .now)
+whole : (c : tie.Else1) → let a = entry (c .before) .args in CheckedTerm (a .book .now) (a .term .now)
 whole c = checked _ _ (sym (ap (λ s. s .number) (c .before .before .check-term .ensures)) ∙ c .if1 .left)
 
 starts : (c : tie.After-spans) → 1 + c .spans .result ≤ length (entry (passed (counted c) .before) .args .term .now)
