@@ -30,7 +30,7 @@ extern "C" {
 
 /* The version: a change of what a function takes or answers raises the first number, anything new the second. */
 #define CUE_VERSION_MAJOR 1
-#define CUE_VERSION_MINOR 0
+#define CUE_VERSION_MINOR 1
 
 /* Sizes, in words. */
 #define CUE_TERM_WORDS 4096 /* the most words of a cue, and the least of an answer buffer */
@@ -147,7 +147,8 @@ cue_match cue_first_match(const uint16_t *book, size_t book_words, const uint16_
 
 /*
  * The order test. 0: every name passes, so a cue that cue_expand hands back with 0 has no active place at which a rule fits. 1 to 8: the
- * book is refused, as cue_read says. 14: place is a name that fails (any of them).
+ * book is refused, as cue_read says. 14: place is the lowest-numbered name that fails; every name before it passes, so orders can be mended
+ * from the top of the book.
  */
 cue_answer cue_test_strategies(const uint16_t *book, size_t book_words);
 

@@ -60,6 +60,13 @@ taken '256 names' 515 "$passes" 256 $(printf '0 %.0s' {1..256}) 256 $(printf '0 
 taken 'C10, the order of head 0 1' 39 "$(fails 2)" "${b[@]:0:11}" 0 1 "${b[@]:13}"
 taken 'a rule for a name whose order is empty' 9 "$(fails 0)" 1 0 1 0 1 1 0 1 0
 taken 'an idle argument after the last 0' 14 "$passes" 2 0 1 2 0 2 0 1 1 2 1 32768 1 0
+# 02, F-1: the lowest-numbered name that fails
+mend() { taken "$1" "$2" "$3" 5 0 0 1 1 2 5 0 0 "${@:4}" 2 1 2 4 2 2 0 1 1 2 2 1 1 0 2 3 0 3 4 0 0 2 3 1 3 4 1 1; }
+mend 'two orders that miss a rule' 42 "$(fails 2)" 2 0 1 1 1
+mend 'the first of them mended' 42 "$(fails 3)" 2 1 0 1 1
+mend 'the second of them mended' 43 "$(fails 2)" 2 0 1 2 1 0
+mend 'both mended' 43 "$passes" 2 1 0 2 1 0
+taken 'C10, and the order of rest 0 1 too' 39 "$(fails 2)" "${b[@]:0:11}" 0 1 2 0 1 "${b[@]:16}"
 taken 'one that is not idle' 14 "$(fails 1)" 2 0 1 2 0 2 0 1 1 2 1 0 1 0
 
 all_print "01's words"

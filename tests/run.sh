@@ -1,6 +1,6 @@
 #!/usr/bin/env bash
 # The checks from outside: the C interface and its header, the stack of each operation, the C example, random books against the second
-# evaluator (which must also find four planted faults), the words tool, the examples, and the programs' files. Everything is written under
+# evaluator (which must also find five planted faults), the words tool, the examples, and the programs' files. Everything is written under
 # target/outside.
 #     tests/run.sh [CASES of the random run; 100000 if not said]
 set -euo pipefail
@@ -45,7 +45,7 @@ say "the C example prints what the paper prints"
 # 4. random books against the second evaluator, and the planted faults
 quiet rustc -O --edition 2021 -D warnings -L target/staticlib tests/second/main.rs -o "$to/second"
 "$to/second" "$cases" || fail "the product and the second evaluator differ, or a number came too seldom"
-for plant in 1 2 3 4; do
+for plant in 1 2 3 4 5; do
     status=0
     "$to/second" --plant "$plant" > "$to/plant-$plant" || status=$?
     if [ "$status" != 1 ] || ! grep -q 'cut down' "$to/plant-$plant"; then
@@ -80,19 +80,21 @@ tools/words --help > /dev/null || fail "the words tool has no --help"
 [ "$(tools/words where examples/book-b/book.txt 11 | cut -d: -f1)" = 'word 11 is 1, number 2 in line 10' ] || fail "the words tool does not tell where word 11 is"
 say "the words tool goes there and back"
 
-# 6. the examples, by the program
+# 6. the examples, by both programs
 quiet rt check expand
+quiet rt check check_book
 for folder in examples/*/; do
     name=$(basename "$folder")
     [ -f "$folder/book.txt" ] || continue
     mkdir -p "$to/$name"
     tools/words pack "$folder/book.txt" "$to/$name/show.book"
     tools/words pack "$folder/cue.txt" "$to/$name/show.cue"
-    (cd "$to/$name" && ../../bin/expand > stdout)
-    diff "$folder/stdout" "$to/$name/stdout" || fail "example $name prints something else"
+    (cd "$to/$name" && ../../bin/expand > stdout && ../../bin/check_book > check)
+    for printed in stdout check; do
+        diff "$folder/$printed" "$to/$name/$printed" || fail "example $name prints something else"
+    done
     say "example $name prints what it should"
 done
-quiet rt check check_book
 prints() { # SCRIPT PROGRAM
     said=$(bash "$1" "target/bin/$2") || { printf '%s\n' "$said"; fail "$2 prints something else for its files"; }
     say "$said"

@@ -236,9 +236,18 @@ impl Book {
         Some((1 + before, &cue.arguments[i - 1]))
     }
 
-    /// The names that fail the order test.
+    /// The names that fail the order test, from the lowest-numbered on.
     pub fn failing(&self, plant: Plant) -> Vec<usize> {
         (0..self.names.len()).filter(|&f| !self.passes(f, plant)).collect()
+    }
+
+    /// The order test: 0, or 14 at "the lowest-numbered name that fails" (02, F-1).
+    pub fn test(&self, plant: Plant) -> (u32, usize) {
+        let failing = self.failing(plant);
+        match if plant == Plant::LastFailing { failing.last() } else { failing.first() } {
+            None => (0, 0),
+            Some(&f) => (14, f),
+        }
     }
 
     fn passes(&self, f: usize, plant: Plant) -> bool {
@@ -275,4 +284,6 @@ pub enum Plant {
     OverlongFirst,
     /// what an evaluation leaves is marked as evaluated, though it took steps
     Evaluated,
+    /// the order test tells the highest-numbered name that fails
+    LastFailing,
 }

@@ -26,6 +26,8 @@ pub struct Counts {
     /// allowance met exactly on 0; one short on 11
     pub exact: u64,
     pub one_short: u64,
+    /// books in which several names fail the order test
+    pub several: u64,
     pub arguments: u64,
     pub matches: u64,
     pub listed: u64,
@@ -51,6 +53,7 @@ impl Counts {
         self.most_steps = self.most_steps.max(o.most_steps);
         self.exact += o.exact;
         self.one_short += o.one_short;
+        self.several += o.several;
         self.arguments += o.arguments;
         self.matches += o.matches;
         self.listed += o.listed;
@@ -172,23 +175,16 @@ fn readers(case: &Case, plant: Plant, read: &Result<Book, book::Fault>, n: &mut 
         Err(_) => Shape { symbols: 0, strategies: 0, rules: 0, first_rule: 0 },
     };
     same("the book's shape", shape, product::shape_of(words))?;
-    let got = product::test_strategies(words);
-    match read {
-        Err(_) => same("the order test", r, got),
+    let tested = match read {
         Ok(b) => {
-            let failing = b.failing(plant);
-            if failing.is_empty() {
-                n.test[0] += 1;
-                return same("the order test", answer(0, 0, 0), got);
-            }
-            n.test[14] += 1;
-            // which of the failing names is free
-            if got.number == 14 && got.steps == 0 && failing.contains(&got.place) {
-                return Ok(());
-            }
-            Err(format!("the order test: the second evaluator says 14 at one of {failing:?}, the product {got:?}"))
+            let (number, place) = b.test(plant);
+            n.test[number as usize] += 1;
+            n.several += (b.failing(Plant::Nothing).len() > 1) as u64;
+            answer(number, place, 0)
         }
-    }
+        Err(_) => r,
+    };
+    same("the order test", tested, product::test_strategies(words))
 }
 
 fn cues(case: &Case, b: &Book, cue: &Result<Rc<Cue>, usize>, n: &mut Counts) -> Checked {

@@ -2,7 +2,7 @@
 //!
 //!     second [CASES] [--seed N] [--threads N] [--plant N] [--plain]
 //!
-//! CASES cases (100,000 if not said), from seed 0 (or --seed) on; one thread for each processor, if not said. --plant 1 to 4 plants a fault
+//! CASES cases (100,000 if not said), from seed 0 (or --seed) on; one thread for each processor, if not said. --plant 1 to 5 plants a fault
 //! in the second evaluator, which the run must then find. --plain leaves out what takes too long if nothing is remembered of arguments that
 //! took no step: for a product that remembers nothing. Exit status: 0 no difference; 1 a difference, printed with its seed and cut down; 2 a
 //! number of the table, or a nest of repeats, came too seldom, or bad usage.
@@ -53,6 +53,7 @@ fn options() -> Option<Options> {
                     "2" => Plant::FirstZero,
                     "3" => Plant::OverlongFirst,
                     "4" => Plant::Evaluated,
+                    "5" => Plant::LastFailing,
                     _ => return None,
                 }
             }
@@ -116,6 +117,7 @@ fn statistics(n: &Counts) {
         n.steps[0], n.steps[1], n.steps[2], n.steps[3], n.steps[4], n.most_steps
     );
     println!("  allowance just enough {}, one short {}; arguments taken out {}, fits {}", n.exact, n.one_short, n.arguments, n.matches);
+    println!("  books in which several names fail the order test {}", n.several);
     println!("  demand 3: lists of steps checked {}, settled cues checked and expanded again {}", n.listed, n.settled);
     println!("  the same without memory {}, too long without it {}; left out as too long {}", n.plain, n.repeats, n.too_long);
 }
@@ -136,8 +138,8 @@ fn seldom(n: &Counts, plain: bool) -> Vec<String> {
             all.push(format!("{i} of the reader came only {} times", n.read[i]));
         }
     }
-    if n.test[0] < least || n.exact < least || n.one_short < least || n.steps[4] == 0 {
-        all.push("passed books, allowances met by one, or thousands of steps came too seldom".into());
+    if n.test[0] < least || n.several < least || n.exact < least || n.one_short < least || n.steps[4] == 0 {
+        all.push("passed books, several failing names, allowances met by one, or thousands of steps came too seldom".into());
     }
     all
 }
@@ -177,7 +179,7 @@ fn run(o: &Options) -> (Counts, Option<u64>) {
 
 fn all() -> i32 {
     let Some(o) = options() else {
-        eprintln!("second [CASES] [--seed N] [--threads N] [--plant 1|2|3|4] [--plain]");
+        eprintln!("second [CASES] [--seed N] [--threads N] [--plant 1|2|3|4|5] [--plain]");
         return 2;
     };
     if o.plant == Plant::Nothing {

@@ -3,7 +3,7 @@
 use crate::book::{self, Plant};
 use crate::compare::{compare, Counts};
 use crate::evaluate::{evaluate, End};
-use crate::product::{self, Answer};
+use crate::product;
 use crate::random::Case;
 
 const B: [u16; 39] = [
@@ -39,6 +39,13 @@ impl Check {
         };
         self.hold(&format!("{label}, second evaluator"), (number, place, 0), second);
         let a = product::read(book);
+        self.hold(&format!("{label}, product"), (number, place, 0), (a.number, a.place, a.steps));
+    }
+
+    fn tests(&mut self, label: &str, book: &[u16], number: u32, place: usize) {
+        let (n, p) = book::read(book).expect(label).test(Plant::Nothing);
+        self.hold(&format!("{label}, second evaluator"), (number, place, 0), (n, p, 0));
+        let a = product::test_strategies(book);
         self.hold(&format!("{label}, product"), (number, place, 0), (a.number, a.place, a.steps));
     }
 
@@ -84,9 +91,12 @@ pub fn paper() -> Vec<String> {
     t.expands("C8", &B, &[2, 3, 4], 4, (0, 1, 4), Some(&[0]));
     t.expands("C9", &B, &[2, 3, 4], 3, (11, 0, 3), None);
     let head01 = changed(10, &[2, 1, 0], &[2, 0, 1]);
-    if product::test_strategies(&head01) != (Answer { number: 14, place: 2, steps: 0 }) {
-        t.faults.push("C10".into());
-    }
+    t.tests("B passes", &B, 0, 0);
+    t.tests("C10", &head01, 14, 2);
+    // 02, F-1: "the lowest-numbered name that fails"
+    t.tests("F-1, head's and rest's orders 0 1", &changed(10, &[2, 1, 0, 2, 1, 0], &[2, 0, 1, 2, 0, 1]), 14, 2);
+    t.tests("F-1, rest's alone", &changed(13, &[2, 1, 0], &[2, 0, 1]), 14, 3);
+    t.tests("F-1, head's, rest's and chase's empty", &changed(10, &[2, 1, 0, 2, 1, 0, 1, 0], &[0, 0, 0]), 14, 2);
     t.expands("C11", &head01, &[2, 4], 9, (0, 4, 1), Some(&[2, 1, 0, 4]));
     t.expands("C12 empty", &B, &[], 9, (9, 0, 0), None);
     t.expands("C12 cue 2", &B, &[2], 9, (9, 1, 0), None);

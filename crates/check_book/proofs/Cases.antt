@@ -2,28 +2,31 @@
 use mathlib.Core.Path.{_≡_, refl}
 use mathlib.Core.List.{[], _∷_}
 use lib.ListN.{replicate}
-use Rattle.system.specs.declared.Answer.{Answer}
-use Rattle.system.specs.Numbers.{missing, unbound, trailing}
-use Rattle.system.specs.Parser.{ok}
+use Rattle.system.specs.Signature.{isSymbol, arity, span, argument}
+use Rattle.system.specs.System.{strategy}
+use Rattle.system.specs.Parser.{read, readSystem, readRules, readEnd, readRule, readSide, readWords, readStrategy, number, word, learn, sideFault, variableFault, outside, each, times}
+use Rattle.system.specs.Cases.{bookB, cutB, longB, twiceB, earlyB}
+use Rattle.matching.specs.StrategyTest.{passes, every, closes, idles, idleTest, isVariable, constructs, firstFailing, testAnswer}
 use Rattle.printing.specs.Text.{ascii, decimalIn, decimal}
 use Rattle.files.specs.Words.{wordsOf}
 use Rattle.files.specs.Files.{absent, bytes, bookBytes, check}
-use Rattle.check_book.specs.Verdict.{refusalLine, faultLine, takenLine, orderLine, bookText, textOf}
-
-abbrev passes : Answer
-passes = record { number = 0; place = 0; steps = 0 }
+use Rattle.check_book.specs.Verdict.{refusalLine, takenLine, orderLine, bookText, textOf, verdict}
 
 pub verdict-cases :
-    (textOf (check bookBytes absent) passes ≡ ascii "missing\n")
-    × (textOf (check bookBytes (bytes (replicate 42503 0))) passes ≡ ascii "long\n")
-    × (textOf (check bookBytes (bytes (0 ∷ []))) passes ≡ ascii "odd\n")
-    × (bookText (ok (record { arities = []; strategies = []; rules = [] }) 39) passes
-    ≡ ascii "show.book: taken, 39 words\norder test: taken, every name passes\n")
-    -- "Word 29 made 32768: 7 at 29", and "order test 14 at 2"
-    × (faultLine unbound 29 ≡ ascii "show.book: stray at word 29: a left placeholder is not the next one, or a right one is not in the left\n")
-    × (orderLine (record { number = 14; place = 2; steps = 0 })
-    ≡ ascii "order test: unsettled at name 2: its order holds no 0, or an entry after the last 0 is not idle\n")
-    × (faultLine missing 38 ≡ ascii "show.book: short at word 38: a word the book needs is missing\n")
-    × (faultLine trailing 39 ≡ ascii "show.book: surplus at word 39: words after the last rule\n")
-unfolding check wordsOf decimalIn decimal refusalLine takenLine orderLine bookText textOf
+    (verdict absent ≡ ascii "missing\n")
+    × (verdict (bytes (replicate 42503 0)) ≡ ascii "long\n")
+    × (verdict (bytes (0 ∷ [])) ≡ ascii "odd\n")
+    -- "B is taken, place 39", and passes
+    × (bookText bookB ≡ ascii "show.book: taken, 39 words\norder test: taken, every name passes\n")
+    -- "Head's order 0 1: order test 14 at 2"
+    × (bookText earlyB
+    ≡ ascii "show.book: taken, 39 words\norder test: unsettled at name 2: its order holds no 0, or an entry after the last 0 is not idle\n")
+    -- "Word 29 made 32768: 7 at 29"
+    × (bookText twiceB ≡ ascii "show.book: stray at word 29: a left placeholder is not the next one, or a right one is not in the left\n")
+    -- "Without its last word: 1 at 38"; "With one word more: 8 at 39"
+    × (bookText cutB ≡ ascii "show.book: short at word 38: a word the book needs is missing\n")
+    × (bookText longB ≡ ascii "show.book: surplus at word 39: words after the last rule\n")
+unfolding check wordsOf decimalIn decimal refusalLine takenLine orderLine bookText textOf bookB
+    testAnswer firstFailing passes every closes idles idleTest isVariable constructs strategy span argument
+    read readSystem readRules readEnd readRule readSide readWords readStrategy number word learn sideFault variableFault outside each times isSymbol arity
 verdict-cases = (refl, refl, refl, refl, refl, refl, refl, refl)

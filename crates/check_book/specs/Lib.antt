@@ -1,4 +1,3 @@
 pub mod Verdict
--- The lines, and the words of a book: inner
+-- The lines: inner
 pub mod lines
-pub mod report

@@ -1,17 +1,14 @@
 -- What the program `check_book` prints of show.book: one line on what the reader says of it, and one on the order test.
-use Prim.Native.Nat.{ℕ, zero, suc, _≤_}
+use Prim.Native.Nat.{ℕ, zero, suc}
 use Prim.Native.String.{String}
-use mathlib.Core.Path.{_≡_}
 use mathlib.Core.Bool.{cond}
 use mathlib.Core.List.{List, [], _++_}
-use lib.ListN.{length}
 use lib.Dec.{ltb}
 use Rattle.system.specs.declared.Answer.{Answer}
 use Rattle.system.specs.Numbers.{Fault, missing, range, entry, unknown, unbalanced, variableHead, unbound, trailing}
-use Rattle.system.specs.System.{System}
-use Rattle.system.specs.Parser.{Parsed, ok, fault, read}
-use Rattle.matching.specs.StrategyTest.{TestedBook}
-use Rattle.printing.specs.Text.{ascii, decimal, line, Written}
+use Rattle.system.specs.Parser.{ok, fault, read}
+use Rattle.matching.specs.StrategyTest.{testAnswer}
+use Rattle.printing.specs.Text.{ascii, decimal, line}
 use Rattle.files.specs.Files.{File, bookBytes, Checked, stops, holds, check}
 
 -- a row of "The table of numbers": "Word" and "When"
@@ -45,7 +42,7 @@ faultLine f i = refusalLine "show.book: " (row f) " at word " i
 unfoldable pub takenLine : ℕ → List ℕ
 takenLine n = line (ascii "show.book: taken, " ++ decimal n ++ ascii " words")
 
--- "All pass: 0. Otherwise 14, the place being a name that fails."
+-- "All pass: 0. Otherwise 14" (01), at "the lowest-numbered name that fails" (02, F-1)
 unfoldable pub orderLine : Answer → List ℕ
 orderLine r =
     elim (r .number) [
@@ -53,15 +50,17 @@ orderLine r =
       | suc _ ↦ refusalLine "order test: " unsettledRow " at name " (r .place)
     ]
 
--- what is printed of a book as the reader reads it, where r is what the order test answers of it
-unfoldable pub bookText : Parsed System → Answer → List ℕ
-bookText (fault f i) r = faultLine f i
-bookText (ok s n) r = takenLine n ++ orderLine r
+-- what is printed of a book's words
+unfoldable pub bookText : List ℕ → List ℕ
+bookText ws = elim (read ws) [ fault f i ↦ faultLine f i | ok s n ↦ takenLine n ++ orderLine (testAnswer ws) ]
 
 -- and of a file, as the checks leave it: one word and no more for a file that is `missing`, `long` or `odd`
-unfoldable pub textOf : Checked → Answer → List ℕ
-textOf (stops why) r = line why
-textOf (holds ws) r = bookText (read ws) r
+unfoldable pub textOf : Checked → List ℕ
+textOf (stops why) = line why
+textOf (holds ws) = bookText ws
+
+abbrev pub verdict : File → List ℕ
+verdict book = textOf (check bookBytes book)
 
 -- no text is longer; a slice that has not so many bytes gets no text at all
 abbrev pub textBytes : ℕ
@@ -69,10 +68,3 @@ textBytes = 256
 
 abbrev pub inRoom : ℕ → List ℕ → List ℕ
 inRoom room text = cond (ltb room textBytes) [] text
-
--- after a call: the text for the file stands at the start of t. The place of 14 is free ("a name that fails"), so the text is that of
--- some answer that the order test may give of the file's words
-pub record Says (t : List ℕ) (book : File) (end : ℕ) (t′ : List ℕ) : Type 0 where
-  pub order : Answer
-  pub tested : textBytes ≤ length t → (ws : List ℕ) → check bookBytes book ≡ holds ws → TestedBook (read ws) order
-  pub written : Written t 0 (inRoom (length t) (textOf (check bookBytes book) order)) end t′

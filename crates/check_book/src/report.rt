@@ -1,10 +1,10 @@
 // What the program prints, from the bytes of show.book.
 ghost use Prim.Native.Nat.{_≤_};
 ghost use lib.ListN.{length};
+ghost use Rattle.printing.specs.Text.{Written};
 ghost use Rattle.files.specs.Words.{wordsOf};
 ghost use Rattle.files.specs.Files.{bookBytes, fileOf};
-ghost use Rattle.check_book.specs.Verdict.{textBytes, Says};
-ghost use Rattle.check_book.specs.report.Told.{Told};
+ghost use Rattle.check_book.specs.Verdict.{textBytes, bookText, verdict, inRoom};
 use crate::lines::put_fault;
 use crate::lines::put_order;
 use crate::lines::put_taken;
@@ -22,7 +22,8 @@ pub const TEXT_BYTES: usize = 256;
 // Puts the text for the book's file at the start of `text` and answers how long it is. It is told whether the file is there, and its bytes:
 // all of them, or more than it may have. A `text` below 256 bytes stays as it is, and the answer is 0.
 pub fn verdict(there: bool, book: &[u8], text: &mut [u8]) -> usize
-    ensures { λ r. ⌜ Says (now (text .entry)) (fileOf there (now (book .entry))) r (now (text .exit)) ⌝ }
+    ensures { λ r. ⌜ Written (now (text .entry)) 0 (inRoom (length (now (text .entry))) (verdict (fileOf there (now (book .entry)))))
+        r (now (text .exit)) ⌝ }
 {
     if text.len() < TEXT_BYTES {
         return 0;
@@ -37,7 +38,7 @@ pub fn verdict(there: bool, book: &[u8], text: &mut [u8]) -> usize
 // The file is taken.
 fn check_file(book: &[u8], text: &mut [u8]) -> usize
     requires { ⌜ (length (now book) ≤ bookBytes) × (textBytes ≤ length (now text)) ⌝ }
-    ensures { λ r. ⌜ Told (wordsOf (now (book .entry))) (now (text .entry)) r (now (text .exit)) ⌝ }
+    ensures { λ r. ⌜ Written (now (text .entry)) 0 (bookText (wordsOf (now (book .entry)))) r (now (text .exit)) ⌝ }
 {
     let mut words = [0u16; BOOK_WORDS];
     let n = load(book, &mut words);
@@ -47,7 +48,7 @@ fn check_file(book: &[u8], text: &mut [u8]) -> usize
 // The reader's line, and the order test's where the reader takes the book. The book is read once.
 fn check_words(book: &[u16], text: &mut [u8]) -> usize
     requires { ⌜ textBytes ≤ length (now text) ⌝ }
-    ensures { λ r. ⌜ Told (now (book .entry)) (now (text .entry)) r (now (text .exit)) ⌝ }
+    ensures { λ r. ⌜ Written (now (text .entry)) 0 (bookText (now (book .entry))) r (now (text .exit)) ⌝ }
 {
     let s = scan_book(book);
     let a = s.answer;

@@ -13,7 +13,7 @@ use Rattle.cue.specs.declared.CueMatch.{CueMatch}
 abbrev pub answerFor : Answer → CueAnswer
 answerFor a = record { number = a .number; place = a .place; steps = a .steps }
 
--- and back, where the library's promise is a relation
+-- and back, where the library's promise is of the answer together with the buffers
 abbrev pub asAnswer : CueAnswer → Answer
 asAnswer a = record { number = a .number; place = a .place; steps = a .steps }
 

@@ -6,7 +6,8 @@ ghost use Rattle.system.specs.Parser.{read};
 ghost use Rattle.system.specs.Signature.{span};
 ghost use Rattle.system.specs.Book.{systemOf};
 ghost use Rattle.matching.specs.Bindings.{matchOf};
-ghost use Rattle.matching.specs.StrategyTest.{TestedBook};
+ghost use Rattle.matching.specs.Safety.{Tells};
+ghost use Rattle.matching.specs.StrategyTest.{testAnswer};
 ghost use Rattle.evaluation.specs.Expansion.{result, expansion};
 ghost use Rattle.demands.specs.Demand3.{IsDone, IsHandedBack, IsFound, secondly, RestsAgain};
 ghost use Rattle.cue.specs.Exports.{answerFor, asAnswer, shapeFor, partFor, matchFor};
@@ -157,7 +158,8 @@ pub extern "C" fn cue_first_match(book: &[u16], ws: &[u16]) -> CueMatch
 // The strategy test (01: the order test).
 #[no_mangle]
 pub extern "C" fn cue_test_strategies(book: &[u16]) -> CueAnswer
-    ensures { λ r. ⌜ TestedBook (read (now (book .entry))) (asAnswer r) ⌝ }
+    ensures tested { λ r. ⌜ r ≡ answerFor (testAnswer (now (book .entry))) ⌝ }
+    ensures told { λ r. ⌜ Tells (now (book .entry)) (asAnswer r) ⌝ }
 {
     answer_for(matching::test_strategies(book))
 }
@@ -186,14 +188,14 @@ pub extern "C" fn cue_expand_checked(
     out: &mut [u16],
     work: &mut [u16],
 ) -> CueChecked
-    ensures tested { λ r. ⌜ TestedBook (read (now (book .entry))) (asAnswer (r .test)) ⌝ }
+    ensures tested { λ r. ⌜ r .test ≡ answerFor (testAnswer (now (book .entry))) ⌝ }
     ensures expanded { λ r. ⌜ result (asAnswer (r .answer)) (now (out .exit)) (now (work .exit))
         ≡ expansion (now (book .entry)) (now (term .entry)) limit (now (out .entry)) (now (work .entry)) ⌝ }
     ensures done { λ r. ⌜ IsDone (now (book .entry)) (now (term .entry)) limit
         (result (asAnswer (r .answer)) (now (out .exit)) (now (work .exit))) ⌝ }
     ensures handed { λ r. ⌜ IsHandedBack (now (book .entry)) (now (term .entry)) limit (now (out .entry)) (now (work .entry))
         (result (asAnswer (r .answer)) (now (out .exit)) (now (work .exit))) ⌝ }
-    ensures found { λ r. ⌜ IsFound (now (book .entry)) (asAnswer (r .test)) (result (asAnswer (r .answer)) (now (out .exit)) (now (work .exit))) ⌝ }
+    ensures found { λ r. ⌜ IsFound (now (book .entry)) (result (asAnswer (r .answer)) (now (out .exit)) (now (work .exit))) ⌝ }
 {
     let c = demands::expand_checked(book, term, limit, out, work);
     CueChecked {
@@ -214,14 +216,14 @@ pub extern "C" fn cue_expand_twice(
     again: &mut [u16],
     spare: &mut [u16],
 ) -> CueTwice
-    ensures tested { λ r. ⌜ TestedBook (read (now (book .entry))) (asAnswer (r .test)) ⌝ }
+    ensures tested { λ r. ⌜ r .test ≡ answerFor (testAnswer (now (book .entry))) ⌝ }
     ensures expanded { λ r. ⌜ result (asAnswer (r .first)) (now (out .exit)) (now (work .exit))
         ≡ expansion (now (book .entry)) (now (term .entry)) limit (now (out .entry)) (now (work .entry)) ⌝ }
     ensures second { λ r. ⌜ result (asAnswer (r .second)) (now (again .exit)) (now (spare .exit))
         ≡ secondly (now (book .entry)) (expansion (now (book .entry)) (now (term .entry)) limit (now (out .entry)) (now (work .entry)))
         (now (again .entry)) (now (spare .entry)) ⌝ }
-    ensures found { λ r. ⌜ IsFound (now (book .entry)) (asAnswer (r .test)) (result (asAnswer (r .first)) (now (out .exit)) (now (work .exit))) ⌝ }
-    ensures rests { λ r. ⌜ RestsAgain (asAnswer (r .test)) (result (asAnswer (r .first)) (now (out .exit)) (now (work .exit)))
+    ensures found { λ r. ⌜ IsFound (now (book .entry)) (result (asAnswer (r .first)) (now (out .exit)) (now (work .exit))) ⌝ }
+    ensures rests { λ r. ⌜ RestsAgain (now (book .entry)) (result (asAnswer (r .first)) (now (out .exit)) (now (work .exit)))
         (now (again .entry)) (now (spare .entry)) (result (asAnswer (r .second)) (now (again .exit)) (now (spare .exit))) ⌝ }
 {
     let c = demands::expand_twice(book, term, limit, out, work, again, spare);

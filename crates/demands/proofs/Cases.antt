@@ -7,8 +7,8 @@ use Rattle.system.specs.Parser.{read, readSystem, readRules, readEnd, readRule,
 use Rattle.system.specs.TermCheck.{termFault}
 use Rattle.system.specs.Answers.{termAnswer}
 use Rattle.system.specs.Book.{systemOf}
-use Rattle.matching.specs.ComputedTest.{passes, every, closes, idles, idleTest, isVariable, constructs}
-use Rattle.matching.specs.Cases.{failing, testing, strategyCases}
+use Rattle.matching.specs.StrategyTest.{passes, every, closes, idles, idleTest, isVariable, constructs, firstFailing, testAnswer}
+use Rattle.matching.specs.Cases.{strategyCases}
 use Rattle.matching.specs.Matching.{bind, firstMatch, contraction}
 use Rattle.system.specs.Cases.{Hold, bookB, readerCases}
 use Rattle.rewriting.specs.Evaluation.{rewrite, follow, atRoot, evaluate, evaluation}
@@ -16,7 +16,7 @@ use Rattle.evaluation.specs.Expansion.{room, earlier, expansion}
 use Rattle.demands.specs.Cases.{expanding, evaluatorCases, starred}
 
 pub starred-cases : Hold starred
-unfolding starred readerCases strategyCases evaluatorCases testing failing passes every closes idles idleTest isVariable constructs
+unfolding starred readerCases strategyCases evaluatorCases testAnswer firstFailing passes every closes idles idleTest isVariable constructs
     expanding bookB zeros expansion room earlier evaluation evaluate atRoot follow rewrite systemOf contraction firstMatch bind instance
     span argument replace strategy read readSystem readRules readEnd readRule readSide readWords readStrategy number word learn sideFault
     variableFault outside each times termFault termAnswer isSymbol arity

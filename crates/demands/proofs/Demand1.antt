@@ -5,26 +5,16 @@ use mathlib.Core.Path.{_≡_, refl, sym, ap, subst}
 use mathlib.Core.Option.{Option, none, some}
 use mathlib.Core.List.{List}
 use Rattle.system.specs.declared.Answer.{Answer}
-use Rattle.system.specs.Numbers.{Fault, missing, range, entry, unknown, unbalanced, variableHead, unbound, trailing, faultNumber}
 use Rattle.system.specs.System.{System}
 use Rattle.system.specs.Parser.{Parsed, ok, fault, read}
 use Rattle.system.specs.TermCheck.{termFault}
 use Rattle.system.specs.Answers.{answerOf, wholeAnswer, termAnswer}
 use Rattle.system.specs.Book.{systemOf}
+use Rattle.system.proofs.FaultNumbers.{fault-range}
 use Rattle.rewriting.specs.Evaluation.{Outcome, finished, stopped, evaluation}
 use Rattle.evaluation.specs.Expansion.{expansionOf, expansion}
 use Rattle.demands.specs.Demand1.{Refused, untouched, cleared}
 use Rattle.evaluation.proofs.Expanding.{Course, narrow, wrong, runs, course}
-
-fault-table : (f : Fault) → (1 ≤ faultNumber f) × (faultNumber f ≤ 8)
-fault-table missing = (omega arith, omega arith)
-fault-table range = (omega arith, omega arith)
-fault-table entry = (omega arith, omega arith)
-fault-table unknown = (omega arith, omega arith)
-fault-table unbalanced = (omega arith, omega arith)
-fault-table variableHead = (omega arith, omega arith)
-fault-table unbound = (omega arith, omega arith)
-fault-table trailing = (omega arith, omega arith)
 
 -- an answer of the check of a term: 0 to 9, and no steps
 abbrev Early : Answer → Type 0
@@ -39,7 +29,7 @@ unfolding termAnswer
 term-early book t = go (read book) refl
   where
     go : (o : Parsed System) → read book ≡ o → Early (termAnswer book t)
-    go (fault f i) e = rw (e, termAnswer) (let h = fault-table f .1 in omega arith, refl)
+    go (fault f i) e = rw (e, termAnswer) (let h = fault-range f .1 in omega arith, refl)
     go (ok s j) e = rw (e, termAnswer) (whole-early t (termFault (s .arities) 1 t 0))
 
 module _ (book term : List ℕ) (limit : ℕ) (out work : List ℕ) where

@@ -3,14 +3,13 @@ use Prim.Native.Nat.{ℕ, zero, suc, _≤_}
 use mathlib.Core.Path.{_≡_, refl, sym, ap, _∙_, subst, subst₂}
 use mathlib.Core.List.{List}
 use lib.ListN.{length}
-use Rattle.system.specs.declared.Answer.{Answer}
 use Rattle.system.specs.Limits.{termWords}
 use Rattle.system.specs.Terms.{Whole}
 use Rattle.system.specs.Parser.{ok, read}
 use Rattle.system.specs.Answers.{termAnswer}
 use Rattle.system.proofs.TermChecks.{whole-fault}
 use Rattle.system.specs.Book.{systemOf}
-use Rattle.matching.specs.StrategyTest.{Safe, TestedBook}
+use Rattle.matching.specs.Safety.{Safe}
 use Rattle.matching.proofs.Tests.{test-safe}
 use Rattle.rewriting.specs.Outcomes.{Done}
 use Rattle.rewriting.proofs.Found.{theorem-found}
@@ -62,8 +61,8 @@ module _ (book term : List ℕ) (limit : ℕ) (out work : List ℕ) where
         again = λ l out′ work′ room room′. is-handed-back book t l out′ work′ room room′ g (record { term = t; steps = 0 }) (f .again l);
       })
 
-  pub is-found : (test : Answer) → TestedBook (read book) test → IsFound book test (expansion book term limit out work)
-  is-found test t z e = finds (test-safe book test t z .safe) e
+  pub is-found : IsFound book (expansion book term limit out work)
+  is-found z e = finds (test-safe book z .safe) e
 
 -- ---- expanded again
 
@@ -91,8 +90,7 @@ module _ (book term : List ℕ) (limit : ℕ) (out work : List ℕ) (x : Expansi
   second-goes x′ z v same f =
       f ∙ ap (λ y. expansion book y 0 out′ work′) same ∙ sym (secondly-goes book x out′ work′ z) ∙ ap (λ y. secondly book y out′ work′) e
 
-  pub second-rests : (test : Answer) → TestedBook (read book) test → (x′ : Expansion) (v : List ℕ) → v ≡ handedBack x → x′ ≡ expansion book v 0 out′ work′ →
-      RestsAgain test x out′ work′ x′
-  second-rests test t x′ v same f z z′ a b =
+  pub second-rests : (x′ : Expansion) (v : List ℕ) → v ≡ handedBack x → x′ ≡ expansion book v 0 out′ work′ → RestsAgain book x out′ work′ x′
+  second-rests x′ v same f z z′ a b =
       subst (Rests (handedBack x)) (sym (f ∙ ap (λ y. expansion book y 0 out′ work′) same))
-      (subst (IsFound book test) (sym e) (is-found book term limit out work test t) z z′ .again 0 out′ work′ a b)
+      (subst (IsFound book) (sym e) (is-found book term limit out work) z z′ .again 0 out′ work′ a b)

@@ -3,9 +3,9 @@ use Prim.Native.Nat.{ℕ, zero, suc, _≤_}
 use mathlib.Core.Path.{_≡_}
 use mathlib.Core.List.{List}
 use lib.ListN.{length}
-use Rattle.system.specs.declared.Answer.{Answer}
 use Rattle.system.specs.Answers.{termAnswer}
 use Rattle.system.specs.Book.{systemOf}
+use Rattle.matching.specs.StrategyTest.{PassedBook}
 use Rattle.rewriting.specs.Evaluation.{Config, finished, evaluation}
 use Rattle.rewriting.specs.Outcomes.{Done, Stable}
 use Rattle.evaluation.specs.Expansion.{Expansion, result, expansion, handedBack}
@@ -37,9 +37,9 @@ pub record Found (book t : List ℕ) : Type 0 where
   -- expanding them again takes no step and hands back the same, in any buffers that pass the checks and with any step limit
   pub again : (limit : ℕ) (out work : List ℕ) → termWords ≤ length out → areaWords ≤ length work → Rests t (expansion book t limit out work)
 
--- `test` is the strategy test's answer
-abbrev pub IsFound : List ℕ → Answer → Expansion → Type 0
-IsFound book test x = test .number ≡ 0 → x .numbers .number ≡ 0 → Found book (handedBack x)
+-- "a cue handed back over a passed book"
+abbrev pub IsFound : List ℕ → Expansion → Type 0
+IsFound book x = PassedBook book → x .numbers .number ≡ 0 → Found book (handedBack x)
 
 -- what an expansion x handed back, expanded again with no steps allowed, in the buffers out and work; where nothing was handed back,
 -- x's three numbers and the buffers as they are
@@ -51,6 +51,6 @@ secondly book x out work =
     ]
 
 -- and of a second expansion x′ of what x handed back, with step limit 0 in the buffers out′ and work′
-abbrev pub RestsAgain : Answer → Expansion → List ℕ → List ℕ → Expansion → Type 0
-RestsAgain test x out′ work′ x′ =
-    test .number ≡ 0 → x .numbers .number ≡ 0 → termWords ≤ length out′ → areaWords ≤ length work′ → Rests (handedBack x) x′
+abbrev pub RestsAgain : List ℕ → Expansion → List ℕ → List ℕ → Expansion → Type 0
+RestsAgain book x out′ work′ x′ =
+    PassedBook book → x .numbers .number ≡ 0 → termWords ≤ length out′ → areaWords ≤ length work′ → Rests (handedBack x) x′

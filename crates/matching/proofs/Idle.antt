@@ -12,7 +12,7 @@ use Rattle.system.specs.Signature.{Signature, Symbol, arity, argument}
 use Rattle.system.specs.System.{System, rule, head}
 use Rattle.system.specs.Terms.{Forest, empty, more, Word, Whole, Side, WellFormed}
 use Rattle.matching.specs.Matching.{bind, contraction}
-use Rattle.matching.specs.StrategyTest.{Idle, Constructor}
+use Rattle.matching.specs.Safety.{Idle, Constructor}
 use Rattle.system.proofs.Signatures.{arity-variable, symbol-below, few-symbols}
 use Rattle.system.proofs.Forests.{Wholes, parts-of, forest-take, flatten-set, focus-here, Node, node-whole, node-set}
 use Rattle.system.proofs.Places.{root-argument, at-head}

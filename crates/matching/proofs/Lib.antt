@@ -8,6 +8,7 @@ pub mod Reducts
 -- The strategy test
 pub mod Idle
 pub mod SafetyTest
+pub mod FirstFailing
 pub mod Tests
 -- The starred case
 pub mod Cases

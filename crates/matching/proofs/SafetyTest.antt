@@ -14,8 +14,8 @@ use Rattle.system.specs.Limits.{variable}
 use Rattle.system.specs.Signature.{Symbol}
 use Rattle.system.specs.System.{System, Rule, strategy, rule, noRule, head}
 use Rattle.system.specs.Terms.{Member, first, later}
-use Rattle.matching.specs.StrategyTest.{Idle, IdleEntry, idle, Constructor, Passes, Safe}
-use Rattle.matching.specs.ComputedTest.{every, isVariable, idleTest, idles, closes, constructs, passes}
+use Rattle.matching.specs.Safety.{Idle, IdleEntry, idle, Constructor, Passes, Safe}
+use Rattle.matching.specs.StrategyTest.{every, isVariable, idleTest, idles, closes, constructs, passes}
 
 both : (a b : Bool) → (a && b) ≡ true → (a ≡ true) × (b ≡ true)
 both true b e = (refl, e)

@@ -1,56 +1,134 @@
--- The answer of the strategy test: 0 exactly for an accepted book whose system is safe.
-use Prim.Native.Nat.{ℕ}
+-- What the strategy test's answer tells: 0 exactly for a safe book, 14 at f exactly if f is the lowest-numbered symbol that fails.
+use Prim.Native.Nat.{ℕ, _<_}
 use native.Mathlib.Omega.{arith}
-use mathlib.Core.Path.{_≡_, refl, sym, ap, _∙_}
+use mathlib.Core.Path.{_≡_, refl, sym, ap, _∙_, subst}
+use mathlib.Core.Bool.{Bool, true, false}
+use mathlib.Core.Option.{Option, none, some}
 use mathlib.Core.List.{List}
 use lib.ListN.{length}
 use Rattle.system.specs.declared.Answer.{Answer}
+use Rattle.system.specs.Numbers.{Fault, unsettled, numberOf}
 use Rattle.system.specs.System.{System}
 use Rattle.system.specs.declared.reader.Scan.{Scan}
 use Rattle.system.specs.Parser.{Parsed, ok, fault, read}
+use Rattle.system.specs.Answers.{answerOf}
 use Rattle.system.specs.reader.Sections.{scanOf}
-use Rattle.system.proofs.FaultNumbers.{fault-not-zero}
-use Rattle.system.specs.Book.{systemFrom, systemOf}
-use Rattle.matching.specs.StrategyTest.{SafeBook, Safe, Tested, passed, failed, TestedBook}
+use Rattle.system.proofs.FaultNumbers.{fault-range, fault-not-zero}
+use Rattle.system.proofs.Signatures.{symbol-lt, lt-symbol}
+use Rattle.system.specs.Book.{systemOf}
 use Rattle.system.proofs.layout.Accepting.{reads-system, scan-accepted}
+use Rattle.matching.specs.Safety.{Passes, Safe, FailsFirst, SafeBook, UnsafeBook, Tells}
+use Rattle.matching.specs.StrategyTest.{passes, firstUnsafe, safetyAnswer, testAnswer, PassedBook}
+use Rattle.matching.proofs.FirstFailing.{none-all, all-none, Lowest, some-lowest, lowest-some}
+use Rattle.matching.proofs.SafetyTest.{passes-sound, passes-complete}
+
+-- ---- of a system
 
 module _ (s : System) where
-  pub tested-safe : {r : Answer} → Tested s r → r .number ≡ 0 → Safe s
-  tested-safe (passed h) e = h
-  tested-safe (failed f k h) e = absurd (omega arith)
+  fails-false : {f : ℕ} → (Passes s f → ⊥) → passes s f ≡ false
+  fails-false {f} h = go (passes s f) refl
+    where
+      go : (b : Bool) → passes s f ≡ b → b ≡ false
+      go true e = absurd (h (passes-sound s f e))
+      go false e = refl
 
-  pub safe-tested : {r : Answer} → Tested s r → Safe s → r ≡ record { number = 0; place = 0; steps = 0 }
-  safe-tested (passed h) e = refl
-  safe-tested (failed f k h) e = absurd (h (e f k))
+  -- all pass exactly if none is found that fails
+  pub none-safe : firstUnsafe s ≡ none → Safe s
+  none-safe e f y = passes-sound s f (none-all (passes s) 0 (length (s .arities)) e f (omega arith) (omega (arith, lt-symbol (s .arities) f y)))
+
+  pub safe-none : Safe s → firstUnsafe s ≡ none
+  safe-none h = all-none (passes s) 0 (length (s .arities)) (λ f l m. passes-complete s f (h f (symbol-lt (s .arities) f (omega arith))))
+
+  -- f is found exactly if it is the lowest that fails
+  pub some-first : {f : ℕ} → firstUnsafe s ≡ some f → FailsFirst s f
+  some-first {f} e =
+      let h = some-lowest (passes s) 0 (length (s .arities)) e in
+      let q = h .fails in
+      let m = h .inside in
+      record {
+        symbol = symbol-lt (s .arities) f (omega arith);
+        fails = λ p. let z : _≡_ {A = ℕ} 0 1 = cc (passes-complete s f p) in omega arith;
+        lower = λ g l. passes-sound s g (h .lower g (omega arith) l);
+      }
+
+  pub first-some : {f : ℕ} → FailsFirst s f → firstUnsafe s ≡ some f
+  first-some {f} h = lowest-some (passes s) 0 (length (s .arities)) (record {
+    least = omega arith;
+    inside = omega (arith, lt-symbol (s .arities) f (h .symbol));
+    fails = fails-false (h .fails);
+    lower = λ g l m. passes-complete s g (h .lower g m);
+  })
+
+-- ---- of a book
+
+module _ (b : List ℕ) where
+  -- "A book that the reader refuses gets the reader's answer"
+  pub test-refused : {f : Fault} {i : ℕ} → read b ≡ fault f i → testAnswer b ≡ answerOf (fault f i)
+  unfolding testAnswer
+  test-refused e = rw (e, testAnswer)
+
+  pub test-accepted : {s : System} {i : ℕ} → read b ≡ ok s i → testAnswer b ≡ safetyAnswer (firstUnsafe s)
+  unfolding testAnswer
+  test-accepted e = rw (e, testAnswer)
+
+  -- the three ways that the test ends
+  data Ends : Answer → Type 0 where
+    refused : (f : Fault) (i : ℕ) → Ends (answerOf (fault f i))
+    passed : SafeBook b → Ends (safetyAnswer none)
+    failed : (f : ℕ) → UnsafeBook b f → Ends (safetyAnswer (some f))
+
+  ends : Ends (testAnswer b)
+  ends = go (read b) refl
+    where
+      accepted : read b ≡ ok (systemOf b) (length b) → (o : Option ℕ) → firstUnsafe (systemOf b) ≡ o → Ends (safetyAnswer o)
+      accepted a none e = passed (record { accepted = a; safe = none-safe (systemOf b) e })
+      accepted a (some f) e = failed f (record { accepted = a; first = some-first (systemOf b) e })
+
+      go : (o : Parsed System) → read b ≡ o → Ends (testAnswer b)
+      go (fault f i) e = rw (test-refused e) (refused f i)
+      go (ok s i) e = let a = reads-system b e in rw (test-accepted a) (accepted a (firstUnsafe (systemOf b)) refl)
+
+  -- 0: the book is accepted and safe; and every such book gets it
+  pub test-safe : PassedBook b → SafeBook b
+  test-safe z = go ends z
+    where
+      go : {r : Answer} → Ends r → r .number ≡ 0 → SafeBook b
+      go (refused f i) z = absurd (fault-not-zero f z)
+      go (passed h) z = h
+      go (failed f h) z = absurd (omega arith)
+
+  pub safe-test : SafeBook b → testAnswer b ≡ safetyAnswer none
+  safe-test h = test-accepted (h .accepted) ∙ ap safetyAnswer (safe-none (systemOf b) (h .safe))
+
+  -- 14: the book is accepted, and the place is the lowest-numbered symbol that fails; and every such book gets it
+  pub test-unsafe : testAnswer b .number ≡ numberOf unsettled → UnsafeBook b (testAnswer b .place)
+  test-unsafe z = go ends z
+    where
+      go : {r : Answer} → Ends r → r .number ≡ 14 → UnsafeBook b (r .place)
+      go (refused f i) z = absurd (let l = fault-range f .1 in omega arith)
+      go (passed h) z = absurd (omega arith)
+      go (failed f h) z = h
+
+  pub unsafe-test : {f : ℕ} → UnsafeBook b f → testAnswer b ≡ safetyAnswer (some f)
+  unsafe-test h = test-accepted (h .accepted) ∙ ap safetyAnswer (first-some (systemOf b) (h .first))
+
+  -- THE STRATEGY TEST: all that its answer tells
+  pub test-tells : Tells b (testAnswer b)
+  test-tells = record {
+    refused = λ f i e. test-refused e;
+    safe = (test-safe, λ h. ap (λ r. r .number) (safe-test h));
+    unsafe = λ f. (λ e. subst (UnsafeBook b) (ap (λ r. r .place) e) (test-unsafe (ap (λ r. r .number) e)), unsafe-test);
+  }
 
 -- ---- of a book that was scanned
 
 module _ (b : List ℕ) (s : Scan) (is : s ≡ scanOf (read b)) where
-  -- "A book that the reader refuses gets the reader's answer"
-  pub test-refused : (s .answer .number ≡ 0 → ⊥) → TestedBook (read b) (s .answer)
-  test-refused bad = go (read b) is
+  pub scan-refused : (s .answer .number ≡ 0 → ⊥) → s .answer ≡ testAnswer b
+  scan-refused bad = go (read b) refl
     where
-      go : (o : Parsed System) → s ≡ scanOf o → TestedBook o (s .answer)
-      go (ok x i) e = absurd (bad (ap (λ y. y .answer .number) e))
-      go (fault f i) e = ap (λ y. y .answer) e
+      go : (o : Parsed System) → read b ≡ o → s .answer ≡ testAnswer b
+      go (ok x i) e = absurd (bad (ap (λ y. y .answer .number) (is ∙ ap scanOf e)))
+      go (fault f i) e = ap (λ y. y .answer) (is ∙ ap scanOf e) ∙ sym (test-refused b e)
 
-  pub test-accepted : s .answer .number ≡ 0 → (r : Answer) → Tested (systemOf b) r → TestedBook (read b) r
-  test-accepted good r t = rw (scan-accepted b s is good .accepted) t
-
--- ---- what the answer tells
-
-module _ (b : List ℕ) (r : Answer) (t : TestedBook (read b) r) where
-  -- 0: the book is accepted and safe
-  pub test-safe : r .number ≡ 0 → SafeBook b
-  unfolding systemOf
-  test-safe z = go (read b) refl t
-    where
-      go : (o : Parsed System) → read b ≡ o → TestedBook o r → SafeBook b
-      go (ok s i) e t =
-          let q : systemOf b ≡ s = ap systemFrom e in
-          record { accepted = reads-system b e; safe = rw q (tested-safe s t z) }
-      go (fault f i) e t = absurd (fault-not-zero f (sym (ap (λ y. y .number) t) ∙ z))
-
-  -- and every such book gets it
-  pub safe-test : SafeBook b → r ≡ record { number = 0; place = 0; steps = 0 }
-  safe-test h = safe-tested (systemOf b) (rw (h .accepted) at t) (h .safe)
+  pub scan-tested : s .answer .number ≡ 0 → {r : Answer} → r ≡ safetyAnswer (firstUnsafe (systemOf b)) → r ≡ testAnswer b
+  scan-tested good e = e ∙ sym (test-accepted b (scan-accepted b s is good .accepted))

@@ -1,7 +1,7 @@
 pub mod Matching
 pub mod Bindings
+pub mod Safety
 pub mod StrategyTest
-pub mod ComputedTest
 pub mod Cases
 -- Inner: the search over the rules
 pub mod rules

@@ -1,60 +1,72 @@
--- The strategy test (01: the order test): its condition, and what it answers.
-use Prim.Native.Nat.{ℕ, suc, _≤_, _<_}
+-- The strategy test (01: the order test) as a computation, and what it answers.
+use Prim.Native.Nat.{ℕ, zero, suc}
 use mathlib.Core.Path.{_≡_}
-use mathlib.Core.Logic.{_⊎_}
-use mathlib.Core.List.{List, _∷_, _++_}
+use mathlib.Core.List.{List, [], _∷_}
+use mathlib.Core.Bool.{Bool, true, false, not, _&&_, _||_, cond}
+use mathlib.Core.Option.{Option, none, some}
 use lib.ListN.{length, getD}
+use lib.Dec.{leb, eqb}
 use Rattle.system.specs.declared.Answer.{Answer}
 use Rattle.system.specs.Numbers.{taken, unsettled, numberOf}
 use Rattle.system.specs.Limits.{variable}
-use Rattle.system.specs.Signature.{Symbol, argument}
-use Rattle.system.specs.System.{System, strategy, rule, head}
-use Rattle.system.specs.Terms.{Member}
-use Rattle.system.specs.Book.{systemOf}
-use Rattle.system.specs.Parser.{Parsed, ok, fault, read}
+use Rattle.system.specs.Signature.{Signature, argument}
+use Rattle.system.specs.System.{System, Rule, strategy, head}
+use Rattle.system.specs.Parser.{ok, fault, read}
 use Rattle.system.specs.Answers.{answerOf}
 
--- "An argument is idle if it is a placeholder in every left side starting with that name": the argument of f with i others before it
-abbrev pub Idle : System → ℕ → ℕ → Type 0
-Idle s f i =
-    (k : ℕ) → k < length (s .rules) → head (rule s k .lhs) ≡ f → variable ≤ getD (rule s k .lhs) (argument (s .arities) (rule s k .lhs) 0 i) 0
+-- a test that every rule passes
+unfoldable pub every : (Rule → Bool) → List Rule → Bool
+every test [] = true
+every test (r ∷ rs) = test r && every test rs
 
--- an entry that is an idle argument
-pub data IdleEntry (s : System) (f : ℕ) : ℕ → Type 0 where
-  idle : {i : ℕ} → Idle s f i → IdleEntry s f (suc i)
+-- whether the argument with i others before it is a variable of the left side
+unfoldable pub isVariable : Signature → List ℕ → ℕ → Bool
+isVariable g lhs i = leb variable (getD lhs (argument g lhs 0 i) 0)
 
--- "its order holds a 0 and every entry after the last 0 is an idle argument". (Idle entries are not 0, so the 0 named here is the last.)
-pub record Guarded (s : System) (f : ℕ) : Type 0 where
-  pub before : List ℕ
-  pub after : List ℕ
-  pub split : strategy s f ≡ before ++ 0 ∷ after
-  pub last : (e : ℕ) → Member e after → IdleEntry s f e
+-- whether the argument of f with i others before it is idle
+unfoldable pub idleTest : System → ℕ → ℕ → Bool
+idleTest s f i = every (λ r. not (eqb (head (r .lhs)) f) || isVariable (s .arities) (r .lhs) i) (s .rules)
 
--- a constructor: "no left side starts with it"
-abbrev pub Constructor : System → ℕ → Type 0
-Constructor s f = (k : ℕ) → k < length (s .rules) → head (rule s k .lhs) ≡ f → ⊥
+-- whether all entries are idle arguments
+unfoldable pub idles : (ℕ → Bool) → List ℕ → Bool
+idles test [] = true
+idles test (zero ∷ es) = false
+idles test (suc i ∷ es) = test i && idles test es
 
--- "a name passes if no left side starts with it, or if its order holds a 0 and .."
-abbrev pub Passes : System → ℕ → Type 0
-Passes s f = Constructor s f ⊎ Guarded s f
+-- whether there is a 0, and only idle arguments after the last one
+unfoldable pub closes : (ℕ → Bool) → List ℕ → Bool
+closes test [] = false
+closes test (zero ∷ es) = idles test es || closes test es
+closes test (suc i ∷ es) = closes test es
 
--- "All pass"
-abbrev pub Safe : System → Type 0
-Safe s = (f : ℕ) → Symbol (s .arities) f → Passes s f
+-- whether no left side starts with f
+unfoldable pub constructs : System → ℕ → Bool
+constructs s f = every (λ r. not (eqb (head (r .lhs)) f)) (s .rules)
+
+-- whether the symbol f passes
+unfoldable pub passes : System → ℕ → Bool
+passes s f = constructs s f || closes (idleTest s f) (strategy s f)
 
 -- ---- what the test answers
 
--- "All pass: 0. Otherwise 14, the place being a name that fails." Which of the symbols that fail is free.
-pub data Tested (s : System) : Answer → Type 0 where
-  passed : Safe s → Tested s (record { number = numberOf taken; place = 0; steps = 0 })
-  failed : (f : ℕ) → Symbol (s .arities) f → (Passes s f → ⊥) → Tested s (record { number = numberOf unsettled; place = f; steps = 0 })
+-- the lowest of the n numbers from k on that fails a test; none where all pass
+unfoldable pub firstFailing : (ℕ → Bool) → ℕ → ℕ → Option ℕ
+firstFailing test k zero = none
+firstFailing test k (suc n) = cond (test k) (firstFailing test (suc k) n) (some k)
+
+-- "the lowest-numbered name that fails" (02, F-1)
+abbrev pub firstUnsafe : System → Option ℕ
+firstUnsafe s = firstFailing (passes s) 0 (length (s .arities))
+
+-- "All pass: 0. Otherwise 14" (01); "Number 14's place becomes the lowest-numbered name that fails" (02, F-1)
+abbrev pub safetyAnswer : Option ℕ → Answer
+safetyAnswer none = record { number = numberOf taken; place = 0; steps = 0 }
+safetyAnswer (some f) = record { number = numberOf unsettled; place = f; steps = 0 }
 
 -- "A book that the reader refuses gets the reader's answer."
-abbrev pub TestedBook : Parsed System → Answer → Type 0
-TestedBook (ok s i) r = Tested s r
-TestedBook (fault f i) r = r ≡ answerOf (fault f i)
+unfoldable pub testAnswer : List ℕ → Answer
+testAnswer book = elim (read book) [ fault f i ↦ answerOf (fault f i) | ok s i ↦ safetyAnswer (firstUnsafe s) ]
 
--- "A book passed if the order test answers 0": it is accepted, and its system is safe
-pub record SafeBook (b : List ℕ) : Type 0 where
-  pub accepted : read b ≡ ok (systemOf b) (length b)
-  pub safe : Safe (systemOf b)
+-- "A book passed if the order test answers 0"
+abbrev pub PassedBook : List ℕ → Type 0
+PassedBook book = testAnswer book .number ≡ numberOf taken

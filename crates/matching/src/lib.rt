@@ -2,10 +2,10 @@
 // contracts of `system`. The two operations here ask nothing of their caller; `rules` and `safety::test` are the inner interface for
 // the layers above, over a book that was scanned.
 ghost use mathlib.Core.Path.{_≡_};
-ghost use Rattle.system.specs.Parser.{read};
 ghost use Rattle.system.specs.Book.{systemOf};
 ghost use Rattle.matching.specs.Bindings.{matchOf};
-ghost use Rattle.matching.specs.StrategyTest.{TestedBook};
+ghost use Rattle.matching.specs.Safety.{Tells};
+ghost use Rattle.matching.specs.StrategyTest.{testAnswer};
 use system::Answer;
 use system::limits::VARIABLES;
 use system::numbers::TAKEN;
@@ -47,10 +47,11 @@ pub fn first_match(book: &[u16], ws: &[u16]) -> Match
     fit.matched
 }
 
-// The strategy test: the reader's answer where it refuses the book, else 0 0 0 where every symbol passes, and otherwise 14 with a
-// symbol that fails. Which of those that fail is free.
+// The strategy test: the reader's answer where it refuses the book, else 0 0 0 where every symbol passes, and otherwise 14 with the
+// lowest-numbered symbol that fails; and that this is what the answer tells.
 pub fn test_strategies(book: &[u16]) -> Answer
-    ensures { λ r. ⌜ TestedBook (read (now (book .entry))) r ⌝ }
+    ensures tested { λ r. ⌜ r ≡ testAnswer (now (book .entry)) ⌝ }
+    ensures told { λ r. ⌜ Tells (now (book .entry)) r ⌝ }
 {
     let s = scan_book(book);
     safety::test(book, s)

@@ -7,8 +7,7 @@ ghost use Rattle.system.specs.reader.Sections.{scanOf};
 ghost use Rattle.system.specs.System.{strategy};
 ghost use Rattle.system.specs.Book.{systemOf, Accepted};
 ghost use Rattle.system.specs.layout.Accepted.{StrategyAt};
-ghost use Rattle.matching.specs.StrategyTest.{Tested, TestedBook};
-ghost use Rattle.matching.specs.ComputedTest.{isVariable, idleTest, closes, constructs, passes};
+ghost use Rattle.matching.specs.StrategyTest.{isVariable, idleTest, closes, constructs, passes, firstUnsafe, safetyAnswer, testAnswer};
 use system::Answer;
 use system::Shape;
 use system::layout::rules::rule_at;
@@ -104,23 +103,29 @@ fn passes(book: &[u16], shape: Shape, f: usize, at: usize) -> bool
     closes(book, shape, f, at)
 }
 
-// 0 0 0 where every symbol passes, else 14 and a symbol that fails.
+// 0 0 0 where every symbol passes, else 14 and the lowest-numbered symbol that fails: `first`, at which the search ends. As long as none
+// was found it is the number of symbols.
 fn tested(book: &[u16], shape: Shape) -> Answer
     requires { ⌜ Accepted (now book) shape ⌝ }
-    ensures { λ r. ⌜ Tested (systemOf (now (book .entry))) r ⌝ }
+    ensures { λ r. ⌜ r ≡ safetyAnswer (firstUnsafe (systemOf (now (book .entry)))) ⌝ }
 {
+    let symbols = shape.symbols;
     let mut f = 0;
     let mut at = shape.strategies;
-    while f < shape.symbols {
+    let mut first = symbols;
+    while f < first {
         if !passes(book, shape, f, at) {
-            return Answer {
-                number: UNSETTLED,
-                place: f,
-                steps: 0,
-            };
+            first = f;
         }
         at = at + 1 + wide(book[at]);
         f += 1;
+    }
+    if first < symbols {
+        return Answer {
+            number: UNSETTLED,
+            place: first,
+            steps: 0,
+        };
     }
     Answer {
         number: TAKEN,
@@ -132,7 +137,7 @@ fn tested(book: &[u16], shape: Shape) -> Answer
 // The strategy test of a book that was scanned.
 pub fn test(book: &[u16], scan: Scan) -> Answer
     requires { ⌜ scan ≡ scanOf (read (now book)) ⌝ }
-    ensures { λ r. ⌜ TestedBook (read (now (book .entry))) r ⌝ }
+    ensures { λ r. ⌜ r ≡ testAnswer (now (book .entry)) ⌝ }
 {
     let a = scan.answer;
     if a.number != TAKEN {

@@ -16,7 +16,7 @@ use Rattle.system.specs.Terms.{more, Whole, Member, first, later, WellFormed}
 use Rattle.matching.specs.Matching.{contraction}
 use Rattle.rewriting.specs.Evaluation.{Config, finished, evaluation}
 use Rattle.rewriting.specs.Outcomes.{Stable}
-use Rattle.matching.specs.StrategyTest.{IdleEntry, idle, Guarded, Constructor, Safe}
+use Rattle.matching.specs.Safety.{IdleEntry, idle, Guarded, Constructor, Safe}
 use Rattle.matching.proofs.Firsts.{fired, unfired}
 use Rattle.rewriting.proofs.Walks.{Walk, end, pass, fire, open′, evaluate-local}
 use Rattle.rewriting.proofs.Done.{walk-whole}

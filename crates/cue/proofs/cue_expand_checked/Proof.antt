@@ -1,5 +1,7 @@
 -- `cue_expand_checked` meets its contract.
+use mathlib.Core.Path.{ap, _∙_}
 use borrow.Author.Needs.{needs}
+use Rattle.cue.specs.Exports.{answerFor}
 use Rattle.cue.proofs.cue_expand_checked.Statement.{statement}
 use Rattle.cue.proofs.cue_expand_checked.Tie as tie
 
@@ -11,7 +13,8 @@ returns : tie.Need-returns
 returns c =
     let e = c .before .answer-for .ensures in
     let e′ = c .answer-for2 .ensures in
-    rw (e, e′) (called (c .before) .expand-checked .ensures)
+    let t = called (c .before) .expand-checked .ensures in
+    (e ∙ ap answerFor (t .0), rw e′ (t .1))
 
 pub cue-expand-checked-spec : {M : Type 1} → statement M
 cue-expand-checked-spec =

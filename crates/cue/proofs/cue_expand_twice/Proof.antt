@@ -1,5 +1,7 @@
 -- `cue_expand_twice` meets its contract.
+use mathlib.Core.Path.{ap, _∙_}
 use borrow.Author.Needs.{needs}
+use Rattle.cue.specs.Exports.{answerFor}
 use Rattle.cue.proofs.cue_expand_twice.Statement.{statement}
 use Rattle.cue.proofs.cue_expand_twice.Tie as tie
 
@@ -15,7 +17,8 @@ returns c =
     let e = c .before .before .answer-for .ensures in
     let e′ = c .before .answer-for2 .ensures in
     let e″ = c .answer-for3 .ensures in
-    rw (e, e′, e″) (called (first-back (c .before .before)) .expand-twice .ensures)
+    let t = called (first-back (c .before .before)) .expand-twice .ensures in
+    (e ∙ ap answerFor (t .0), rw (e′, e″) (t .1))
 
 pub cue-expand-twice-spec : {M : Type 1} → statement M
 cue-expand-twice-spec =

@@ -30,7 +30,7 @@ returns c =
     let w = a .work .now in
     let done = subst (IsDone b u l) (sym e) (is-done b u l o w) in
     let handed = subst (IsHandedBack b u l o w) (sym e) (is-handed-back b u l o w) in
-    let found = subst (IsFound b (t .result)) (sym e) (is-found b u l o w (t .result) (t .ensures)) in
+    let found = subst (IsFound b) (sym e) (is-found b u l o w) in
     (t .ensures, (e, (done, (handed, found))))
 
 pub expand-checked-spec : {M : Type 1} → statement M

@@ -45,8 +45,8 @@ returns c =
     let e = first k .expand-scanned .ensures in
     let b = a .book .now in
     let none = second-none b (a .term .now) (a .limit) (a .out .now) (a .work .now) (expanded k) e (a .again .now) (a .spare .now) (c .if1 .taken) in
-    let found = is-found b (a .term .now) (a .limit) (a .out .now) (a .work .now) (t .result) (t .ensures) in
-    (t .ensures, (e, (none, (subst (IsFound b (t .result)) (sym e) found, λ z z′. absurd (c .if1 .taken z′)))))
+    let found = is-found b (a .term .now) (a .limit) (a .out .now) (a .work .now) in
+    (t .ensures, (e, (none, (subst (IsFound b) (sym e) found, λ z z′. absurd (c .if1 .taken z′)))))
 
 part-expand-scanned-end : tie.Need-part-expand-scanned-end
 part-expand-scanned-end c =
@@ -69,9 +69,9 @@ returns-2 c =
     let v = take (x .numbers .place - 0) (x .answer) in
     let same = ap (λ n. take n (x .answer)) (sub-zero (x .numbers .place)) in
     let again = second-goes b (a .term .now) (a .limit) (a .out .now) (a .work .now) x e (a .again .now) (a .spare .now) x′ z v same (f .ensures) in
-    let found = is-found b (a .term .now) (a .limit) (a .out .now) (a .work .now) (t .result) (t .ensures) in
-    let rests = second-rests b (a .term .now) (a .limit) (a .out .now) (a .work .now) x e (a .again .now) (a .spare .now) (t .result) (t .ensures) in
-    (t .ensures, (e, (again, (subst (IsFound b (t .result)) (sym e) found, rests x′ v same (f .ensures)))))
+    let found = is-found b (a .term .now) (a .limit) (a .out .now) (a .work .now) in
+    let rests = second-rests b (a .term .now) (a .limit) (a .out .now) (a .work .now) x e (a .again .now) (a .spare .now) in
+    (t .ensures, (e, (again, (subst (IsFound b) (sym e) found, rests x′ v same (f .ensures)))))
 
 pub expand-twice-spec : {M : Type 1} → statement M
 expand-twice-spec =

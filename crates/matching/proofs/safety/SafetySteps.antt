@@ -6,11 +6,12 @@ use native.Mathlib.Nat.{not-suc-le-zero}
 use native.Mathlib.Decide.{ℕ-discrete}
 use mathlib.Core.Path.{_≡_, refl, sym, ap, _∙_}
 use mathlib.Core.List.{List, [], _∷_, _++_}
-use mathlib.Core.Bool.{Bool, true, false, not, _&&_, _||_, or-true}
+use mathlib.Core.Bool.{Bool, true, false, not, _&&_, _||_, or-true, cond}
+use mathlib.Core.Option.{none, some}
 use lib.ListN.{length, getD, take, drop, drop-of-length-le, length-drop, List·getD-eq-default}
 use lib.Seq.{drop-cons, take-suc, getD-take, getD-drop, length-take-le, take-length}
-use lib.Dec.{leb, eqb}
-use borrow.Author.Tests.{eq-eqb, ne-eqb}
+use lib.Dec.{leb, eqb, ltb}
+use borrow.Author.Tests.{eq-eqb, ne-eqb, lt-ltb, le-ltb}
 use Rattle.system.specs.declared.Shape.{Shape}
 use Rattle.system.specs.Limits.{variable}
 use Rattle.system.specs.Signature.{Signature, argument, span}
@@ -20,12 +21,11 @@ use Rattle.system.proofs.Signatures.{symbol-lt, lt-symbol}
 use Rattle.system.specs.declared.layout.rules.RuleSpan.{RuleSpan}
 use Rattle.system.specs.Book.{systemOf, Accepted}
 use Rattle.system.specs.layout.Accepted.{StrategyAt, SuffixAt}
-use Rattle.matching.specs.StrategyTest.{Tested, passed, failed}
-use Rattle.matching.specs.ComputedTest.{every, isVariable, idleTest, idles, closes, constructs, passes}
+use Rattle.matching.specs.StrategyTest.{every, isVariable, idleTest, idles, closes, constructs, passes, firstFailing, firstUnsafe, safetyAnswer}
 use Rattle.matching.proofs.rules.MatchSteps.{tail}
 use Rattle.system.proofs.layout.Books.{Rest, Turn, rule-count, symbol-count, first-rest, signature}
 use Rattle.system.proofs.layout.Suffixes.{suffix-strategy, suffix-start, suffix-next}
-use Rattle.matching.proofs.SafetyTest.{passes-sound, passes-complete}
+use Rattle.matching.proofs.FirstFailing.{sought, sought-starts, sought-ends, sought-passes, sought-fails}
 
 -- ---- whether an argument is a variable
 
@@ -226,39 +226,53 @@ module _ (s : System) (f : ℕ) {r : Bool} (is : r ≡ not (constructs s f)) whe
   unfolding passes
   passes-closes e q = rw (constructs-by false e, ← q)
 
--- the symbols before f pass, and the strategies from its own on stand from the index `at` on
-pub record Through (b : List ℕ) (sh : Shape) (f at : ℕ) : Type 0 where
-  pub inside : f ≤ sh .symbols
+-- ---- the symbols, one after the other
+
+-- the strategies from that of f on stand from the index `at` on, and what fails first is found among the symbols from f on that are before
+-- `first`, or is `first`
+pub record Through (b : List ℕ) (sh : Shape) (f at first : ℕ) : Type 0 where
+  pub inside : first ≤ sh .symbols
   pub suffix : SuffixAt b f at
-  pub passed : (k : ℕ) → k < f → passes (systemOf b) k ≡ true
+  pub goes : sought (passes (systemOf b)) (sh .symbols) f first ≡ firstUnsafe (systemOf b)
 
 module _ {b : List ℕ} {sh : Shape} (acc : Accepted b sh) where
-  pub test-starts : Through b sh 0 (sh .strategies)
+  arity-count : length (systemOf b .arities) ≡ sh .symbols
+  arity-count = ap length (signature b sh acc) ∙ sym (symbol-count b sh acc)
+
+  pub test-starts : Through b sh 0 (sh .strategies) (sh .symbols)
   test-starts = record {
     inside = omega arith;
     suffix = suffix-start b sh acc;
-    passed = λ k h. absurd (not-suc-le-zero h);
+    goes = sought-starts (passes (systemOf b)) (sh .symbols) ∙ ap (firstFailing (passes (systemOf b)) 0) (sym arity-count);
   }
 
-  module _ {f at : ℕ} (so : Through b sh f at) where
-    pub test-ends : sh .symbols ≤ f → Tested (systemOf b) (record { number = 0; place = 0; steps = 0 })
-    test-ends h =
-        passed (λ k y. passes-sound (systemOf b) k
-        (so .passed k (let l = rw (signature b sh acc) at (lt-symbol (systemOf b .arities) k y) in omega (arith, symbol-count b sh acc))))
+  module _ {f at first : ℕ} (so : Through b sh f at first) where
+    ends : first ≤ f → {x : Bool} → ltb first (sh .symbols) ≡ x → cond x (some first) none ≡ firstUnsafe (systemOf b)
+    ends h e = rw (← e) (sym (sought-ends (passes (systemOf b)) (sh .symbols) f first h)) ∙ so .goes
+
+    -- the search is over
+    pub test-fails : first ≤ f → first < sh .symbols → record { number = 14; place = first; steps = 0 } ≡ safetyAnswer (firstUnsafe (systemOf b))
+    test-fails h l = ap safetyAnswer (ends h (lt-ltb first (sh .symbols) l))
+
+    pub test-passes : first ≤ f → sh .symbols ≤ first → record { number = 0; place = 0; steps = 0 } ≡ safetyAnswer (firstUnsafe (systemOf b))
+    test-passes h l = ap safetyAnswer (ends h (le-ltb first (sh .symbols) l))
 
     module _ (more : f < sh .symbols) where
       pub test-strategy : StrategyAt b f at
       test-strategy = suffix-strategy b sh acc f at more (so .suffix)
 
-      module _ {r : Bool} (is : r ≡ passes (systemOf b) f) where
-        pub test-fails : r ≡ false → Tested (systemOf b) (record { number = 14; place = f; steps = 0 })
-        test-fails e =
-            failed f (rw (signature b sh acc) (symbol-lt (signatureOf b) f (omega (arith, symbol-count b sh acc))))
-            (λ p. let z : _≡_ {A = ℕ} 0 1 = cc (passes-complete (systemOf b) f p) in omega arith)
+      -- the symbol f passes or fails, and the next one is looked at if it is before `first`
+      module _ {r : Bool} (is : r ≡ passes (systemOf b) f) {n : ℕ} (size : n ≡ getD b at 0) (seeking : f < first) where
+        pub goes-passing : r ≡ true → Through b sh (f + 1) (at + 1 + n) first
+        goes-passing e = record {
+          inside = so .inside;
+          suffix = suffix-next b sh acc f at n more (so .suffix) size;
+          goes = sought-passes (passes (systemOf b)) (sh .symbols) f first seeking (sym is ∙ e) ∙ so .goes;
+        }
 
-        pub test-goes : r ≡ true → {n : ℕ} → n ≡ getD b at 0 → Through b sh (f + 1) (at + 1 + n)
-        test-goes e {n} q = record {
+        pub goes-failing : r ≡ false → Through b sh (f + 1) (at + 1 + n) f
+        goes-failing e = record {
           inside = omega arith;
-          suffix = suffix-next b sh acc f at n more (so .suffix) q;
-          passed = λ k h. elim (ℕ-discrete k f) [ yes z ↦ rw z (sym is ∙ e) | no d ↦ so .passed k (omega arith) ];
+          suffix = suffix-next b sh acc f at n more (so .suffix) size;
+          goes = sought-fails (passes (systemOf b)) (sh .symbols) f first seeking (so .inside) (sym is ∙ e) ∙ so .goes;
         }

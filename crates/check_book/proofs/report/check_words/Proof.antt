@@ -1,7 +1,7 @@
 -- `check_words` meets its contract.
 use mathlib.Core.Path.{ap}
 use borrow.Author.Needs.{needs}
-use Rattle.check_book.proofs.report.Telling.{told-refused, told-taken}
+use Rattle.check_book.proofs.report.Telling.{by-fault, by-test}
 use Rattle.check_book.proofs.report.check_words.Statement.{statement}
 use Rattle.check_book.proofs.report.check_words.Tie as tie
 
@@ -11,7 +11,7 @@ returns c =
     let f = w .before .before in
     let r = f .before .before .before in
     let s = r .before .before .before in
-    told-refused (s .args .book .now) (r .scan-book .result .answer) (ap (λ y. y .answer) (r .scan-book .ensures)) (f .if1 .taken) (w .put-fault .ensures)
+    by-fault (s .args .book .now) (r .scan-book .result .answer) (ap (λ y. y .answer) (r .scan-book .ensures)) (f .if1 .taken) (w .put-fault .ensures)
 
 returns-2 : tie.Need-returns-2
 returns-2 c =
@@ -21,8 +21,8 @@ returns-2 c =
     let f = v .before .before in
     let r = f .before .before .before in
     let s = r .before .before .before in
-    told-taken (s .args .book .now) (r .scan-book .result .answer) (ap (λ y. y .answer) (r .scan-book .ensures)) (t .test .result) (f .if1 .left)
-    (t .test .ensures) (v .put-taken .ensures .0) (w .put-order .ensures)
+    by-test (s .args .book .now) (r .scan-book .result .answer) (ap (λ y. y .answer) (r .scan-book .ensures)) (f .if1 .left) (t .test .ensures)
+    (v .put-taken .ensures .0) (w .put-order .ensures)
 
 pub check-words-spec : {M : Type 1} → statement M
 check-words-spec =

@@ -1,8 +1,11 @@
 -- `verdict` meets its contract.
+use native.Mathlib.Omega.{arith}
+use lib.ListN.{length}
 use borrow.Author.Needs.{needs}
+use Rattle.printing.proofs.Writing.{written-nothing}
 use Rattle.files.specs.Files.{bookBytes}
 use Rattle.files.proofs.checks.Checks.{Taken, taken}
-use Rattle.check_book.proofs.report.Telling.{by-room, by-checks, by-words}
+use Rattle.check_book.proofs.report.Telling.{room-none, by-checks, by-words}
 use Rattle.check_book.proofs.report.verdict.Statement.{statement}
 use Rattle.check_book.proofs.report.verdict.Tie as tie
 
@@ -27,7 +30,7 @@ book c =
 returns : tie.Need-returns
 returns c =
     let a = entry (c .before) .args in
-    by-room (a .there) (a .book .now) (a .text .now) (c .if1 .taken)
+    rw (room-none (length (a .text .now)) _ (c .if1 .taken)) (written-nothing (a .text .now) 0 (omega arith))
 
 returns-2 : tie.Need-returns-2
 returns-2 c =

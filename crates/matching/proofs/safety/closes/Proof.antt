@@ -1,6 +1,6 @@
 -- `safety::closes` meets its contract.
 use borrow.Author.Tests.{not-true, not-false}
-use Rattle.matching.specs.ComputedTest.{idleTest}
+use Rattle.matching.specs.StrategyTest.{idleTest}
 use Rattle.matching.proofs.safety.SafetySteps.{Looked, look-starts, look-ends, look-zero, look-busy, look-idle}
 use mathlib.Core.Path.{sym, _∙_}
 use Rattle.system.specs.Book.{systemOf}

@@ -1,18 +1,18 @@
 -- `safety::test` meets its contract.
 use Rattle.system.proofs.layout.Accepting.{scan-accepted}
-use Rattle.matching.proofs.Tests.{test-refused, test-accepted}
+use Rattle.matching.proofs.Tests.{scan-refused, scan-tested}
 use Rattle.matching.proofs.safety.test.Statement.{statement}
 use Rattle.matching.proofs.safety.test.Tie as tie
 
 returns : tie.Need-returns
-returns c = let s = c .before .before .before .before in test-refused (s .args .book .now) (s .args .scan) (s .pre) (c .if1 .taken)
+returns c = let s = c .before .before .before .before in scan-refused (s .args .book .now) (s .args .scan) (s .pre) (c .if1 .taken)
 
 tested-requires : tie.Need-tested-requires
 tested-requires c κs = let s = c .before .before .before .before in scan-accepted (s .args .book .now) (s .args .scan) (s .pre) (c .if1 .left)
 
 returns-2 : tie.Need-returns-2
 returns-2 c = let s = c .before .before .before .before .before in
-    test-accepted (s .args .book .now) (s .args .scan) (s .pre) (c .before .if1 .left) (c .tested .result) (c .tested .ensures)
+    scan-tested (s .args .book .now) (s .args .scan) (s .pre) (c .before .if1 .left) (c .tested .ensures)
 
 pub test-spec : {M : Type 1} → statement M
 test-spec = tie.close (tie.spec returns tested-requires returns-2)
