@@ -1,4 +1,4 @@
--- The computed strategy test decides whether a system is safe.
+-- The computed strategy test decides whether a symbol passes.
 use Prim.Native.Nat.{ℕ, zero, suc, _<_}
 use native.Mathlib.Nat.{le-of-suc-le-suc, not-suc-le-zero}
 use native.Mathlib.Omega.{arith}
@@ -11,10 +11,9 @@ use lib.ListN.{length, getD}
 use lib.Dec.{eqb}
 use borrow.Author.Tests.{leb-true, le-leb, eq-eqb, ne-eqb}
 use Rattle.system.specs.Limits.{variable}
-use Rattle.system.specs.Signature.{Symbol}
 use Rattle.system.specs.System.{System, Rule, strategy, rule, noRule, head}
 use Rattle.system.specs.Terms.{Member, first, later}
-use Rattle.matching.specs.Safety.{Idle, IdleEntry, idle, Constructor, Passes, Safe}
+use Rattle.matching.specs.Safety.{Idle, IdleEntry, idle, Constructor, Passes}
 use Rattle.matching.specs.StrategyTest.{every, isVariable, idleTest, idles, closes, constructs, passes}
 
 both : (a b : Bool) → (a && b) ≡ true → (a ≡ true) × (b ≡ true)
@@ -109,10 +108,3 @@ module _ (s : System) (f : ℕ) where
   unfolding passes
   passes-complete (inl h) = rw (constructs-complete h)
   passes-complete (inr h) = rw (h .split, closes-complete s f (h .before) (h .after) (h .last)) (or-true (constructs s f))
-
--- so it passes every symbol exactly when the system is safe
-pub passes-safe : (s : System) → ((f : ℕ) → Symbol (s .arities) f → passes s f ≡ true) → Safe s
-passes-safe s h f n = passes-sound s f (h f n)
-
-pub safe-passes : (s : System) → Safe s → (f : ℕ) → Symbol (s .arities) f → passes s f ≡ true
-safe-passes s h f n = passes-complete s f (h f n)
