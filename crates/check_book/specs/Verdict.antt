@@ -1,9 +1,7 @@
 -- What the program `check_book` prints of show.book: one line on what the reader says of it, and one on the order test.
 use Prim.Native.Nat.{ℕ, zero, suc}
 use Prim.Native.String.{String}
-use mathlib.Core.Bool.{cond}
-use mathlib.Core.List.{List, [], _++_}
-use lib.Dec.{ltb}
+use mathlib.Core.List.{List, _++_}
 use Rattle.system.specs.declared.Answer.{Answer}
 use Rattle.system.specs.Numbers.{Fault, missing, range, entry, unknown, unbalanced, variableHead, unbound, trailing}
 use Rattle.system.specs.Parser.{ok, fault, read}
@@ -62,9 +60,6 @@ textOf (holds ws) = bookText ws
 abbrev pub verdict : File → List ℕ
 verdict book = textOf (check bookBytes book)
 
--- no text is longer; a slice that has not so many bytes gets no text at all
+-- no text is longer
 abbrev pub textBytes : ℕ
 textBytes = 256
-
-abbrev pub inRoom : ℕ → List ℕ → List ℕ
-inRoom room text = cond (ltb room textBytes) [] text

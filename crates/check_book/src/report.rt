@@ -1,10 +1,10 @@
 // What the program prints, from the bytes of show.book.
 ghost use Prim.Native.Nat.{_≤_};
 ghost use lib.ListN.{length};
-ghost use Rattle.printing.specs.Text.{Written};
+ghost use Rattle.printing.specs.Text.{inRoom, Written};
 ghost use Rattle.files.specs.Words.{wordsOf};
 ghost use Rattle.files.specs.Files.{bookBytes, fileOf};
-ghost use Rattle.check_book.specs.Verdict.{textBytes, bookText, verdict, inRoom};
+ghost use Rattle.check_book.specs.Verdict.{textBytes, bookText, verdict};
 use crate::lines::put_fault;
 use crate::lines::put_order;
 use crate::lines::put_taken;
@@ -22,8 +22,8 @@ pub const TEXT_BYTES: usize = 256;
 // Puts the text for the book's file at the start of `text` and answers how long it is. It is told whether the file is there, and its bytes:
 // all of them, or more than it may have. A `text` below 256 bytes stays as it is, and the answer is 0.
 pub fn verdict(there: bool, book: &[u8], text: &mut [u8]) -> usize
-    ensures { λ r. ⌜ Written (now (text .entry)) 0 (inRoom (length (now (text .entry))) (verdict (fileOf there (now (book .entry)))))
-        r (now (text .exit)) ⌝ }
+    ensures { λ r. ⌜ Written (now (text .entry)) 0
+        (inRoom textBytes (length (now (text .entry))) (verdict (fileOf there (now (book .entry))))) r (now (text .exit)) ⌝ }
 {
     if text.len() < TEXT_BYTES {
         return 0;

@@ -1,8 +1,6 @@
 -- What the program prints (01, "The program"), whatever it finds of its two files.
 use Prim.Native.Nat.{ℕ, zero, suc}
-use mathlib.Core.Bool.{cond}
 use mathlib.Core.List.{List, [], _∷_, _++_}
-use lib.Dec.{ltb}
 use Rattle.buffers.specs.Words.{zeros}
 use Rattle.system.specs.Limits.{termWords, areaWords}
 use Rattle.evaluation.specs.Expansion.{Expansion, expansion, handedBack}
@@ -35,7 +33,3 @@ report book cue = textOf (check bookBytes book) (check cueBytes cue)
 -- no text is longer: 19 bytes of heading, at most 43 of the three numbers, and at most 6 for each of 4,096 words
 abbrev pub textBytes : ℕ
 textBytes = 24638
-
--- a slice that has not so many bytes gets no text at all
-abbrev pub inRoom : ℕ → List ℕ → List ℕ
-inRoom room text = cond (ltb room textBytes) [] text

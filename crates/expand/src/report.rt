@@ -5,10 +5,10 @@ ghost use mathlib.Core.List.{[]};
 ghost use lib.ListN.{length, getD, drop};
 ghost use Rattle.system.specs.Limits.{termWords};
 ghost use Rattle.evaluation.specs.Expansion.{expansion, result};
-ghost use Rattle.printing.specs.Text.{Written};
+ghost use Rattle.printing.specs.Text.{inRoom, Written};
 ghost use Rattle.files.specs.Words.{wordsOf};
 ghost use Rattle.files.specs.Files.{bookBytes, fileOf, holds};
-ghost use Rattle.expand.specs.Report.{cueBytes, textBytes, answerText, textOf, report, inRoom};
+ghost use Rattle.expand.specs.Report.{cueBytes, textBytes, answerText, textOf, report};
 use files::checks::BOOK_BYTES;
 use files::checks::BOOK_WORDS;
 use files::checks::refuse;
@@ -29,8 +29,8 @@ pub const TEXT_BYTES: usize = 24638;
 // bytes: all of them, or more than it may have. A `text` below 24,638 bytes stays as it is, and the answer is 0.
 pub fn report(book_there: bool, book: &[u8], cue_there: bool, cue: &[u8], text: &mut [u8]) -> usize
     ensures { λ r. ⌜ Written (now (text .entry)) 0
-        (inRoom (length (now (text .entry))) (report (fileOf «book_there» (now (book .entry))) (fileOf «cue_there» (now (cue .entry)))))
-        r (now (text .exit)) ⌝ }
+        (inRoom textBytes (length (now (text .entry)))
+        (report (fileOf «book_there» (now (book .entry))) (fileOf «cue_there» (now (cue .entry))))) r (now (text .exit)) ⌝ }
 {
     if text.len() < TEXT_BYTES {
         return 0;

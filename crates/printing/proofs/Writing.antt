@@ -6,10 +6,11 @@ use mathlib.Core.Path.{_≡_, refl, sym, ap, _∙_}
 use mathlib.Core.List.{List, [], _∷_, _++_, append-assoc, append-nil}
 use lib.ListN.{length, take, getD, set, length-append}
 use lib.Seq.{length-sets, length-take-le, take-all, take-suc}
+use borrow.Author.Tests.{lt-ltb, le-ltb}
 use Rattle.buffers.specs.Words.{over}
 use Rattle.buffers.proofs.Over.{over-append, over-snoc}
 use Rattle.system.specs.declared.Answer.{Answer}
-use Rattle.printing.specs.Text.{decimal, line, heading, numbersLine, wordLines, Written}
+use Rattle.printing.specs.Text.{decimal, line, heading, numbersLine, wordLines, inRoom, Written}
 use Rattle.printing.proofs.Decimals.{decimal-length}
 
 module _ {t t₁ : List ℕ} {at m : ℕ} {xs : List ℕ} (a : Written t at xs m t₁) where
@@ -34,6 +35,13 @@ written-same e w = rw e at w
 -- nothing written
 pub written-nothing : (t : List ℕ) (at : ℕ) → at ≤ length t → Written t at [] at t
 written-nothing t at h = record { ends = omega arith; fits = h; becomes = refl }
+
+-- a slice without the room for every text, and one with it
+pub room-none : (least : ℕ) (t text : List ℕ) → length t < least → Written t 0 (inRoom least (length t) text) 0 t
+room-none least t text h = rw (lt-ltb (length t) least h) (written-nothing t 0 (omega arith))
+
+pub room-enough : (least : ℕ) {t t₁ text : List ℕ} {r : ℕ} → least ≤ length t → Written t 0 text r t₁ → Written t 0 (inRoom least (length t) text) r t₁
+room-enough least {t} h w = rw (le-ltb (length t) least h) w
 
 -- one byte
 pub written-byte : (t : List ℕ) (at b : ℕ) → at < length t → Written t at (b ∷ []) (at + 1) (set t at b)

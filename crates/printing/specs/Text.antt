@@ -3,8 +3,10 @@ use Prim.Native.Nat.{ℕ, zero, suc, _+_, _/_, _%_, _≤_}
 use Prim.Native.Char.{code}
 use Prim.Native.String.{String, [] as empty, _∷_ as _then_}
 use mathlib.Core.Path.{_≡_}
+use mathlib.Core.Bool.{cond}
 use mathlib.Core.List.{List, [], _∷_, _++_}
 use lib.ListN.{length}
+use lib.Dec.{ltb}
 use Rattle.buffers.specs.Words.{over}
 use Rattle.system.specs.declared.Answer.{Answer}
 
@@ -42,6 +44,10 @@ numbersLine a = line (decimal (a .number) ++ ascii " " ++ decimal (a .place) ++ 
 unfoldable pub wordLines : List ℕ → List ℕ
 wordLines [] = []
 wordLines (w ∷ ws) = line (decimal w) ++ wordLines ws
+
+-- the text in a slice of so many bytes: none at all where that is below the least that has room for every text
+abbrev pub inRoom : ℕ → ℕ → List ℕ → List ℕ
+inRoom least room text = cond (ltb room least) [] text
 
 -- after a call: the bytes stand in the text from index `at` on, with room for all of them, everything else is as it was, and `end` is
 -- the index just behind them

@@ -1,23 +1,22 @@
 -- Laws of what is printed of a book and of its file, in the terms of the code that puts the text.
-use Prim.Native.Nat.{ℕ, _≤_, _<_}
+use Prim.Native.Nat.{ℕ, _≤_}
 use mathlib.Core.Path.{_≡_, refl, sym, ap, _∙_}
 use mathlib.Core.Bool.{Bool}
-use mathlib.Core.List.{List, []}
+use mathlib.Core.List.{List}
 use lib.ListN.{length}
-use borrow.Author.Tests.{lt-ltb, le-ltb}
 use Rattle.system.specs.declared.Answer.{Answer}
 use Rattle.system.specs.System.{System}
 use Rattle.system.specs.Parser.{Parsed, ok, fault, read}
 use Rattle.system.specs.Answers.{answerOf}
 use Rattle.system.proofs.FaultNumbers.{fault-not-zero}
 use Rattle.matching.specs.StrategyTest.{testAnswer}
-use Rattle.printing.specs.Text.{Written}
-use Rattle.printing.proofs.Writing.{written-then}
+use Rattle.printing.specs.Text.{inRoom, Written}
+use Rattle.printing.proofs.Writing.{written-then, room-enough}
 use Rattle.files.specs.Words.{wordsOf}
 use Rattle.files.specs.Files.{fileOf, bookBytes, Checked, stops, holds, check}
 use Rattle.files.specs.checks.Refusal.{refusal}
 use Rattle.files.proofs.checks.Checks.{Taken}
-use Rattle.check_book.specs.Verdict.{faultLine, takenLine, orderLine, bookText, textOf, verdict, textBytes, inRoom}
+use Rattle.check_book.specs.Verdict.{faultLine, takenLine, orderLine, bookText, textOf, verdict, textBytes}
 use Rattle.check_book.specs.lines.Rows.{faultOf}
 use Rattle.check_book.proofs.lines.Rows.{fault-of}
 
@@ -56,17 +55,13 @@ text-words : (ws : List ℕ) → textOf (holds ws) ≡ bookText ws
 unfolding textOf
 text-words ws = refl
 
--- a slice without the room for every text
-pub room-none : (room : ℕ) (text : List ℕ) → room < textBytes → inRoom room text ≡ []
-room-none room text h = rw (lt-ltb room textBytes h)
-
--- one with it: the checks stop the file, or it is taken
+-- in a slice with the room for every text: the checks stop the file, or it is taken
 module _ (there : Bool) (book t : List ℕ) (room : textBytes ≤ length t) where
   abbrev Prints : ℕ → List ℕ → Type 0
-  Prints r t′ = Written t 0 (inRoom (length t) (verdict (fileOf there book))) r t′
+  Prints r t′ = Written t 0 (inRoom textBytes (length t) (verdict (fileOf there book))) r t′
 
   pub by-checks : {r : ℕ} {t₁ : List ℕ} → Written t 0 (refusal (check bookBytes (fileOf there book))) r t₁ → (r ≡ 0 → ⊥) → Prints r t₁
-  by-checks w h = rw (le-ltb (length t) textBytes room) (text-stops (check bookBytes (fileOf there book)) w h)
+  by-checks w h = room-enough textBytes room (text-stops (check bookBytes (fileOf there book)) w h)
 
   pub by-words : {t₁ t₂ : List ℕ} {r : ℕ} → Taken bookBytes there book t t₁ → Written t₁ 0 (bookText (wordsOf book)) r t₂ → Prints r t₂
-  by-words k w = rw (le-ltb (length t) textBytes room, k .held, text-words (wordsOf book)) (rw (k .same) at w)
+  by-words k w = room-enough textBytes room (rw (k .held, text-words (wordsOf book)) (rw (k .same) at w))

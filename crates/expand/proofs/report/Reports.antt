@@ -5,18 +5,17 @@ use mathlib.Core.Path.{_≡_, refl, ap, _∙_}
 use mathlib.Core.Bool.{Bool}
 use mathlib.Core.List.{List, [], _∷_, append-nil}
 use lib.ListN.{length, take, drop, getD}
-use borrow.Author.Tests.{lt-ltb, le-ltb}
 use Rattle.system.specs.Limits.{areaWords, termWords}
 use Rattle.buffers.specs.Words.{zeros}
 use Rattle.system.specs.declared.Answer.{Answer}
 use Rattle.evaluation.specs.Expansion.{expansion, result}
-use Rattle.printing.specs.Text.{ascii, line, heading, numbersLine, wordLines, Written}
-use Rattle.printing.proofs.Writing.{written-then}
+use Rattle.printing.specs.Text.{ascii, line, heading, numbersLine, wordLines, inRoom, Written}
+use Rattle.printing.proofs.Writing.{written-then, room-enough}
 use Rattle.files.specs.Words.{wordsOf}
 use Rattle.files.specs.Files.{fileOf, bookBytes, Checked, stops, holds, check}
 use Rattle.files.specs.checks.Refusal.{refusal}
 use Rattle.files.proofs.checks.Checks.{Taken}
-use Rattle.expand.specs.Report.{cueBytes, onZero, answerText, textOf, report, textBytes, inRoom}
+use Rattle.expand.specs.Report.{cueBytes, onZero, answerText, textOf, report, textBytes}
 
 -- ---- both files
 
@@ -49,27 +48,23 @@ unfolding textOf
 text-words ws [] h = absurd (omega arith)
 text-words ws (x ∷ ts) h = refl
 
--- a slice without the room for every text
-pub room-none : (room : ℕ) (text : List ℕ) → room < textBytes → inRoom room text ≡ []
-room-none room text h = rw (lt-ltb room textBytes h)
-
--- one with it, by the place at which the program stops
+-- in a slice with the room for every text, by the place at which the program stops
 module _ (bt : Bool) (book : List ℕ) (ct : Bool) (cue t : List ℕ) (room : textBytes ≤ length t) where
   abbrev Prints : ℕ → List ℕ → Type 0
-  Prints r t′ = Written t 0 (inRoom (length t) (report (fileOf bt book) (fileOf ct cue))) r t′
+  Prints r t′ = Written t 0 (inRoom textBytes (length t) (report (fileOf bt book) (fileOf ct cue))) r t′
 
   pub by-book : {r : ℕ} {t′ : List ℕ} → Written t 0 (refusal (check bookBytes (fileOf bt book))) r t′ → (r ≡ 0 → ⊥) → Prints r t′
-  by-book w h = rw (le-ltb (length t) textBytes room) (stops-first (check bookBytes (fileOf bt book)) (check cueBytes (fileOf ct cue)) w h)
+  by-book w h = room-enough textBytes room (stops-first (check bookBytes (fileOf bt book)) (check cueBytes (fileOf ct cue)) w h)
 
   module _ {t₁ : List ℕ} (b : Taken bookBytes bt book t t₁) where
     pub by-cue : {r : ℕ} {t′ : List ℕ} → Written t₁ 0 (refusal (check cueBytes (fileOf ct cue))) r t′ → (r ≡ 0 → ⊥) → Prints r t′
     by-cue w h =
-        rw (le-ltb (length t) textBytes room, b .held)
-        (stops-second (wordsOf book) (check cueBytes (fileOf ct cue)) (rw (b .same) at w) h)
+        room-enough textBytes room
+        (rw (b .held) (stops-second (wordsOf book) (check cueBytes (fileOf ct cue)) (rw (b .same) at w) h))
 
     module _ {t₂ : List ℕ} (c : Taken cueBytes ct cue t₁ t₂) {r : ℕ} {t′ : List ℕ} where
       pub by-answer : Written t₂ 0 (textOf (holds (wordsOf book)) (holds (wordsOf cue))) r t′ → Prints r t′
-      by-answer w = rw (le-ltb (length t) textBytes room, b .held, c .held) (rw (c .same, b .same) at w)
+      by-answer w = room-enough textBytes room (rw (b .held, c .held) (rw (c .same, b .same) at w))
 
       pub by-short : length cue < 2 → Written t₂ 0 (line (ascii "short")) r t′ → Prints r t′
       by-short h w = by-answer (rw (no-words cue h, text-short (wordsOf book)) w)

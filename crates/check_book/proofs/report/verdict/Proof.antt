@@ -1,11 +1,10 @@
 -- `verdict` meets its contract.
-use native.Mathlib.Omega.{arith}
-use lib.ListN.{length}
 use borrow.Author.Needs.{needs}
-use Rattle.printing.proofs.Writing.{written-nothing}
+use Rattle.printing.proofs.Writing.{room-none}
 use Rattle.files.specs.Files.{bookBytes}
 use Rattle.files.proofs.checks.Checks.{Taken, taken}
-use Rattle.check_book.proofs.report.Telling.{room-none, by-checks, by-words}
+use Rattle.check_book.specs.Verdict.{textBytes}
+use Rattle.check_book.proofs.report.Telling.{by-checks, by-words}
 use Rattle.check_book.proofs.report.verdict.Statement.{statement}
 use Rattle.check_book.proofs.report.verdict.Tie as tie
 
@@ -30,7 +29,7 @@ book c =
 returns : tie.Need-returns
 returns c =
     let a = entry (c .before) .args in
-    rw (room-none (length (a .text .now)) _ (c .if1 .taken)) (written-nothing (a .text .now) 0 (omega arith))
+    room-none textBytes (a .text .now) _ (c .if1 .taken)
 
 returns-2 : tie.Need-returns-2
 returns-2 c =

@@ -1,12 +1,11 @@
 -- `report` meets its contract.
 use native.Mathlib.Omega.{arith}
-use lib.ListN.{length}
 use borrow.Author.Needs.{needs}
-use Rattle.printing.proofs.Writing.{written-nothing}
+use Rattle.printing.proofs.Writing.{room-none}
 use Rattle.files.specs.Files.{bookBytes}
 use Rattle.files.proofs.checks.Checks.{Taken, taken}
-use Rattle.expand.specs.Report.{cueBytes}
-use Rattle.expand.proofs.report.Reports.{room-none, by-book, by-cue, by-short, by-answer}
+use Rattle.expand.specs.Report.{cueBytes, textBytes}
+use Rattle.expand.proofs.report.Reports.{by-book, by-cue, by-short, by-answer}
 use Rattle.expand.proofs.report.report.Statement.{statement}
 use Rattle.expand.proofs.report.report.Tie as tie
 
@@ -43,7 +42,7 @@ cue c =
 returns : tie.Need-returns
 returns c =
     let a = entry (c .before) .args in
-    rw (room-none (length (a .text .now)) _ (c .if1 .taken)) (written-nothing (a .text .now) 0 (omega arith))
+    room-none textBytes (a .text .now) _ (c .if1 .taken)
 
 returns-2 : tie.Need-returns-2
 returns-2 c =
