@@ -37,7 +37,7 @@ pub record Found (book t : List ℕ) : Type 0 where
   -- expanding them again takes no step and hands back the same, in any buffers that pass the checks and with any step limit
   pub again : (limit : ℕ) (out work : List ℕ) → termWords ≤ length out → areaWords ≤ length work → Rests t (expansion book t limit out work)
 
--- "a cue handed back over a passed book"
+-- a term handed back over a book that passed
 abbrev pub IsFound : List ℕ → Expansion → Type 0
 IsFound book x = PassedBook book → x .numbers .number ≡ 0 → Found book (handedBack x)
 

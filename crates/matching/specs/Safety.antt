@@ -62,7 +62,7 @@ pub record UnsafeBook (b : List ℕ) (f : ℕ) : Type 0 where
 pub record Tells (b : List ℕ) (r : Answer) : Type 0 where
   -- "A book that the reader refuses gets the reader's answer."
   pub refused : (f : Fault) (i : ℕ) → read b ≡ fault f i → r ≡ answerOf (fault f i)
-  -- "the order test passes exactly those that meet its rule"
+  -- "All pass: 0": exactly for an accepted book whose system is safe
   pub safe : (r .number ≡ numberOf taken) ↔ SafeBook b
-  -- 14 at f exactly if f fails and every lower symbol passes
+  -- 14 at f exactly if f fails and every lower symbol passes: "the lowest-numbered name that fails" (02, F-1)
   pub unsafe : (f : ℕ) → (r ≡ record { number = numberOf unsettled; place = f; steps = 0 }) ↔ UnsafeBook b f

@@ -48,7 +48,7 @@ pub fn first_match(book: &[u16], ws: &[u16]) -> Match
 }
 
 // The strategy test: the reader's answer where it refuses the book, else 0 0 0 where every symbol passes, and otherwise 14 with the
-// lowest-numbered symbol that fails; and that this is what the answer tells.
+// lowest-numbered symbol that fails. `told` says what that means by the test's own condition.
 pub fn test_strategies(book: &[u16]) -> Answer
     ensures tested { λ r. ⌜ r ≡ testAnswer (now (book .entry)) ⌝ }
     ensures told { λ r. ⌜ Tells (now (book .entry)) r ⌝ }
