@@ -9,7 +9,7 @@ use Rattle.system.specs.Cases.{bookB, cutB, longB, twiceB, earlyB}
 use Rattle.matching.specs.StrategyTest.{passes, every, closes, idles, idleTest, isVariable, constructs, firstFailing, testAnswer}
 use Rattle.printing.specs.Text.{ascii, decimalIn, decimal}
 use Rattle.files.specs.Words.{wordsOf}
-use Rattle.files.specs.Files.{absent, bytes, bookBytes, check}
+use Rattle.files.specs.Files.{absent, bytes, check}
 use Rattle.check_book.specs.Verdict.{refusalLine, takenLine, orderLine, bookText, textOf, verdict}
 
 pub verdict-cases :

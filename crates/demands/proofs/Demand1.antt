@@ -8,7 +8,7 @@ use Rattle.system.specs.declared.Answer.{Answer}
 use Rattle.system.specs.System.{System}
 use Rattle.system.specs.Parser.{Parsed, ok, fault, read}
 use Rattle.system.specs.TermCheck.{termFault}
-use Rattle.system.specs.Answers.{answerOf, wholeAnswer, termAnswer}
+use Rattle.system.specs.Answers.{wholeAnswer, termAnswer}
 use Rattle.system.specs.Book.{systemOf}
 use Rattle.system.proofs.FaultNumbers.{fault-range}
 use Rattle.rewriting.specs.Evaluation.{Outcome, finished, stopped, evaluation}

@@ -1,6 +1,5 @@
 // Demand 3 as contracts: small functions that call the strategy test and the evaluator, and whose contracts are its sentences.
 ghost use mathlib.Core.Path.{_≡_};
-ghost use lib.ListN.{length};
 ghost use Rattle.matching.specs.StrategyTest.{testAnswer};
 ghost use Rattle.evaluation.specs.Expansion.{result, expansion};
 ghost use Rattle.demands.specs.Demand3.{IsDone, IsHandedBack, IsFound, secondly, RestsAgain};

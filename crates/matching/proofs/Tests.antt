@@ -1,5 +1,5 @@
 -- What the strategy test's answer tells: 0 exactly for a safe book, 14 at f exactly if f is the lowest-numbered symbol that fails.
-use Prim.Native.Nat.{ℕ, _<_}
+use Prim.Native.Nat.{ℕ}
 use native.Mathlib.Omega.{arith}
 use mathlib.Core.Path.{_≡_, refl, sym, ap, _∙_, subst}
 use mathlib.Core.Bool.{Bool, true, false}
@@ -19,7 +19,7 @@ use Rattle.system.specs.Book.{systemOf}
 use Rattle.system.proofs.layout.Accepting.{reads-system, scan-accepted}
 use Rattle.matching.specs.Safety.{Passes, Safe, FailsFirst, SafeBook, UnsafeBook, Tells}
 use Rattle.matching.specs.StrategyTest.{passes, firstUnsafe, safetyAnswer, testAnswer, PassedBook}
-use Rattle.matching.proofs.FirstFailing.{none-all, all-none, Lowest, some-lowest, lowest-some}
+use Rattle.matching.proofs.FirstFailing.{none-all, all-none, some-lowest, lowest-some}
 use Rattle.matching.proofs.SafetyTest.{passes-sound, passes-complete}
 
 -- ---- of a system

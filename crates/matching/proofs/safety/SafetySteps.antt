@@ -2,8 +2,6 @@
 use Prim.Native.Nat.{ℕ, zero, suc, _+_, _-_, _≤_, _<_}
 use native.Mathlib.Omega.{arith}
 use native.Mathlib.Numerals.{add-one}
-use native.Mathlib.Nat.{not-suc-le-zero}
-use native.Mathlib.Decide.{ℕ-discrete}
 use mathlib.Core.Path.{_≡_, refl, sym, ap, _∙_}
 use mathlib.Core.List.{List, [], _∷_, _++_}
 use mathlib.Core.Bool.{Bool, true, false, not, _&&_, _||_, or-true, cond}
@@ -17,7 +15,6 @@ use Rattle.system.specs.Limits.{variable}
 use Rattle.system.specs.Signature.{Signature, argument, span}
 use Rattle.system.specs.System.{System, Rule, noRule, rule, head, strategy}
 use Rattle.system.specs.Answers.{signatureOf}
-use Rattle.system.proofs.Signatures.{symbol-lt, lt-symbol}
 use Rattle.system.specs.declared.layout.rules.RuleSpan.{RuleSpan}
 use Rattle.system.specs.Book.{systemOf, Accepted}
 use Rattle.system.specs.layout.Accepted.{StrategyAt, SuffixAt}
