@@ -2,7 +2,6 @@
 -- the encoding of s.
 use Prim.Native.Nat.{ℕ, suc, _≤_, zero-le}
 use native.Mathlib.Omega.{arith}
-use native.Mathlib.Nat.{not-suc-le-zero}
 use native.Mathlib.Decide.{decLt}
 use mathlib.Core.Path.{_≡_, refl, sym, ap, _∙_}
 use mathlib.Core.Logic.{_↔_}
@@ -13,7 +12,8 @@ use lib.Seq.{drop-length}
 use lib.Dec.{ltb}
 use borrow.Author.Tests.{le-ltb, ltb-false}
 use Rattle.system.specs.Limits.{variable, maxArity, maxEntries, maxRules, maxSymbols, sideWords}
-use Rattle.system.specs.Signature.{Signature, arity}
+use Rattle.system.specs.BuiltIns.{builtInStrategy}
+use Rattle.system.specs.Signature.{Signature, Listed, arity}
 use Rattle.system.specs.System.{System, Rule, noRule, strategy}
 use Rattle.system.specs.Terms.{Forest, more, Member, WellFormedRule, WellFormed}
 use Rattle.system.specs.Format.{encodeList, encodeStrategies, encodeRules, encode}
@@ -22,7 +22,8 @@ use Rattle.system.specs.declared.reader.sides.SideRole.the-variants.{Lef
 use Rattle.system.specs.Numbers.{range, entry}
 use Rattle.system.specs.Answers.{answerOf}
 use Rattle.system.specs.Parser.{Parsed, ok, fault, times, each, number, Reading, readWords, readStrategy, readSide, readRule, readRules, readEnd, readSystem, read}
-use Rattle.system.proofs.Signatures.{arity-getD, arity-none}
+use Rattle.system.proofs.BuiltIns.{builtin-narrow, builtin-strategy}
+use Rattle.system.proofs.Signatures.{symbol-lt, getD-within, arity-listed, arity-unlisted}
 use Rattle.system.proofs.Members.{member-getD, member-index}
 use Rattle.system.proofs.Parsed.{ok-value, ok-place, not-fault, then-ok, Between, between-join, between-split, between-ok}
 use Rattle.system.proofs.Parses.{Reads, reads-iff, one, reads-number}
@@ -71,11 +72,15 @@ encode-none : encodeRules [] ≡ []
 unfolding encodeRules
 encode-none = refl
 
+-- a rule that may stand in a book: well formed, and its left side starts with a listed symbol
+abbrev pub Own : Signature → Rule → Type 0
+Own g r = WellFormedRule g r × Listed g (getD (r .lhs) 0 variable)
+
 -- the rules after their count, up to the end
 pub record Rules (ws : List ℕ) (g : Signature) (i j : ℕ) (rs : List Rule) : Type 0 where
   pub stand : Between ws i j (length rs ∷ encodeRules rs)
   pub few : length rs ≤ maxRules
-  pub wellFormedRules : Every noRule (WellFormedRule g) rs
+  pub own : Every noRule (Own g) rs
   pub ends : length ws ≤ j
 
 module _ (ws : List ℕ) (g : Signature) where
@@ -85,7 +90,7 @@ module _ (ws : List ℕ) (g : Signature) where
       reads-counted (λ r. length (r .words)) (λ n. readWords ws g h true n 1 known) (λ n. reads-words ws g h true n 1 known) range 1 sideWords
 
   module _ (below : length g ≤ variable) where
-    pub reads-rule : Reads ws (readRule ws g) encodeRule (WellFormedRule g)
+    pub reads-rule : Reads ws (readRule ws g) encodeRule (Own g)
     unfolding readRule
     reads-rule = record { sound = λ {i} e. between i e; good = λ {i} e. fine i e; complete = λ {i} {j} {x} b h. takes-rule i j x b h }
       where
@@ -95,34 +100,39 @@ module _ (ws : List ℕ) (g : Signature) where
             let b = then-ok (readSide ws g Right (a .value .known) (a .place)) _ (a .goes) in
             between-ok encodeRule (b .goes) (between-join (reads-side Left 0 .sound (a .reads)) (reads-side Right (a .value .known) .sound (b .reads)))
 
-        fine : (i : ℕ) {j : ℕ} {x : Rule} → readRule ws g i ≡ ok x j → WellFormedRule g x
+        fine : (i : ℕ) {j : ℕ} {x : Rule} → readRule ws g i ≡ ok x j → Own g x
         fine i e =
             let a = then-ok (readSide ws g Left 0 i) _ e in
             let b = then-ok (readSide ws g Right (a .value .known) (a .place)) _ (a .goes) in
             let l = reads-side Left 0 .good (a .reads) in
             let r = reads-side Right (a .value .known) .good (b .reads) in
-            rw (← ok-value (b .goes)) (record {
-              count = a .value .known;
-              variableBound = taken-few g below (l .2) zero-le;
-              headed = taken-headed g below (l .2);
-              left = taken-forest g Left (l .2);
-              right = taken-forest g Right (r .2);
-              shortLeft = l .1;
-              shortRight = r .1;
-              numbered = taken-numbered g below (l .2);
-              known = taken-known g below (r .2);
-            })
+            let own = taken-headed g below (l .2) in
+            rw (← ok-value (b .goes)) (
+              record {
+                count = a .value .known;
+                variableBound = taken-few g below (l .2) zero-le;
+                headed = symbol-lt g _ own;
+                left = taken-forest g Left (l .2);
+                right = taken-forest g Right (r .2);
+                shortLeft = l .1;
+                shortRight = r .1;
+                numbered = taken-numbered g below (l .2);
+                known = taken-known g below (r .2);
+              },
+              own,
+            )
 
-        takes-rule : (i j : ℕ) (x : Rule) → Between ws i j (encodeRule x) → WellFormedRule g x → readRule ws g i ≡ ok x j
-        takes-rule i j x b h =
+        takes-rule : (i j : ℕ) (x : Rule) → Between ws i j (encodeRule x) → Own g x → readRule ws g i ≡ ok x j
+        takes-rule i j x b own =
+            let h = own .0 in
             let s = between-split (encodeList (x .lhs)) (encodeList (x .rhs)) b in
-            let l = left-taken g below (h .left) (h .numbered) (h .variableBound) true (λ _. h .headed) in
+            let l = left-taken g below (h .left) (h .numbered) (h .variableBound) true (λ _. own .1) in
             let r = right-taken g below (h .right) (h .variableBound) (h .known) true in
             let a = reads-side Left 0 .complete {x = record { words = x .lhs; known = h .count }} (s .0) (forest-some (h .left), h .shortLeft, l) in
             let c = reads-side Right (h .count) .complete {x = record { words = x .rhs; known = h .count }} (s .1) (forest-some (h .right), h .shortRight, r) in
             rw a (rw c)
 
-    reads-rules : (n : ℕ) → Reads ws (times n (readRule ws g)) encodeRules (λ rs. (length rs ≡ n) × Every noRule (WellFormedRule g) rs)
+    reads-rules : (n : ℕ) → Reads ws (times n (readRule ws g)) encodeRules (λ rs. (length rs ≡ n) × Every noRule (Own g) rs)
     reads-rules n = reads-times reads-rule encodeRules encode-none encode-rule noRule n
 
     ends-at : {i j : ℕ} {u : Unit {0}} → readEnd ws i ≡ ok u j → (length ws ≤ i) × (i ≡ j)
@@ -142,7 +152,7 @@ module _ (ws : List ℕ) (g : Signature) where
         let h = reads-rules n .good t in
         let b = reads-number ws range 0 maxRules .good c .1 in
         let e = h .0 in
-        record { stand = rw e (between-join (reads-number ws range 0 maxRules .sound c) (reads-rules n .sound t)); few = omega arith; wellFormedRules = h .1; ends = l }
+        record { stand = rw e (between-join (reads-number ws range 0 maxRules .sound c) (reads-rules n .sound t)); few = omega arith; own = h .1; ends = l }
 
     same-rules : {i k j : ℕ} {rs rs′ : List Rule} → ok rs k ≡ ok rs′ j → Rules ws g i k rs → Rules ws g i j rs′
     same-rules e h = rw (← ok-value e, ← ok-place e) h
@@ -161,7 +171,7 @@ module _ (ws : List ℕ) (g : Signature) where
     read-rules i j rs h =
         let s = between-split (one (length rs)) (encodeRules rs) (h .stand) in
         let c = reads-number ws range 0 maxRules .complete (s .0) (zero-le, h .few) in
-        let t = reads-rules (length rs) .complete (s .1) (refl, h .wellFormedRules) in
+        let t = reads-rules (length rs) .complete (s .1) (refl, h .own) in
         rw c (rw t (rw (at-end j (h .ends))))
 
 -- ---- the whole book
@@ -174,19 +184,24 @@ pub record ReadAs (ws : List ℕ) (j : ℕ) (s : System) : Type 0 where
 
 -- the arities and strategies by index, as the lists are read
 pub narrow-every : (g : Signature) → Every 0 (λ w. (0 ≤ w) × (w ≤ maxArity)) g → (f : ℕ) → arity g f ≤ maxArity
-narrow-every g h f = elim (decLt f (length g)) [ yes l ↦ rw (arity-getD g f) (h f l .1) | no l ↦ rw (arity-none g f (omega arith)) zero-le ]
+narrow-every g h f = elim (decLt f (length g)) [
+  | yes l ↦ rw (arity-listed g f l) (h f l .1)
+  | no l ↦ rw (arity-unlisted g f (omega arith)) (let b = builtin-narrow f in omega arith)
+]
 
 pub strategy-every : (s : System) → length (s .strategies) ≡ length (s .arities) → Pairwise 0 [] Strategy (s .arities) (s .strategies) →
     (f : ℕ) → Strategy (arity (s .arities) f) (strategy s f)
 unfolding strategy
-strategy-every s e h f = rw (arity-getD (s .arities) f) (elim (decLt f (length (s .arities))) [ yes l ↦ h f l | no l ↦ none (omega arith) ])
-  where
-    none : length (s .strategies) ≤ f → Strategy (getD (s .arities) f 0) (getD (s .strategies) f [])
-    none l = rw (List·getD-eq-default (s .strategies) [] {n = f} l) (zero-le, member-index (λ e. e ≤ getD (s .arities) f 0) [] (λ k n. absurd (not-suc-le-zero n)))
+strategy-every s e h f = elim (decLt f (length (s .arities))) [
+  | yes l ↦ rw (arity-listed (s .arities) f l, getD-within (s .strategies) (builtInStrategy f) [] f (omega arith)) (h f l)
+  | no l ↦ rw (arity-unlisted (s .arities) f (omega arith), List·getD-eq-default (s .strategies) (builtInStrategy f) {n = f} (omega arith)) (builtin-strategy f)
+]
 
 pub every-strategy : (s : System) → WellFormed s → Pairwise 0 [] Strategy (s .arities) (s .strategies)
 unfolding strategy
-every-strategy s w k l = (w .strategyBound k, rw (arity-getD (s .arities) k) at (w .entryBound k))
+every-strategy s w k l =
+    let e = getD-within (s .strategies) (builtInStrategy k) [] k (let o = w .strategyCount in omega arith) in
+    (rw e at (w .strategyBound k), rw (arity-listed (s .arities) k l, e) at (w .entryBound k))
 
 module _ (ws : List ℕ) where
   joined : {n a b m c d j : ℕ} {g : Signature} {ess : List (List ℕ)} {rs : List Rule} → number ws range 1 maxSymbols 0 ≡ ok n a → times n (number ws range 0 maxArity) a ≡ ok g b →
@@ -212,7 +227,8 @@ module _ (ws : List ℕ) where
           strategyBound = λ f. st f .0;
           entryBound = λ f e. st f .1 e;
           ruleBound = rr .few;
-          wellFormedRules = rr .wellFormedRules;
+          wellFormedRules = λ k l. rr .own k l .0;
+          ownRules = λ k l. rr .own k l .1;
         };
         stands = rw (← lm, lg) (between-join (reads-number ws range 1 maxSymbols .sound count) (between-join (reads-numbers ws range 0 maxArity n .sound symbolBound)
             (between-join (reads-number ws range n n .sound again) (between-join (reads-strategies ws g .sound strategyCount) (rr .stand)))));
@@ -243,10 +259,10 @@ module _ (ws : List ℕ) where
       let e₃ = between-split (one (length (s .strategies))) _ (e₂ .1) in
       let e₄ = between-split (encodeStrategies (s .strategies)) _ (e₃ .1) in
       let a = reads-number ws range 1 maxSymbols .complete (e₁ .0) (w .someSymbols, symbolBound) in
-      let b = reads-numbers ws range 0 maxArity (length g) .complete (e₂ .0) (refl, λ k l. (zero-le, rw (arity-getD g k) at (w .arityBound k))) in
+      let b = reads-numbers ws range 0 maxArity (length g) .complete (e₂ .0) (refl, λ k l. (zero-le, rw (arity-listed g k l) at (w .arityBound k))) in
       let c = reads-number ws range (length g) (length g) .complete (e₃ .0) (let o = w .strategyCount in omega arith) in
       let d = reads-strategies ws g .complete (e₄ .0) (w .strategyCount, every-strategy s w) in
-      let r = read-rules ws g (omega arith) _ j (s .rules) (record { stand = e₄ .1; few = w .ruleBound; wellFormedRules = w .wellFormedRules; ends = h .ends }) in
+      let r = read-rules ws g (omega arith) _ j (s .rules) (record { stand = e₄ .1; few = w .ruleBound; own = λ k l. (w .wellFormedRules k l, w .ownRules k l); ends = h .ends }) in
       rw a (rw b (rw c (rw d (rw r))))
 
   accepted-words : {j : ℕ} {s : System} → ReadAs ws j s → (ws ≡ encode s) × (j ≡ length ws)

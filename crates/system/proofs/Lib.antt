@@ -1,6 +1,8 @@
 -- Terms: forests, positions, the check of a term
+pub mod BuiltIns
 pub mod Signatures
 pub mod Members
+pub mod Rules
 pub mod Forests
 pub mod Places
 pub mod TermChecks

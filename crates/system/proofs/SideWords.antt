@@ -6,13 +6,16 @@ use mathlib.Core.Path.{_≡_, refl, sym, _∙_}
 use mathlib.Core.Logic.{_⊎_, inl, inr}
 use mathlib.Core.Bool.{Bool, true, false}
 use mathlib.Core.Option.{none, some}
+use lib.ListN.{length}
 use borrow.Author.Tests.{lt-ltb, le-ltb, le-leb, lt-leb, eq-eqb, ne-eqb}
 use Rattle.system.specs.declared.reader.sides.SideRole.{SideRole}
 use Rattle.system.specs.declared.reader.sides.SideRole.the-variants.{Left, Right}
 use Rattle.system.specs.Limits.{variable, variables}
-use Rattle.system.specs.Signature.{Signature, Symbol, isSymbol}
-use Rattle.system.specs.Numbers.{Fault, unknown, unbalanced, variableHead, unbound}
-use Rattle.system.specs.Parser.{variableFault, sideFault, learn}
+use Rattle.system.specs.Signature.{Signature, Symbol, Listed, isSymbol}
+use Rattle.system.specs.Numbers.{Fault, unknown, unbalanced, variableHead, unbound, builtInHead}
+use Rattle.system.specs.Parser.{variableFault, symbolFault, sideFault, learn}
+use Rattle.system.proofs.BuiltIns.{Supplied}
+use Rattle.system.proofs.Signatures.{symbol-cases}
 
 -- ---- a variable
 
@@ -52,6 +55,34 @@ unfolding learn
 learn-symbol Left known w h = rw (lt-leb variable w h)
 learn-symbol Right known w h = refl
 
+-- ---- a symbol
+
+module _ (g : Signature) (role : SideRole) (first : Bool) (w : ℕ) where
+  pub symbol-listed : Listed g w → symbolFault g role first w ≡ none
+  unfolding symbolFault
+  symbol-listed h = go role first
+    where
+      go : (role : SideRole) (first : Bool) → symbolFault g role first w ≡ none
+      go Left true = rw (lt-ltb w (length g) h)
+      go Left false = refl
+      go Right first = refl
+
+  pub symbol-later : first ≡ false → symbolFault g role first w ≡ none
+  unfolding symbolFault
+  symbol-later e = rw e (go role)
+    where
+      go : (role : SideRole) → symbolFault g role false w ≡ none
+      go Left = refl
+      go Right = refl
+
+  pub symbol-right : role ≡ Right → symbolFault g role first w ≡ none
+  unfolding symbolFault
+  symbol-right e = rw e
+
+  pub symbol-head : role ≡ Left → first ≡ true → length g ≤ w → symbolFault g role first w ≡ some builtInHead
+  unfolding symbolFault
+  symbol-head p q h = rw (p, q, le-ltb w (length g) h)
+
 -- ---- a word
 
 module _ (g : Signature) (role : SideRole) (first : Bool) (due known w : ℕ) where
@@ -60,11 +91,11 @@ module _ (g : Signature) (role : SideRole) (first : Bool) (due known w : ℕ) wh
   side-complete e = rw e
 
   module _ (open-due : 0 < due) where
-    pub side-symbol : Symbol g w → sideFault g role first due known w ≡ none
+    pub side-symbol : Symbol g w → sideFault g role first due known w ≡ symbolFault g role first w
     unfolding sideFault
     side-symbol e = go due open-due
       where
-        go : (d : ℕ) → 0 < d → sideFault g role first d known w ≡ none
+        go : (d : ℕ) → 0 < d → sideFault g role first d known w ≡ symbolFault g role first w
         go zero h = absurd (omega arith)
         go (suc d) h = rw (e, sideFault)
 
@@ -107,8 +138,11 @@ module _ (g : Signature) (h : SideRole) (start : Bool) (due known w : ℕ) where
   pub variable-passes : 0 < due → Variable h start known w → sideFault g h start due known w ≡ none
   variable-passes o v = go (isSymbol g w) refl
     where
+      low : Supplied w → ⊥
+      low b = let l = v .low in let u = b .high in omega arith
+
       go : (b : Bool) → isSymbol g w ≡ b → sideFault g h start due known w ≡ none
-      go true e = side-symbol g h start due known w o e
+      go true e = side-symbol g h start due known w o e ∙ symbol-listed g h start w (elim (symbol-cases g w e) [ inl l ↦ l | inr b ↦ absurd (low b) ])
       go false e = side-variable g h start due known w o e (v .low) (v .high) ∙ v .passes
 
   module _ (e : sideFault g h start due known w ≡ none) where
@@ -133,6 +167,17 @@ module _ (g : Signature) (h : SideRole) (start : Bool) (due known w : ℕ) where
                 | no u ↦ absurd (refused (sym (side-high g h start due known w passes-due s (omega arith)) ∙ e))
               ]
             ]
+
+    pub passes-symbol : Symbol g w → symbolFault g h start w ≡ none
+    passes-symbol s = sym (side-symbol g h start due known w passes-due s) ∙ e
+
+-- a left side that starts with a symbol starts with a listed one
+pub head-listed : (g : Signature) (w : ℕ) → symbolFault g Left true w ≡ none → Listed g w
+head-listed g w e =
+    elim (decLt w (length g)) [
+      | yes l ↦ l
+      | no l ↦ absurd (refused (sym (symbol-head g Left true w refl refl (omega arith)) ∙ e))
+    ]
 
 -- what a variable that may stand there is, on each side
 pub left-variable : (start : Bool) (known w : ℕ) → Variable Left start known w → (start ≡ false) × (w ≡ variable + known)

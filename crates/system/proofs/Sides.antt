@@ -8,14 +8,15 @@ use mathlib.Core.Option.{none}
 use mathlib.Core.List.{List, [], _∷_}
 use lib.ListN.{length, getD}
 use Rattle.system.specs.Limits.{variable, variables}
-use Rattle.system.specs.Signature.{Signature, Symbol, arity}
+use Rattle.system.specs.Signature.{Signature, Symbol, Listed, arity}
 use Rattle.system.specs.Terms.{Forest, empty, more, Word, Member, first, later, Numbered, end, symbol, next}
 use Rattle.system.specs.declared.reader.sides.SideRole.{SideRole}
 use Rattle.system.specs.declared.reader.sides.SideRole.the-variants.{Left, Right}
-use Rattle.system.specs.Parser.{ok, sideFault, learn, Reading, readWords, word}
+use Rattle.system.specs.Parser.{ok, symbolFault, sideFault, learn, Reading, readWords, word}
 use Rattle.system.proofs.Signatures.{symbol-below}
 use Rattle.system.proofs.Members.{numbered-le}
-use Rattle.system.proofs.SideWords.{Variable, side-symbol, variable-passes, passes-due, passes-word}
+use Rattle.system.proofs.SideWords.{Variable, side-symbol, variable-passes, passes-due, passes-word, passes-symbol}
+use Rattle.system.proofs.SideWords.{head-listed, symbol-listed, symbol-later, symbol-right}
 use Rattle.system.proofs.SideWords.{left-variable, variable-left, right-variable, variable-right, learn-symbol, learn-variable, learn-right}
 use Rattle.system.proofs.Parsed.{ok-value, ok-place, not-fault, then-ok, Between, between-none, between-end, between-join, between-split, between-ok}
 use Rattle.system.proofs.Parses.{Reads, one, reads-word}
@@ -48,7 +49,7 @@ taken-cons g h start due {known} {known′} {last} {w} {ws} c e t =
     takes {last = last} {ws = ws} c (rw (d, e) t)
 
 module _ (g : Signature) (below : length g ≤ variable) where
-  -- the left side: its variables are numbered from 0, and it starts with a symbol
+  -- the left side: its variables are numbered from 0, and it starts with a listed symbol
   pub taken-numbered : {start : Bool} {due known last : ℕ} {ws : List ℕ} → Taken g Left start due known last ws → Numbered known last ws
   taken-numbered done = end
   taken-numbered (takes {start} {due} {known} {last} {w} {ws} c t) = step (passes-word g Left start due known w c) (taken-numbered t)
@@ -65,11 +66,11 @@ module _ (g : Signature) (below : length g ≤ variable) where
       step (inl s) = rw (learn-symbol Left known w (symbol-below g w below s)) l
       step (inr v) = rw (learn-variable Left known w refl (v .low)) (let e = left-variable start known w v .1 in let h = v .high in omega arith)
 
-  pub taken-headed : {due known last : ℕ} {ws : List ℕ} → Taken g Left true (suc due) known last ws → Symbol g (getD ws 0 variable)
+  pub taken-headed : {due known last : ℕ} {ws : List ℕ} → Taken g Left true (suc due) known last ws → Listed g (getD ws 0 variable)
   taken-headed {due} (takes {known} {w} c t) = go (passes-word g Left true (suc due) known w c)
     where
-      go : Symbol g w ⊎ Variable Left true known w → Symbol g w
-      go (inl s) = s
+      go : Symbol g w ⊎ Variable Left true known w → Listed g w
+      go (inl s) = head-listed g w (passes-symbol g Left true (suc due) known w c s)
       go (inr v) = let z : true ≡ false = left-variable true known w v .0 in let y : _≡_ {A = ℕ} 0 1 = cc in absurd (omega arith)
 
   -- the right side: it teaches nothing, and each of its words is below the last variable known
@@ -94,17 +95,22 @@ module _ (g : Signature) (below : length g ≤ variable) where
   symbol-of w l (inr h) = absurd (omega arith)
 
   pub left-taken : {due known last : ℕ} {ws : List ℕ} → Forest g (Word g) due ws → Numbered known last ws → last ≤ variables →
-      (start : Bool) → (start ≡ true → Symbol g (getD ws 0 variable)) → Taken g Left start due known last ws
+      (start : Bool) → (start ≡ true → Listed g (getD ws 0 variable)) → Taken g Left start due known last ws
   left-taken empty end l start h = done
   left-taken (more {k} p f) (symbol {n = known} {w} b m) l start h =
-      taken-cons g Left start k (side-symbol g Left start (suc k) known w (omega arith) (symbol-of w b p)) (learn-symbol Left known w b) (left-taken f m l false later-word)
+      taken-cons g Left start k (side-symbol g Left start (suc k) known w (omega arith) (symbol-of w b p) ∙ go start h) (learn-symbol Left known w b)
+      (left-taken f m l false later-word)
+    where
+      go : (start : Bool) → (start ≡ true → Listed g w) → symbolFault g Left start w ≡ none
+      go true h = symbol-listed g Left true w (h refl)
+      go false h = symbol-later g Left false w refl
   left-taken (more {k} p f) (next {n = known} {w} e m) l start h =
       let q = numbered-le m in
       let c : variable ≤ w = omega arith in
       taken-cons g Left start k (go start h e (omega arith)) (learn-variable Left known w refl c) (left-taken f m l false later-word)
     where
-      go : (start : Bool) → (start ≡ true → Symbol g w) → w ≡ variable + known → known < variables → sideFault g Left start (suc k) known w ≡ none
-      go true h e b = side-symbol g Left true (suc k) known w (omega arith) (h refl)
+      go : (start : Bool) → (start ≡ true → Listed g w) → w ≡ variable + known → known < variables → sideFault g Left start (suc k) known w ≡ none
+      go true h e b = absurd (let l = h refl in omega arith)
       go false h e b = variable-passes g Left false (suc k) known w (omega arith) (variable-left known w b e)
 
   pub right-taken : {due known : ℕ} {ws : List ℕ} → Forest g (Word g) due ws → known ≤ variables → ((w : ℕ) → Member w ws → w < variable + known) →
@@ -114,7 +120,7 @@ module _ (g : Signature) (below : length g ≤ variable) where
       taken-cons g Right start k (go p) (learn-right Right known w refl) (right-taken f few (λ v s. h v (later s)) false)
     where
       go : Word g w → sideFault g Right start (suc k) known w ≡ none
-      go (inl s) = side-symbol g Right start (suc k) known w (omega arith) s
+      go (inl s) = side-symbol g Right start (suc k) known w (omega arith) s ∙ symbol-right g Right start w refl
       go (inr l) = variable-passes g Right start (suc k) known w (omega arith) (variable-right start known w few l (h w first))
 
 -- ---- the reader of a side's words

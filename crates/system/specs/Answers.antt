@@ -19,7 +19,7 @@ use Rattle.system.specs.TermCheck.{termFault}
 
 -- ---- reading a book
 
--- "For 1 to 8 the place is the index of the word being read"; "On 0 the reader's place is the book's length", the index reached
+-- "For 1 to 8" (and 15) "the place is the index of the word being read"; "On 0 the reader's place is the book's length", the index reached
 abbrev pub answerOf : Parsed System → Answer
 answerOf (ok s i) = record { number = numberOf taken; place = i; steps = 0 }
 answerOf (fault f i) = record { number = faultNumber f; place = i; steps = 0 }

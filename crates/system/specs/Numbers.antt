@@ -19,6 +19,8 @@ pub data Fault : Type 0 where
   unbound : Fault
   -- "words after the last rule"
   trailing : Fault
+  -- 02, F-2: "a left side starts with a level or either of these words"
+  builtInHead : Fault
 
 -- which limit stops an evaluation
 pub data Limit : Type 0 where
@@ -58,6 +60,7 @@ numberOf (stopping spent) = 11
 numberOf (stopping overlong) = 12
 numberOf (stopping nested) = 13
 numberOf unsettled = 14
+numberOf (faulty builtInHead) = 15
 
 -- the number of a fault, and of a limit
 abbrev pub faultNumber : Fault → ℕ

@@ -11,7 +11,7 @@ use Rattle.system.specs.Signature.{Signature, isSymbol, arity}
 use Rattle.system.specs.System.{System, Rule}
 use Rattle.system.specs.declared.reader.sides.SideRole.{SideRole}
 use Rattle.system.specs.declared.reader.sides.SideRole.the-variants.{Left, Right}
-use Rattle.system.specs.Numbers.{Fault, missing, range, entry, unknown, unbalanced, variableHead, unbound, trailing}
+use Rattle.system.specs.Numbers.{Fault, missing, range, entry, unknown, unbalanced, variableHead, unbound, trailing, builtInHead}
 
 pub data Parsed (A : Type 0) : Type 0 where
   ok : A → ℕ → Parsed A
@@ -62,13 +62,19 @@ variableFault Left true known k = some variableHead
 variableFault Left false known k = cond (eqb k known) none (some unbound)
 variableFault Right first known k = cond (ltb k known) none (some unbound)
 
--- a word of a side, where `due` subterms are still to come: the checks run 5, 4, 6, 7
+-- a symbol, at the first word or later. 02, F-2: 15 "where a left side starts with a level or either of these words, checked where 6 is"
+unfoldable pub symbolFault : Signature → SideRole → Bool → ℕ → Option Fault
+symbolFault g Left true w = cond (ltb w (length g)) none (some builtInHead)
+symbolFault g Left false w = none
+symbolFault g Right first w = none
+
+-- a word of a side, where `due` subterms are still to come: the checks run 5, 4, 6 or 15, 7
 unfoldable pub sideFault : Signature → SideRole → Bool → ℕ → ℕ → ℕ → Option Fault
 sideFault g h first due known w =
     elim due [
       | zero ↦ some unbalanced
       | suc _ ↦ elim (isSymbol g w) [
-        | true ↦ none
+        | true ↦ symbolFault g h first w
         | false ↦ elim (leb variable w && ltb w (variable + variables)) [ true ↦ variableFault h first known (w - variable) | false ↦ some unknown ]
       ]
     ]

@@ -5,6 +5,7 @@ use mathlib.Core.Bool.{cond}
 use lib.ListN.{getD}
 use lib.Dec.{ltb}
 use Rattle.system.specs.Limits.{variable}
+use Rattle.system.specs.BuiltIns.{builtInStrategy}
 use Rattle.system.specs.Signature.{Signature}
 
 -- a rewrite rule: its left and its right side
@@ -18,14 +19,14 @@ pub record System : Type 0 where
   pub strategies : List (List ℕ)
   pub rules : List Rule
 
--- the strategy of a symbol: what is no symbol has none
+-- the strategy of a symbol: of a word that is not listed the built-in one, and what is no symbol has none
 unfoldable pub strategy : System → ℕ → List ℕ
-strategy s w = getD (s .strategies) w []
+strategy s w = getD (s .strategies) w (builtInStrategy w)
 
 abbrev pub noRule : Rule
 noRule = record { lhs = []; rhs = [] }
 
--- rule number k
+-- rule number k of those that the book lists
 abbrev pub rule : System → ℕ → Rule
 rule s k = getD (s .rules) k noRule
 

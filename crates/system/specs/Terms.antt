@@ -5,7 +5,7 @@ use mathlib.Core.Logic.{_⊎_}
 use mathlib.Core.List.{List, [], _∷_}
 use lib.ListN.{length, getD}
 use Rattle.system.specs.Limits.{maxSymbols, maxArity, maxEntries, maxRules, sideWords, variable, variables}
-use Rattle.system.specs.Signature.{Signature, Symbol, arity}
+use Rattle.system.specs.Signature.{Signature, Symbol, Listed, arity}
 use Rattle.system.specs.System.{System, Rule, rule, strategy}
 
 -- `Forest g P k ws`: the words are k whole terms, one after the other, and P holds of each word
@@ -38,7 +38,8 @@ pub data Numbered : ℕ → ℕ → List ℕ → Type 0 where
   next : {n m w : ℕ} {ws : List ℕ} → w ≡ variable + n → Numbered (suc n) m ws → Numbered n m (w ∷ ws)
 
 -- a rule that 01 allows: "a length 1 to 64 and its left side, then a length 1 to 64 and its right side";
--- "A left side starts with a name"; "A right side uses only placeholders of its left side". (A whole side has at least one word.)
+-- "A left side starts with a name" (here any symbol, so that the built-in rules are well formed too; of the book's own rules see `ownRules`);
+-- "A right side uses only placeholders of its left side". (A whole side has at least one word.)
 pub record WellFormedRule (g : Signature) (r : Rule) : Type 0 where
   pub count : ℕ
   pub variableBound : count ≤ variables
@@ -63,3 +64,5 @@ pub record WellFormed (s : System) : Type 0 where
   -- "a count 0 to 128"
   pub ruleBound : length (s .rules) ≤ maxRules
   pub wellFormedRules : (k : ℕ) → k < length (s .rules) → WellFormedRule (s .arities) (rule s k)
+  -- 02, F-2: turned away "where a left side starts with a level or either of these words"
+  pub ownRules : (k : ℕ) → k < length (s .rules) → Listed (s .arities) (getD (rule s k .lhs) 0 variable)

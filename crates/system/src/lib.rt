@@ -9,6 +9,7 @@ ghost use lib.ListN.{length};
 ghost use Rattle.system.specs.Answers.{answerOf, shapeOf, termAnswer, argumentAt, startOf, partOf, argumentSpan, LiesIn};
 ghost use Rattle.system.specs.Parser.{read};
 
+pub mod built_ins;
 pub mod layout;
 pub mod limits;
 pub mod numbers;

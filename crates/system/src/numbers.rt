@@ -34,3 +34,6 @@ pub const NESTED: u32 = 13;
 
 // The strategy test failed.
 pub const UNSETTLED: u32 = 14;
+
+// What else is wrong with a book (02, F-2).
+pub const BUILT_IN_HEAD: u32 = 15;

@@ -4,6 +4,8 @@ ghost use Prim.Native.Nat.{_≤_};
 ghost use lib.ListN.{length};
 ghost use Rattle.system.specs.Signature.{isSymbol, arity, span};
 ghost use Rattle.system.specs.Answers.{signatureOf};
+use crate::built_ins::built_in_arity;
+use crate::built_ins::is_built_in;
 
 pub fn wide(x: u16) -> usize
     ensures { λ r. ⌜ (r ≡ x) × (r ≤ 65535) ⌝ }
@@ -26,11 +28,14 @@ pub fn symbols(book: &[u16]) -> usize
     room
 }
 
-// Whether w is a symbol.
+// Whether w is a symbol, listed or built in.
 pub fn is_symbol(book: &[u16], w: u16) -> bool
     ensures { λ r. ⌜ r ≡ isSymbol (signatureOf (now (book .entry))) w ⌝ }
 {
-    wide(w) < symbols(book)
+    if wide(w) < symbols(book) {
+        return true;
+    }
+    is_built_in(w)
 }
 
 // How many arguments w takes.
@@ -41,7 +46,7 @@ pub fn arity(book: &[u16], w: u16) -> usize
     if i < symbols(book) {
         return wide(book[i + 1]);
     }
-    0
+    built_in_arity(w)
 }
 
 // How many words the first k subterms of ws take; all of ws where it ends before.

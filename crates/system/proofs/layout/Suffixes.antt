@@ -1,13 +1,14 @@
 -- Where the strategies of an accepted book stand, one after the other.
 use Prim.Native.Nat.{ℕ, _+_, _≤_, _<_}
 use native.Mathlib.Omega.{arith}
-use mathlib.Core.Path.{_≡_, ap}
+use mathlib.Core.Path.{_≡_, sym, ap, subst}
 use mathlib.Core.List.{List}
 use lib.ListN.{length, getD}
 use Rattle.system.specs.Limits.{maxSymbols}
 use Rattle.system.specs.declared.Shape.{Shape}
 use Rattle.system.specs.System.{System, strategy}
 use Rattle.system.specs.Answers.{signatureOf}
+use Rattle.system.proofs.Rules.{strategy-listed}
 use Rattle.system.proofs.Located.{Listed, strategy-at}
 use Rattle.system.specs.Book.{systemOf, Accepted}
 use Rattle.system.specs.layout.Accepted.{StrategyAt, suffixFrom, SuffixAt}
@@ -26,8 +27,9 @@ module _ (b : List ℕ) (sh : Shape) (acc : Accepted b sh) where
   symbols-few = let w = well b sh acc in let few = w .symbolBound in let same = w .strategyCount in omega (arith, strategy-count)
 
   listed : (k at : ℕ) → k < sh .symbols → SuffixAt b k at → Listed b at (strategy s k) (suffixFrom s (k + 1))
-  unfolding strategy
-  listed k at more so = strategy-at b at k (s .strategies) _ (omega (arith, strategy-count)) (so .words)
+  listed k at more so =
+      let within : k < length (s .strategies) = omega (arith, strategy-count) in
+      subst (λ es. Listed b at es (suffixFrom s (k + 1))) (sym (strategy-listed s k within)) (strategy-at b at k (s .strategies) _ within (so .words))
 
   -- the words there are its own
   pub suffix-strategy : (k at : ℕ) → k < sh .symbols → SuffixAt b k at → StrategyAt b k at

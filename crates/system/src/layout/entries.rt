@@ -1,12 +1,14 @@
 // The entries of the symbols' strategies.
 ghost use mathlib.Core.Path.{_≡_};
-ghost use Prim.Native.Nat.{_+_, _<_};
+ghost use Prim.Native.Nat.{ℕ, _+_, _<_};
 ghost use lib.ListN.{length, getD, drop};
+ghost use Rattle.system.specs.BuiltIns.{builtInStrategy};
 ghost use Rattle.system.specs.System.{strategy};
 ghost use Rattle.system.specs.Book.{systemOf, Accepted};
 ghost use Rattle.system.specs.layout.Index.{Indexed};
 ghost use Rattle.system.specs.layout.Entries.{entryOf, among, between};
 use crate::Shape;
+use crate::built_ins::is_operator;
 use crate::layout::index::strategy_at;
 use crate::words::wide;
 
@@ -35,6 +37,22 @@ fn stood_before(book: &[u16], at: usize, f: usize, c: usize) -> bool
     false
 }
 
+// Entry c of the strategy of a word that is not listed: an operator's is 1 2 0, in which nothing is repeated.
+fn built_in_entry(w: u16, c: usize) -> Entry
+    ensures { λ r. ⌜ ((f : ℕ) → r ≡ entryOf (builtInStrategy w) f c) ⌝ }
+{
+    if !is_operator(w) {
+        return Entry::End;
+    }
+    if 2 < c {
+        return Entry::End;
+    }
+    if c == 2 {
+        return Entry::Rules;
+    }
+    Entry::Argument(c)
+}
+
 // Entry c of the strategy of w, of which f entries were begun before the present run of transitions.
 pub fn entry_of(book: &[u16], shape: Shape, index: &[usize], w: u16, f: usize, c: usize) -> Entry
     requires { ⌜ Accepted (now book) shape × Indexed (now book) shape (now index) ⌝ }
@@ -42,7 +60,7 @@ pub fn entry_of(book: &[u16], shape: Shape, index: &[usize], w: u16, f: usize, c
 {
     let symbol = wide(w);
     if shape.symbols <= symbol {
-        return Entry::End;
+        return built_in_entry(w, c);
     }
     let at = strategy_at(book, shape, index, symbol);
     if wide(book[at]) <= c {

@@ -4,12 +4,13 @@ ghost use mathlib.Core.Bool.{true};
 ghost use Prim.Native.Nat.{_+_, _≤_};
 ghost use lib.ListN.{length};
 ghost use Rattle.system.specs.Limits.{sideWords};
-ghost use Rattle.system.specs.Parser.{readWords, readSide, sideFault, variableFault, learn};
+ghost use Rattle.system.specs.Parser.{readWords, readSide, sideFault, symbolFault, variableFault, learn};
 ghost use Rattle.system.specs.Answers.{signatureOf};
 ghost use Rattle.system.specs.reader.Sections.{sideOf, numberOr0};
 use crate::limits::PAST_VARIABLES;
 use crate::limits::SIDE_WORDS;
 use crate::limits::VARIABLE;
+use crate::numbers::BUILT_IN_HEAD;
 use crate::numbers::MISSING;
 use crate::numbers::RANGE;
 use crate::numbers::TAKEN;
@@ -20,6 +21,7 @@ use crate::numbers::VARIABLE_HEAD;
 use crate::reader::numbers::check;
 use crate::words::arity;
 use crate::words::is_symbol;
+use crate::words::symbols;
 use crate::words::wide;
 
 // Which side of a rule is read.
@@ -58,7 +60,25 @@ fn variable_fault(role: SideRole, first: bool, known: usize, k: usize) -> u32
     }
 }
 
-// What is wrong with word w of a side, where `due` subterms are still to come: 0, 5, 4, 6 or 7, checked in this order.
+// What is wrong with symbol w of a side: 0, or 15 where a left side starts with one that is not listed.
+fn symbol_fault(book: &[u16], role: SideRole, first: bool, w: u16) -> u32
+    ensures { λ r. ⌜ r ≡ numberOr0 (symbolFault (signatureOf (now (book .entry))) role first w) ⌝ }
+{
+    match role {
+        SideRole::Left => {
+            if !first {
+                return 0;
+            }
+            if wide(w) < symbols(book) {
+                return 0;
+            }
+            BUILT_IN_HEAD
+        }
+        SideRole::Right => 0,
+    }
+}
+
+// What is wrong with word w of a side, where `due` subterms are still to come: 0, 5, 4, 6 or 15, or 7, checked in this order.
 fn side_fault(book: &[u16], role: SideRole, first: bool, due: usize, known: usize, w: u16) -> u32
     ensures { λ r. ⌜ r ≡ numberOr0 (sideFault (signatureOf (now (book .entry))) role first due known w) ⌝ }
 {
@@ -66,7 +86,7 @@ fn side_fault(book: &[u16], role: SideRole, first: bool, due: usize, known: usiz
         return UNBALANCED;
     }
     if is_symbol(book, w) {
-        return 0;
+        return symbol_fault(book, role, first, w);
     }
     let x = wide(w);
     if x < VARIABLE {

@@ -4,14 +4,17 @@ use native.Mathlib.Omega.{arith}
 use native.Mathlib.Decide.{decLt}
 use mathlib.Core.Path.{_≡_, refl, sym, ap, _∙_, subst}
 use mathlib.Core.Bool.{Bool, true, false}
-use mathlib.Core.List.{List, []}
-use lib.ListN.{length, getD, drop, length-drop, List·getD-eq-default}
+use mathlib.Core.List.{List, [], _∷_}
+use lib.ListN.{length, getD, drop, length-drop}
 use lib.Seq.{getD-take, getD-drop, length-take-le}
 use borrow.Author.Tests.{lt-ltb, le-ltb}
 use Rattle.system.specs.declared.Shape.{Shape}
+use Rattle.system.specs.BuiltIns.{isOperator, builtInStrategy}
 use Rattle.system.specs.System.{strategy}
 use Rattle.system.specs.Book.{systemOf, Accepted}
 use Rattle.system.specs.layout.Accepted.{StrategyAt}
+use Rattle.system.proofs.BuiltIns.{operator-strategy, plain-strategy}
+use Rattle.system.proofs.Rules.{strategy-unlisted}
 use Rattle.system.proofs.layout.Suffixes.{strategy-count}
 use Rattle.system.specs.declared.layout.entries.Entry.{Entry}
 use Rattle.system.specs.declared.layout.entries.Entry.the-variants.{End, Repeated, Rules, Argument}
@@ -71,13 +74,53 @@ module _ (es : List ℕ) (f c : ℕ) where
   pub asked-argument : (i : ℕ) → Asks (Argument i) → (c < length es) × (stood ≡ false) × (getD es c 0 ≡ suc i)
   asked-argument i (opens _ h b q) = (h, b, q)
 
+-- ---- the built-in strategies
+
+abbrev operating : List ℕ
+operating = 1 ∷ 2 ∷ 0 ∷ []
+
+-- nothing is repeated in them
+unrepeated : (f c : ℕ) → c < 3 → stood operating f c ≡ false
+unfolding among
+unrepeated f c h = elim (decLt f c) [ yes l ↦ go f c l h | no l ↦ let z : c - f ≡ 0 = omega arith in rw z ]
+  where
+    go : (f c : ℕ) → f < c → c < 3 → stood operating f c ≡ false
+    go zero (suc zero) l h = refl
+    go zero (suc (suc zero)) l h = refl
+    go (suc zero) (suc (suc zero)) l h = refl
+    go f zero l h = absurd (omega arith)
+    go (suc f) (suc zero) l h = absurd (omega arith)
+    go (suc (suc f)) (suc (suc zero)) l h = absurd (omega arith)
+    go f (suc (suc (suc c))) l h = absurd (omega arith)
+
+module _ (w f c : ℕ) where
+  pub plain-entry : isOperator w ≡ false → End ≡ entryOf (builtInStrategy w) f c
+  plain-entry o = sym (ap (λ es. entryOf es f c) (plain-strategy w o) ∙ entry-past [] f c (omega arith))
+
+  module _ (o : isOperator w ≡ true) where
+    as-operator : (e : Entry) → entryOf operating f c ≡ e → e ≡ entryOf (builtInStrategy w) f c
+    as-operator e q = sym (ap (λ es. entryOf es f c) (operator-strategy w o) ∙ q)
+
+    pub operator-end : 2 < c → End ≡ entryOf (builtInStrategy w) f c
+    operator-end h = as-operator End (entry-past operating f c (omega arith))
+
+    pub operator-rules : c ≡ 2 → Rules ≡ entryOf (builtInStrategy w) f c
+    operator-rules e = as-operator Rules (entry-rules operating f c (omega arith) (unrepeated f c (omega arith)) (ap (λ n. getD operating n 0) e))
+
+    pub operator-argument : c < 2 → Argument c ≡ entryOf (builtInStrategy w) f c
+    operator-argument h = as-operator (Argument c) (entry-argument operating f c (omega arith) (unrepeated f c (omega arith)) c (word c h))
+      where
+        word : (c : ℕ) → c < 2 → getD operating c 0 ≡ suc c
+        word zero h = refl
+        word (suc zero) h = refl
+        word (suc (suc c)) h = absurd (omega arith)
+
 -- ---- what the entry asks for that the words of the book tell of
 
--- what is no symbol has no strategy
-pub entry-none : (b : List ℕ) (sh : Shape) → Accepted b sh → (w n f c : ℕ) → n ≡ w → sh .symbols ≤ n → End ≡ entryOf (strategy (systemOf b) w) f c
-unfolding strategy
-entry-none b sh acc w n f c q h =
-    sym (rw (List·getD-eq-default (systemOf b .strategies) [] {n = w} (omega (arith, strategy-count b sh acc))) (entry-past [] f c (omega arith)))
+-- a word that is not listed has the built-in strategy
+pub entry-unlisted : (b : List ℕ) (sh : Shape) → Accepted b sh → (w n f c : ℕ) → n ≡ w → sh .symbols ≤ n → (e : Entry) → e ≡ entryOf (builtInStrategy w) f c →
+    e ≡ entryOf (strategy (systemOf b) w) f c
+entry-unlisted b sh acc w n f c q h e is = is ∙ ap (λ es. entryOf es f c) (sym (strategy-unlisted (systemOf b) w (omega (arith, strategy-count b sh acc))))
 
 -- an entry of the strategy at `at`, by the words of the book
 module _ (b : List ℕ) (w k at f c n : ℕ) (is : k ≡ w) (st : StrategyAt b k at) (count : n ≡ getD b at 0) where

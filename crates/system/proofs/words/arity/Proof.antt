@@ -1,6 +1,6 @@
--- The arity of symbol i stands at index i + 1; what is no symbol takes no arguments.
+-- The arity of symbol i stands at index i + 1; any other word takes as many as a built-in one.
 use Rattle.system.proofs.words.BookWords.{signature-room, signature-arity}
-use Rattle.system.proofs.Signatures.{arity-none}
+use Rattle.system.proofs.Signatures.{arity-unlisted}
 use Rattle.system.specs.Answers.{signatureOf}
 use Rattle.system.specs.Signature.{arity}
 use lib.ListN.{length}
@@ -34,12 +34,12 @@ returns c = let s = numbered (c .before) in
     )
 
 returns-2 : tie.Need-returns-2
-returns-2 c = let a = entry (c .before .before) .args in
-    (sym (arity-none (signatureOf (a .book .now)) (a .w) (let e = c .before .before .wide .ensures in omega arith)), omega arith)
+returns-2 c = let a = entry (c .before .before .before) .args in
+    (c .built-in-arity .ensures .0 ∙ sym (arity-unlisted (signatureOf (a .book .now)) (a .w) (let e = c .before .before .before .wide .ensures in omega arith)), omega arith)
 
 pub arity-spec : {M : Type 1} → statement M
 arity-spec =
     tie.close
     (tie.spec
     (λ c κs. search needs) (λ c κs. search needs) (λ c. search needs) (λ c. search needs) shared-slice-read-wide (λ c κs. search needs)
-    returns returns-2)
+    returns (λ c κs. search needs) returns-2)

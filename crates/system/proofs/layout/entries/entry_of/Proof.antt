@@ -1,6 +1,6 @@
 -- `entries::entry_of` meets its contract.
 use borrow.Author.Needs.{needs}
-use Rattle.system.proofs.layout.entries.Asks.{entry-none, entry-over, entry-repeated, entry-zero, entry-more}
+use Rattle.system.proofs.layout.entries.Asks.{entry-unlisted, entry-over, entry-repeated, entry-zero, entry-more}
 use Rattle.system.proofs.layout.entries.entry_of.Statement.{statement}
 use Rattle.system.proofs.layout.entries.entry_of.Tie as tie
 
@@ -25,10 +25,11 @@ looked c = c .before .before .before
 
 returns : tie.Need-returns
 returns c =
-    let e = entry (c .before .before) in
+    let e = entry (c .before .before .before) in
     let a = e .args in
-    let f = c .before .before .wide in
-    entry-none (a .book .now) (a .shape) (e .pre .0) (a .w) (f .result) (a .f) (a .c) (f .ensures .0) (c .if1 .taken)
+    let f = c .before .before .before .wide in
+    let b = c .built-in-entry in
+    entry-unlisted (a .book .now) (a .shape) (e .pre .0) (a .w) (f .result) (a .f) (a .c) (f .ensures .0) (c .before .if1 .taken) (b .result) (b .ensures (a .f))
 
 returns-2 : tie.Need-returns-2
 returns-2 c =
@@ -80,6 +81,6 @@ pub entry-of-spec : {M : Type 1} → statement M
 entry-of-spec =
     tie.close
     (tie.spec
-    (λ c κs. search needs) returns (λ c κs. search needs) (λ c. search needs) (λ c. search needs) (λ c κs. search needs) returns-2
+    (λ c κs. search needs) (λ c κs. search needs) returns (λ c κs. search needs) (λ c. search needs) (λ c. search needs) (λ c κs. search needs) returns-2
     (λ c κs. search needs) returns-3 (λ c. search needs) (λ c. search needs) (λ c. search needs) (λ c. search needs) (λ c κs. search needs)
     returns-4 (λ c. search needs) returns-5)

@@ -26,8 +26,12 @@ returns c = let a = c .before .before .args in
     sym (ap numberOr0 (side-complete (signatureOf (a .book .now)) (a .role) (a .first) (a .due) (a .known) (a .w) (c .if1 .taken)))
 
 returns-2 : tie.Need-returns-2
-returns-2 c = let a = entry (c .before) .args in
-    sym (ap numberOr0 (side-symbol (signatureOf (a .book .now)) (a .role) (a .first) (a .due) (a .known) (a .w) (omega arith) (sym (c .before .is-symbol .ensures) ∙ c .if2 .taken)))
+returns-2 c =
+    let s = c .before .before in
+    let a = entry s .args in
+    c .symbol-fault .ensures
+    ∙ sym (ap numberOr0 (side-symbol (signatureOf (a .book .now)) (a .role) (a .first) (a .due) (a .known) (a .w) (omega arith)
+    (sym (s .is-symbol .ensures) ∙ c .before .if2 .taken)))
 
 returns-3 : tie.Need-returns-3
 returns-3 c =
@@ -57,4 +61,4 @@ returns-5 c =
 
 pub side-fault-spec : {M : Type 1} → statement M
 side-fault-spec =
-    tie.close (tie.spec returns (λ c κs. search needs) returns-2 (λ c κs. search needs) returns-3 returns-4 (λ c κs. search needs) returns-5)
+    tie.close (tie.spec returns (λ c κs. search needs) (λ c κs. search needs) returns-2 (λ c κs. search needs) returns-3 returns-4 (λ c κs. search needs) returns-5)

@@ -1,0 +1,39 @@
+-- The built-in words (02, F-2): literals (02: levels) and two operators on them.
+use Prim.Native.Nat.{ℕ}
+use mathlib.Core.Bool.{Bool, cond, _&&_, _||_}
+use mathlib.Core.List.{List, [], _∷_}
+use lib.Dec.{ltb, leb, eqb}
+
+-- "Words 16384 to 16639 stand for levels 0 to 255, with no arguments": where the literals start, and how many there are
+abbrev pub literal : ℕ
+literal = 16384
+
+abbrev pub literals : ℕ
+literals = 256
+
+-- "Word 16640 is 'higher of', 16641 'lower of', two arguments each, order 1 2 0"
+abbrev pub maximum : ℕ
+maximum = 16640
+
+abbrev pub minimum : ℕ
+minimum = 16641
+
+-- a literal, or one of the two operators behind the literals
+unfoldable pub isBuiltIn : ℕ → Bool
+isBuiltIn w = leb literal w && leb w minimum
+
+unfoldable pub isOperator : ℕ → Bool
+isOperator w = eqb w maximum || eqb w minimum
+
+unfoldable pub builtInArity : ℕ → ℕ
+builtInArity w = cond (isOperator w) 2 0
+
+unfoldable pub builtInStrategy : ℕ → List ℕ
+builtInStrategy w = cond (isOperator w) (1 ∷ 2 ∷ 0 ∷ []) []
+
+-- "the larger or smaller level"
+unfoldable pub larger : ℕ → ℕ → ℕ
+larger m n = cond (ltb m n) n m
+
+unfoldable pub smaller : ℕ → ℕ → ℕ
+smaller m n = cond (ltb m n) m n
