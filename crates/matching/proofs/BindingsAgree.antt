@@ -20,9 +20,9 @@ use Rattle.system.proofs.Located.{RuleAt, rule-listed}
 use Rattle.system.proofs.words.SpanSteps.{span-le}
 use Rattle.matching.specs.Matching.{bind, Contraction, firstMatch}
 use Rattle.matching.specs.declared.Match.{Match}
-use Rattle.matching.specs.declared.FirstRule.the-variants.{First}
+use Rattle.matching.specs.declared.FirstRule.the-variants.{Nothing, First, Computed}
 use Rattle.matching.specs.Bindings.{Bindings, noBindings, bindings, noMatch, matchFrom, value, bindingsOf}
-use Rattle.matching.specs.rules.Searches.{contractionOf, RightSide, Within}
+use Rattle.matching.specs.rules.Searches.{contractionOf, RightSideAt, Within}
 use Rattle.matching.proofs.Matched.{bind-nil, instance-cong}
 use Rattle.matching.proofs.Firsts.{first-here, first-next, first-nil}
 use Rattle.matching.proofs.Words.{match-end, match-symbol, match-differ, match-variable}
@@ -43,7 +43,7 @@ module _ (t : List ℕ) where
     neither : Agree none none
     both : {σ : List (List ℕ)} {a : Bindings} → Reads σ a → Agree (some σ) (some a)
 
-  reads-none : Reads [] noBindings
+  pub reads-none : Reads [] noBindings
   unfolding noBindings value
   reads-none = record {
     values = λ v. rw (zero-at variables v);
@@ -187,16 +187,14 @@ module _ (b ws : List ℕ) where
       abbrev rhs : ℕ
       rhs = at + 1 + length (r .lhs) + 1
 
-      right-side : RightSide b rhs (length (r .rhs))
+      right-side : RightSideAt b rhs (length (r .rhs))
       right-side = record {
         fits = stands .fits;
-        some = forest-some (law .right);
-        small = law .shortRight;
-        known = λ j h.
-            let e : getD b (rhs + j) 0 ≡ getD (r .rhs) j 0 =
-            sym (getD-drop rhs b j 0) ∙ sym (getD-take (length (r .rhs)) (drop rhs b) j 0 h) ∙ ap (λ y. getD y j 0) (stands .right-words) in
-            let z = law .known (getD (r .rhs) j 0) (member-getD (r .rhs) j h) in
-            omega (arith, law .variableBound);
+        right = rw (stands .right-words) (record {
+          some = forest-some (law .right);
+          small = law .shortRight;
+          known = λ j h. let z = law .known (getD (r .rhs) j 0) (member-getD (r .rhs) j h) in omega (arith, law .variableBound);
+        });
       }
 
       -- the same reduct
@@ -209,6 +207,7 @@ module _ (b ws : List ℕ) where
     pub record Chosen (rs : List Rule) (k n : ℕ) (a : Bindings) : Type 0 where
       pub index : ℕ
       pub number : n ≡ k + index
+      pub inside : index < length rs
       pub σ : List (List ℕ)
       pub bound : bind g (getD rs index noRule .lhs) ws [] ≡ some σ
       pub reads : Reads ws σ a
@@ -216,9 +215,12 @@ module _ (b ws : List ℕ) where
     -- what the search found: the first redex, with its right side and stretches
     pub record Answers (rs : List Rule) (k : ℕ) (m : Match) : Type 0 where
       pub contraction : contractionOf b ws m ≡ firstMatch g rs k ws
-      pub right : (n rhs size : ℕ) → m .rule ≡ First n rhs size → RightSide b rhs size
+      pub right : (n rhs size : ℕ) → m .rule ≡ First n rhs size → RightSideAt b rhs size
       pub within : Within ws (m .starts) (m .lengths)
       pub chosen : (n rhs size : ℕ) → m .rule ≡ First n rhs size → Chosen rs k n (bindingsOf m)
+      -- nothing is found that is not listed, and nothing is bound where nothing is found
+      pub listed : (n w : ℕ) → m .rule ≡ Computed n w → ⊥
+      pub nothing : m .rule ≡ Nothing → m ≡ noMatch
 
     answers-nothing : (k : ℕ) → Answers [] k noMatch
     answers-nothing k = record {
@@ -226,6 +228,8 @@ module _ (b ws : List ℕ) where
       right = λ n rhs size e. absurd (let z : _≡_ {A = ℕ} 0 1 = cc in omega arith);
       within = reads-none ws .within;
       chosen = λ n rhs size e. absurd (let z : _≡_ {A = ℕ} 0 1 = cc in omega arith);
+      listed = λ n w e. let z : _≡_ {A = ℕ} 0 1 = cc in omega arith;
+      nothing = λ e. refl;
     }
 
     pub answers : (rs : List Rule) (k at : ℕ) → drop at b ≡ encodeRules rs → ((j : ℕ) → j < length rs → WellFormedRule g (getD rs j noRule)) → Answers rs k (matchFrom g rs k at ws)
@@ -247,10 +251,13 @@ module _ (b ws : List ℕ) where
           chosen = λ n rhs size e. let c = ih .chosen n rhs size e in record {
             index = suc (c .index);
             number = (let z = c .number in omega arith);
+            inside = (let z = c .inside in omega arith);
             σ = c .σ;
             bound = c .bound;
             reads = c .reads;
           };
+          listed = ih .listed;
+          nothing = ih .nothing;
         })
         go (both {σ} {a} h) d q ih =
             let x : ℕ = at + 1 + length (r .lhs) + 1 in
@@ -260,7 +267,9 @@ module _ (b ws : List ℕ) where
               right = λ n rhs size e.
                   let e₁ : x ≡ rhs = cc in
                   let e₂ : length (r .rhs) ≡ size = cc in
-                  subst₂ (λ y z. RightSide b y z) e₁ e₂ (right-side r rs k at stands l);
+                  subst₂ (λ y z. RightSideAt b y z) e₁ e₂ (right-side r rs k at stands l);
               within = h .within;
-              chosen = λ n rhs size e. let z : k ≡ n = cc in record { index = 0; number = omega arith; σ = σ; bound = d; reads = h };
+              chosen = λ n rhs size e. let z : k ≡ n = cc in record { index = 0; number = omega arith; inside = omega arith; σ = σ; bound = d; reads = h };
+              listed = λ n w e. let z : _≡_ {A = ℕ} 0 1 = cc in omega arith;
+              nothing = λ e. absurd (let z : _≡_ {A = ℕ} 0 1 = cc in omega arith);
             })

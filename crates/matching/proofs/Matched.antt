@@ -44,6 +44,11 @@ instance-cong σ τ (w ∷ ws) h =
           rw (instance-variable σ w (w - variable) ws e, instance-variable τ w (w - variable) ws e, ih, h w (w - variable) first e)
     ]
 
+-- what has no variables is its own instance
+pub instance-ground : (σ : ℕ → List ℕ) (ls : List ℕ) → ((w : ℕ) → Member w ls → w < variable) → instance σ ls ≡ ls
+instance-ground σ [] h = instance-nil σ
+instance-ground σ (w ∷ ws) h = instance-symbol σ w ws (h w first) ∙ ap (λ r. w ∷ r) (instance-ground σ ws (λ v st. h v (later st)))
+
 abbrev pub chain : Option (List (List ℕ)) → (List (List ℕ) → Option (List (List ℕ))) → Option (List (List ℕ))
 chain none on = none
 chain (some σ) on = on σ

@@ -7,30 +7,32 @@ use mathlib.Core.Path.{_≡_, refl, sym, ap, _∙_, subst}
 use mathlib.Core.Logic.{_↔_}
 use mathlib.Core.Option.{none, some}
 use mathlib.Core.List.{List, [], _∷_, _++_}
-use lib.ListN.{length, getD, take, drop, length-append, length-drop, length-take, drop-of-length-le}
-use lib.Seq.{drop-cons, getD-take, getD-drop, length-take-le}
+use lib.ListN.{length, getD, take, drop, length-append, length-drop, drop-of-length-le}
+use lib.Seq.{drop-cons, length-take-le}
 use borrow.Author.Tests.{lt-ltb, le-ltb}
 use Rattle.system.specs.declared.Shape.{Shape}
 use Rattle.system.specs.Limits.{variable}
 use Rattle.system.specs.Signature.{Symbol, span}
-use Rattle.system.specs.System.{System, rule, instance}
+use Rattle.system.specs.System.{System, Rule, rule, instance}
+use Rattle.system.specs.Rules.{RuleOf}
 use Rattle.system.specs.Terms.{Whole, WellFormedRule}
 use Rattle.system.specs.Answers.{signatureOf}
-use Rattle.system.proofs.Signatures.{few-symbols}
+use Rattle.system.proofs.Signatures.{few-symbols, few-listed}
 use Rattle.system.proofs.Forests.{span-forest}
 use Rattle.matching.specs.declared.Match.{Match}
 use Rattle.matching.specs.declared.FirstRule.{FirstRule}
-use Rattle.matching.specs.declared.FirstRule.the-variants.{Nothing, First}
+use Rattle.matching.specs.declared.FirstRule.the-variants.{Nothing, First, Computed}
 use Rattle.system.specs.Book.{systemOf, Accepted}
-use Rattle.matching.specs.Matching.{FirstMatch, Matches, bind, contraction}
-use Rattle.matching.specs.Bindings.{Bindings, matchOf, value, bindingsOf}
-use Rattle.matching.specs.rules.Searches.{lhsEnd, contractionOf, reductLength, RightSide, Within}
+use Rattle.matching.specs.Matching.{FirstMatch, Matches, bind, Contraction, contraction}
+use Rattle.matching.specs.Bindings.{Bindings, noBindings, matchListed, matchComputed, matchOf, value, bindingsOf}
+use Rattle.matching.specs.rules.Searches.{lhsEnd, contractionOf, reductLength, RightSideAt, Within}
 use Rattle.matching.proofs.Matched.{instance-nil, instance-symbol, instance-variable, instance-cong, bind-sound}
-use Rattle.matching.proofs.Firsts.{contraction-first, contraction-rest, fired, unfired}
-use Rattle.matching.proofs.BindingsAgree.{Chosen, Answers, answers}
+use Rattle.matching.proofs.Computed.{computed-built, computed-rest, computed-value, built-length}
+use Rattle.matching.proofs.Firsts.{contraction-rest, fired, unfired}
+use Rattle.matching.proofs.BindingsAgree.{Chosen}
+use Rattle.matching.proofs.Sources.{found, all-within, match-listed, match-computed, match-contraction}
 use Rattle.matching.proofs.rules.Widths.{lhsEnd-bound}
-use Rattle.system.proofs.layout.Books.{well, signature, first-rest, wellFormedRules, rule-count}
-use Rattle.matching.proofs.rules.Searches.{match-start}
+use Rattle.system.proofs.layout.Books.{well, signature}
 
 -- ---- lengths
 
@@ -59,28 +61,20 @@ module _ (lengths : List ℕ) where
             rw (instance-variable σ w (w - variable) ls e, length-append (σ (w - variable)) (instance σ ls), length-cons-variable w ls (omega arith), h (w - variable), ih)
       ]
 
-  -- word j of a right side of `size` words that starts at index `rhs` of the book
-  module _ (book : List ℕ) (rhs size j : ℕ) where
-    abbrev words : ℕ → List ℕ
-    words i = drop i (take size (drop rhs book))
+  -- word j of a right side
+  module _ (side : List ℕ) (j : ℕ) where
+    pub length-done : length side ≤ j → reductLength lengths (drop j side) ≡ 0
+    length-done h = rw (drop-of-length-le side h, length-none)
 
-    pub length-done : size ≤ j → reductLength lengths (words j) ≡ 0
-    length-done h =
-        let e : length (take size (drop rhs book)) ≤ j = rw (length-take size (drop rhs book)) (omega arith) in
-        rw (drop-of-length-le (take size (drop rhs book)) e, length-none)
+    module _ (here : j < length side) (w : ℕ) (is : w ≡ getD side j 0) where
+      split : drop j side ≡ w ∷ drop (j + 1) side
+      split = rw (add-one j) (drop-cons side j 0 here ∙ ap (λ y. y ∷ drop (suc j) side) (sym is))
 
-    module _ (fits : rhs + size ≤ length book) (here : j < size) (w : ℕ) (is : w ≡ getD book (rhs + j) 0) where
-      split : words j ≡ w ∷ words (j + 1)
-      split =
-          let n : length (take size (drop rhs book)) ≡ size = length-take-le size (drop rhs book) (rw (length-drop rhs book) (omega arith)) in
-          let e : getD (take size (drop rhs book)) j 0 ≡ w = getD-take size (drop rhs book) j 0 here ∙ getD-drop rhs book j 0 ∙ sym is in
-          rw (add-one j) (drop-cons (take size (drop rhs book)) j 0 (omega arith) ∙ ap (λ y. y ∷ drop (suc j) (take size (drop rhs book))) e)
+      pub length-symbol : w < variable → reductLength lengths (drop j side) ≡ 1 + reductLength lengths (drop (j + 1) side)
+      length-symbol h = ap (reductLength lengths) split ∙ length-cons-symbol w (drop (j + 1) side) h
 
-      pub length-symbol : w < variable → reductLength lengths (words j) ≡ 1 + reductLength lengths (words (j + 1))
-      length-symbol h = ap (reductLength lengths) split ∙ length-cons-symbol w (words (j + 1)) h
-
-      pub length-variable : variable ≤ w → reductLength lengths (words j) ≡ getD lengths (w - variable) 0 + reductLength lengths (words (j + 1))
-      length-variable h = ap (reductLength lengths) split ∙ length-cons-variable w (words (j + 1)) h
+      pub length-variable : variable ≤ w → reductLength lengths (drop j side) ≡ getD lengths (w - variable) 0 + reductLength lengths (drop (j + 1) side)
+      length-variable h = ap (reductLength lengths) split ∙ length-cons-variable w (drop (j + 1) side) h
 
 -- what a variable stands for is as long as its stretch
 pub value-length : (ws : List ℕ) (a : Bindings) → Within ws (a .starts) (a .lengths) → (v : ℕ) → length (value ws a v) ≡ getD (a .lengths) v 0
@@ -97,57 +91,68 @@ module _ (b : List ℕ) (sh : Shape) (acc : Accepted b sh) where
   abbrev s : System
   s = systemOf b
 
-  module _ (ws : List ℕ) where
-    found : Answers b ws (signatureOf b) (s .rules) 0 (matchOf s ws)
-    found =
-        rw (← match-start acc ws)
-        (answers b ws (signatureOf b) (s .rules) 0 (sh .«first_rule») (first-rest b sh acc .words) (λ j h. wellFormedRules b sh acc j (rw (rule-count b sh acc) h)))
+  module _ (ws : List ℕ) (m : Match) (e : m ≡ matchOf s ws) where
+    -- what was found of the listed rules
+    book-match : {n rhs size : ℕ} → m .rule ≡ First n rhs size → m ≡ matchListed s ws
+    book-match f = e ∙ match-listed b sh acc ws (ap (λ y. y .rule) (sym e) ∙ f)
 
-    -- the search finds the first redex
-    pub match-contraction : contractionOf b ws (matchOf s ws) ≡ contraction s ws
-    match-contraction = found .contraction ∙ rw (← signature b sh acc) (sym (contraction-first s ws))
+    -- the right side of a listed rule, and the stretches of its variables
+    pub match-right : {n rhs size : ℕ} → m .rule ≡ First n rhs size → RightSideAt b rhs size
+    match-right {n} {rhs} {size} f = found b sh acc ws .right n rhs size (ap (λ y. y .rule) (sym (book-match f)) ∙ f)
 
-    -- its right side, and the stretches of its variables
-    pub match-right : (m : Match) → m ≡ matchOf s ws → {n rhs size : ℕ} → m .rule ≡ First n rhs size → RightSide b rhs size
-    match-right m e {n} {rhs} {size} f = found .right n rhs size (ap (λ y. y .rule) (sym e) ∙ f)
-
-    pub match-within : (m : Match) → m ≡ matchOf s ws → Within ws (m .starts) (m .lengths)
-    match-within m e = rw e (found .within)
+    pub match-within : Within ws (m .starts) (m .lengths)
+    match-within = rw e (all-within b sh acc ws)
 
     -- the redex, by what was found
-    pub match-none : (m : Match) → m ≡ matchOf s ws → m .rule ≡ Nothing → contraction s ws ≡ none
-    unfolding contractionOf
-    match-none m e f = sym (match-contraction) ∙ ap (contractionOf b ws) (sym e) ∙ rw (f, contractionOf)
+    pub match-redex : contractionOf b ws m ≡ contraction s ws
+    match-redex = ap (contractionOf b ws) e ∙ match-contraction b sh acc ws
 
-    pub match-some : (m : Match) → m ≡ matchOf s ws → {n rhs size : ℕ} → m .rule ≡ First n rhs size →
+    pub match-none : m .rule ≡ Nothing → contraction s ws ≡ none
+    unfolding contractionOf
+    match-none f = sym match-redex ∙ rw (f, contractionOf)
+
+    pub match-some : {n rhs size : ℕ} → m .rule ≡ First n rhs size →
         contraction s ws ≡ some (record { number = n; reduct = instance (value ws (bindingsOf m)) (take size (drop rhs b)) })
     unfolding contractionOf
-    match-some m e f = sym (match-contraction) ∙ ap (contractionOf b ws) (sym e) ∙ rw (f, contractionOf)
+    match-some f = sym match-redex ∙ rw (f, contractionOf)
+
+    pub match-word : {k w : ℕ} → m .rule ≡ Computed k w → contraction s ws ≡ some (record { number = k; reduct = w ∷ [] })
+    unfolding contractionOf
+    match-word f = sym match-redex ∙ rw (f, contractionOf)
+
+    -- what a built-in rule puts there is a literal; it binds nothing
+    pub match-value : {k w : ℕ} → m .rule ≡ Computed k w → w < variable
+    match-value f = computed-value ws (match-computed b sh acc ws (ap (λ y. y .rule) (sym e) ∙ f) .1)
+
+    pub match-unbound : {k w : ℕ} → m .rule ≡ Computed k w → (m .starts ≡ noBindings .starts) × (m .lengths ≡ noBindings .lengths)
+    unfolding matchComputed
+    match-unbound f = let q = e ∙ match-computed b sh acc ws (ap (λ y. y .rule) (sym e) ∙ f) .0 in (ap (λ y. y .starts) q, ap (λ y. y .lengths) q)
 
     -- the reduct's length, from the lengths that were found
-    pub match-length : (m : Match) → m ≡ matchOf s ws → (rhs size : ℕ) →
-        length (instance (value ws (bindingsOf m)) (take size (drop rhs b))) ≡ reductLength (m .lengths) (take size (drop rhs b))
-    match-length m e rhs size = reduct-length ws (bindingsOf m) (match-within m e) (take size (drop rhs b))
+    pub match-length : (side : List ℕ) → length (instance (value ws (bindingsOf m)) side) ≡ reductLength (m .lengths) side
+    match-length side = reduct-length ws (bindingsOf m) match-within side
 
   -- ---- over a whole subterm u, wherever it stands: a ++ (u ++ d), and ws the words from it on
 
   module _ (a d : List ℕ) {u : List ℕ} (whole : Whole (s .arities) u) (m : Match) (e : m ≡ matchOf s (u ++ d)) where
+    same-redex : contractionOf b (u ++ d) m ≡ contraction s u
+    same-redex = match-redex (u ++ d) m e ∙ contraction-rest s (well b sh acc) whole d
+
     -- nothing is found: no rule matches
-    pub nothing-matches : m .rule ≡ Nothing → (k : ℕ) → k < length (s .rules) → Matches (s .arities) (a ++ (u ++ d)) (length a) (rule s k) → ⊥
+    pub nothing-matches : m .rule ≡ Nothing → (k : ℕ) (r : Rule) → RuleOf s k r → Matches (s .arities) (a ++ (u ++ d)) (length a) r → ⊥
     nothing-matches f = unfired s (well b sh acc) whole a d (sym (contraction-rest s (well b sh acc) whole d) ∙ match-none (u ++ d) m e f)
 
-    -- a rule is found: it matches, no lower one does, and the substitution makes the instance, which is whole
-    pub first-matches : {n rhs size : ℕ} → m .rule ≡ First n rhs size →
-        FirstMatch s (a ++ (u ++ d)) (length a) (record { number = n; reduct = instance (value (u ++ d) (bindingsOf m)) (take size (drop rhs b)) })
-    first-matches f = fired s (well b sh acc) whole a d _ (sym (contraction-rest s (well b sh acc) whole d) ∙ match-some (u ++ d) m e f)
+    -- a rule is found: it matches, none of a lower number does, and the substitution makes the instance, which is whole
+    pub first-matches : (x : Contraction) → contractionOf b (u ++ d) m ≡ some x → FirstMatch s (a ++ (u ++ d)) (length a) x
+    first-matches x f = fired s (well b sh acc) whole a d x (sym same-redex ∙ f)
 
-    -- what its left side is bound to
+    -- what the left side of a listed rule is bound to
     module _ {n rhs size : ℕ} (f : m .rule ≡ First n rhs size) where
-      abbrev c : Chosen b (u ++ d) (signatureOf b) (s .rules) 0 n (bindingsOf (matchOf s (u ++ d)))
-      c = found (u ++ d) .chosen n rhs size (ap (λ y. y .rule) (sym e) ∙ f)
+      abbrev c : Chosen b (u ++ d) (signatureOf b) (s .rules) 0 n (bindingsOf (matchListed s (u ++ d)))
+      c = found b sh acc (u ++ d) .chosen n rhs size (ap (λ y. y .rule) (sym (book-match (u ++ d) m e f)) ∙ f)
 
       law : WellFormedRule (s .arities) (rule s n)
-      law = well b sh acc .wellFormedRules n (first-matches f .known)
+      law = well b sh acc .wellFormedRules n (let q = c .number in let z = c .inside in omega arith)
 
       bound : bind (s .arities) (rule s n .lhs) (u ++ d) [] ≡ some (c .σ)
       bound =
@@ -160,16 +165,29 @@ module _ (b : List ℕ) (sh : Shape) (acc : Accepted b sh) where
         let z = lhsEnd-bound (s .arities) (few-symbols s (well b sh acc)) d 0 [] (c f .σ) (law f .left) whole (bound f) in
         omega (arith, span-forest (s .arities) (Symbol (s .arities)) d whole)
 
+    -- and a built-in one the three words that the subterm has
+    pub found-three : {k w : ℕ} → m .rule ≡ Computed k w → span (s .arities) (u ++ d) 1 ≡ 3
+    found-three f =
+        let few = few-listed s (well b sh acc) in
+        let q = match-computed b sh acc (u ++ d) (ap (λ y. y .rule) (sym e) ∙ f) .1 in
+        let r = computed-built (s .arities) few whole _ (sym (computed-rest (s .arities) few d whole) ∙ q) in
+        span-forest (s .arities) (Symbol (s .arities)) d whole ∙ ap length (r .left) ∙ built-length (r .built)
+
     -- the words of the stretches fill its left side to the subterm
     pub found-instance : {n rhs size : ℕ} → m .rule ≡ First n rhs size → instance (value (u ++ d) (bindingsOf m)) (rule s n .lhs) ≡ u
     found-instance {n} f =
-        instance-cong (value (u ++ d) (bindingsOf m)) (λ v. getD (c f .σ) v []) (rule s n .lhs) (λ v k st y. ap (λ x. value (u ++ d) (bindingsOf x) k) e ∙ sym (c f .reads .values k))
+        instance-cong (value (u ++ d) (bindingsOf m)) (λ v. getD (c f .σ) v []) (rule s n .lhs)
+        (λ v k st y. ap (λ x. value (u ++ d) (bindingsOf x) k) (book-match (u ++ d) m e f) ∙ sym (c f .reads .values k))
         ∙ bind-sound (s .arities) (few-symbols s (well b sh acc)) d [] (c f .σ) (law f .left) (law f .numbered) whole refl (bound f) .filled
 
     -- so a rule is found exactly if some rule matches
-    pub found-exactly : (m .rule ≡ Nothing) ↔ ((k : ℕ) → k < length (s .rules) → Matches (s .arities) (a ++ (u ++ d)) (length a) (rule s k) → ⊥)
+    pub found-exactly : (m .rule ≡ Nothing) ↔ ((k : ℕ) (r : Rule) → RuleOf s k r → Matches (s .arities) (a ++ (u ++ d)) (length a) r → ⊥)
     found-exactly = (nothing-matches, λ h. go (m .rule) refl h)
       where
-        go : (o : FirstRule) → m .rule ≡ o → ((k : ℕ) → k < length (s .rules) → Matches (s .arities) (a ++ (u ++ d)) (length a) (rule s k) → ⊥) → m .rule ≡ Nothing
+        matches : {x : Contraction} → contractionOf b (u ++ d) m ≡ some x → ((k : ℕ) (r : Rule) → RuleOf s k r → Matches (s .arities) (a ++ (u ++ d)) (length a) r → ⊥) → ⊥
+        matches {x} f h = let c = first-matches x f in h (x .number) (c .chosen) (c .known) (c .match)
+
+        go : (o : FirstRule) → m .rule ≡ o → ((k : ℕ) (r : Rule) → RuleOf s k r → Matches (s .arities) (a ++ (u ++ d)) (length a) r → ⊥) → m .rule ≡ Nothing
         go Nothing f h = f
-        go (First n rhs size) f h = let c = first-matches f in absurd (h n (c .known) (c .match))
+        go (First n rhs size) f h = absurd (matches (match-redex (u ++ d) m e ∙ match-some (u ++ d) m e f) h)
+        go (Computed k w) f h = absurd (matches (match-redex (u ++ d) m e ∙ match-word (u ++ d) m e f) h)

@@ -3,17 +3,22 @@ use Prim.Native.Nat.{ℕ, zero, suc, _<_}
 use native.Mathlib.Nat.{le-of-suc-le-suc, not-suc-le-zero}
 use native.Mathlib.Omega.{arith}
 use native.Mathlib.Decide.{ℕ-discrete}
-use mathlib.Core.Path.{_≡_, refl, ap}
-use mathlib.Core.Logic.{inl, inr}
+use mathlib.Core.Path.{_≡_, refl, ap, _∙_}
+use mathlib.Core.Logic.{_⊎_, inl, inr}
 use mathlib.Core.List.{List, [], _∷_, _++_}
 use mathlib.Core.Bool.{Bool, true, false, not, _&&_, _||_, or-true}
 use lib.ListN.{length, getD}
 use lib.Dec.{eqb}
 use borrow.Author.Tests.{leb-true, le-leb, eq-eqb, ne-eqb}
 use Rattle.system.specs.Limits.{variable}
+use Rattle.system.specs.BuiltIns.{maximum, minimum, isOperator}
+use Rattle.system.specs.Signature.{Listed}
 use Rattle.system.specs.System.{System, Rule, strategy, rule, noRule, head}
-use Rattle.system.specs.Terms.{Member, first, later}
-use Rattle.matching.specs.Safety.{Idle, IdleEntry, idle, Constructor, Passes}
+use Rattle.system.specs.Rules.{BuiltIn, listed, builtIn}
+use Rattle.system.specs.Terms.{Member, first, later, WellFormed}
+use Rattle.system.proofs.BuiltIns.{Supplied, operator-cases, operator-strategy, literal-operator, maximum-operator, minimum-operator}
+use Rattle.system.proofs.Rules.{built-head, listed-head, strategy-unlisted}
+use Rattle.matching.specs.Safety.{Idle, IdleEntry, idle, Guarded, Constructor, Passes}
 use Rattle.matching.specs.StrategyTest.{every, isVariable, idleTest, idles, closes, constructs, passes}
 
 both : (a b : Bool) → (a && b) ≡ true → (a ≡ true) × (b ≡ true)
@@ -34,15 +39,20 @@ unfolding every
 every-all test [] h = refl
 every-all test (r ∷ rs) h = both-true (test r) (every test rs) (h 0 (omega arith)) (every-all test rs (λ k l. h (suc k) (omega arith)))
 
-module _ (s : System) (f : ℕ) where
+-- no built-in rule starts with what is no operator
+other : {A : Type 0} {k f : ℕ} {r : Rule} → isOperator f ≡ false → BuiltIn k r → head (r .lhs) ≡ f → A
+other o b q = absurd (let z = built-head b in let y : _≡_ {A = ℕ} 0 1 = cc in omega arith)
+
+module _ (s : System) (f : ℕ) (plain : isOperator f ≡ false) where
   pub idle-sound : (i : ℕ) → idleTest s f i ≡ true → Idle s f i
   unfolding idleTest isVariable
-  idle-sound i e k h q = leb-true variable _ (rw (q, eq-eqb f f refl) at (every-at _ (s .rules) e k h))
+  idle-sound i e k r (builtIn b) q = other plain b q
+  idle-sound i e k r (listed h) q = leb-true variable _ (rw (q, eq-eqb f f refl) at (every-at _ (s .rules) e k h))
 
   pub idle-complete : (i : ℕ) → Idle s f i → idleTest s f i ≡ true
   unfolding idleTest isVariable
   idle-complete i h = every-all _ (s .rules) (λ k l. elim (ℕ-discrete (head (rule s k .lhs)) f) [
-    | yes q ↦ rw (q, eq-eqb f f refl) (le-leb variable _ (h k l q))
+    | yes q ↦ rw (q, eq-eqb f f refl) (le-leb variable _ (h k (rule s k) (listed l) q))
     | no d ↦ rw (ne-eqb (head (rule s k .lhs)) f d)
   ])
 
@@ -83,18 +93,19 @@ module _ (s : System) (f : ℕ) where
   closes-complete (zero ∷ before) after h = rw (closes-complete before after h) (or-true (idles (idleTest s f) (before ++ 0 ∷ after)))
   closes-complete (suc i ∷ before) after h = closes-complete before after h
 
--- the test passes a symbol exactly when 01's rule does
-module _ (s : System) (f : ℕ) where
+-- the test passes a listed symbol exactly when 01's rule does
+module _ (s : System) (f : ℕ) (plain : isOperator f ≡ false) where
   constructs-sound : constructs s f ≡ true → Constructor s f
   unfolding constructs
-  constructs-sound e k l q =
+  constructs-sound e k r (builtIn b) q = other plain b q
+  constructs-sound e k r (listed l) q =
       let z : not (eqb (head (rule s k .lhs)) f) ≡ true = every-at (λ r. not (eqb (head (r .lhs)) f)) (s .rules) e k l in
       let z′ = eq-eqb (head (rule s k .lhs)) f q in
       let y : _≡_ {A = ℕ} 0 1 = cc in omega arith
 
   constructs-complete : Constructor s f → constructs s f ≡ true
   unfolding constructs
-  constructs-complete h = every-all (λ r. not (eqb (head (r .lhs)) f)) (s .rules) (λ k l. rw (ne-eqb (head (rule s k .lhs)) f (h k l)))
+  constructs-complete h = every-all (λ r. not (eqb (head (r .lhs)) f)) (s .rules) (λ k l. rw (ne-eqb (head (rule s k .lhs)) f (h k (rule s k) (listed l))))
 
   pub passes-sound : passes s f ≡ true → Passes s f
   unfolding passes
@@ -102,9 +113,35 @@ module _ (s : System) (f : ℕ) where
     where
       go : (b : Bool) → constructs s f ≡ b → (b || closes (idleTest s f) (strategy s f)) ≡ true → Passes s f
       go true e q = inl (constructs-sound e)
-      go false e q = let c = closes-sound s f (strategy s f) q in inr (record { before = c .before; after = c .after; split = c .split; last = c .last })
+      go false e q = let c = closes-sound s f plain (strategy s f) q in inr (record { before = c .before; after = c .after; split = c .split; last = c .last })
 
   pub passes-complete : Passes s f → passes s f ≡ true
   unfolding passes
   passes-complete (inl h) = rw (constructs-complete h)
-  passes-complete (inr h) = rw (h .split, closes-complete s f (h .before) (h .after) (h .last)) (or-true (constructs s f))
+  passes-complete (inr h) = rw (h .split, closes-complete s f plain (h .before) (h .after) (h .last)) (or-true (constructs s f))
+
+-- "Order test and evaluation cover them" (02, F-2): the built-in symbols pass, whatever the listed rules are
+module _ (s : System) (wf : WellFormed s) where
+  -- nothing starts with a literal
+  literal-constructor : (w : ℕ) → Supplied w → isOperator w ≡ false → Constructor s w
+  literal-constructor w b o k r (builtIn d) q = other o d q
+  literal-constructor w b o k r (listed m) q = let z = listed-head s wf k m in let n = wf .symbolBound in let l = b .low in omega arith
+
+  -- the order of an operator ends with its 0
+  operator-guarded : (w : ℕ) → Supplied w → isOperator w ≡ true → Guarded s w
+  operator-guarded w b o =
+      let count = wf .strategyCount in
+      let n = wf .symbolBound in
+      let l = b .low in
+      record { before = 1 ∷ 2 ∷ []; after = []; split = strategy-unlisted s w (omega arith) ∙ operator-strategy w o; last = λ e m. elim m [ ] }
+
+  pub builtin-passes : (w : ℕ) → Supplied w → Passes s w
+  builtin-passes w b = go (isOperator w) refl
+    where
+      go : (o : Bool) → isOperator w ≡ o → Passes s w
+      go true o = inr (operator-guarded w b o)
+      go false o = inl (literal-constructor w b o)
+
+  -- a listed symbol is no operator
+  pub listed-plain : (f : ℕ) → Listed (s .arities) f → isOperator f ≡ false
+  listed-plain f h = literal-operator f (let n = wf .symbolBound in omega arith)

@@ -9,8 +9,11 @@ use Rattle.system.specs.Limits.{variable, variables}
 use Rattle.system.specs.Signature.{Signature, span}
 use Rattle.system.specs.System.{System, Rule}
 use Rattle.system.specs.Format.{encodeStrategies}
+use Rattle.system.specs.Parser.{ok, fault, read}
 use Rattle.matching.specs.declared.Match.{Match}
-use Rattle.matching.specs.declared.FirstRule.the-variants.{Nothing, First}
+use Rattle.matching.specs.declared.FirstRule.{FirstRule}
+use Rattle.matching.specs.declared.FirstRule.the-variants.{Nothing, First, Computed}
+use Rattle.matching.specs.Matching.{Computation, computed}
 
 -- for each variable the index of the first word of its stretch of the subterm, and the number of its words; 0 and 0 where it has none
 pub record Bindings : Type 0 where
@@ -54,10 +57,28 @@ matchFrom g (r ∷ rs) k at ws =
       | none ↦ matchFrom g rs (suc k) (at + 1 + length (r .lhs) + 1 + length (r .rhs)) ws
     ]
 
--- "the lowest-numbered rule that fits here", at the front of ws: its number, where in the book its right side's words start, how many
--- they are, and the stretches of its variables
+-- the first of the listed rules: its number, where in the book its right side's words start, how many they are, and the stretches of its variables
+unfoldable pub matchListed : System → List ℕ → Match
+matchListed s ws = matchFrom (s .arities) (s .rules) 0 (length (s .arities) + 3 + length (encodeStrategies (s .strategies))) ws
+
+-- the built-in rule: its number, and the word that it puts there
+abbrev pub computedRule : Option Computation → FirstRule
+computedRule none = Nothing
+computedRule (some c) = Computed (c .number) (c .word)
+
+unfoldable pub matchComputed : List ℕ → Match
+matchComputed ws = record { rule = computedRule (computed ws); starts = noBindings .starts; lengths = noBindings .lengths }
+
+abbrev pub orComputed : List ℕ → Match → Match
+orComputed ws m = elim (m .rule) [ Nothing ↦ matchComputed ws | First k rhs size ↦ m | Computed k w ↦ m ]
+
+-- "the lowest-numbered rule that fits here", at the front of ws
 unfoldable pub matchOf : System → List ℕ → Match
-matchOf s ws = matchFrom (s .arities) (s .rules) 0 (length (s .arities) + 3 + length (encodeStrategies (s .strategies))) ws
+matchOf s ws = orComputed ws (matchListed s ws)
+
+-- the same, by the words of a book: no rule matches over a book that the reader refuses
+unfoldable pub matchIn : List ℕ → List ℕ → Match
+matchIn book ws = elim (read book) [ fault f i ↦ noMatch | ok s i ↦ matchOf s ws ]
 
 -- what variable v stands for
 unfoldable pub value : List ℕ → Bindings → ℕ → List ℕ

@@ -1,14 +1,16 @@
 -- Matching (01: fitting): when a rule matches, and how the first rule that matches is found.
-use Prim.Native.Nat.{ℕ, suc, _<_}
+use Prim.Native.Nat.{ℕ, suc, _+_, _-_, _<_}
 use mathlib.Core.Path.{_≡_}
 use mathlib.Core.List.{List, [], _∷_, _++_}
-use mathlib.Core.Bool.{true, false}
+use mathlib.Core.Bool.{true, false, cond, _&&_}
 use mathlib.Core.Option.{Option, none, some}
-use lib.ListN.{length, getD, take, drop}
+use lib.ListN.{getD, take, drop}
 use lib.Dec.{ltb, eqb}
 use Rattle.system.specs.Limits.{variable}
+use Rattle.system.specs.BuiltIns.{literal, isLiteral, maximum, minimum, larger, smaller}
 use Rattle.system.specs.Signature.{Signature, span, subterm}
-use Rattle.system.specs.System.{System, Rule, rule, instance}
+use Rattle.system.specs.System.{System, Rule, instance}
+use Rattle.system.specs.Rules.{RuleOf, maximumRule, minimumRule}
 use Rattle.system.specs.Terms.{Whole}
 
 -- "A filling gives each placeholder a whole cue, the same wherever it stands; a side so filled is an instance. A rule fits at a place
@@ -37,8 +39,8 @@ pub record Contraction : Type 0 where
   pub number : ℕ
   pub reduct : List ℕ
 
--- "The search tries rules in book order and gives up a rule at its first unequal word": the first of the rules, numbered from k on, that
--- matches the front of ws
+-- "The search tries rules in book order and gives up a rule at its first unequal word": the first of the listed rules, numbered from k on,
+-- that matches the front of ws
 unfoldable pub firstMatch : Signature → List Rule → ℕ → List ℕ → Option Contraction
 firstMatch g [] k ws = none
 firstMatch g (r ∷ rs) k ws =
@@ -47,15 +49,39 @@ firstMatch g (r ∷ rs) k ws =
       | none ↦ firstMatch g rs (suc k) ws
     ]
 
--- "the lowest-numbered rule that fits here", at the front of ws
-unfoldable pub contraction : System → List ℕ → Option Contraction
-contraction s ws = firstMatch (s .arities) (s .rules) 0 ws
+-- a built-in rule that matches, by its number, and the word that it puts there
+pub record Computation : Type 0 where
+  pub number : ℕ
+  pub word : ℕ
 
--- "The first rule that fits is the lowest-numbered": rule number `x .number` matches the subterm of t at p, no lower one does, and the reduct is
--- "the same filling's instance of its right side", which is whole
+-- an operator on the literals m and n: "a step puts the larger or smaller level there" (02, F-2)
+unfoldable pub operation : ℕ → ℕ → ℕ → Option Computation
+operation f m n =
+    cond (eqb f maximum) (some (record { number = maximumRule; word = literal + larger m n }))
+    (cond (eqb f minimum) (some (record { number = minimumRule; word = literal + smaller m n })) none)
+
+-- a word before the words a and b: "where both arguments are levels"
+unfoldable pub applied : ℕ → ℕ → ℕ → Option Computation
+applied f a b = cond (isLiteral a && isLiteral b) (operation f (a - literal) (b - literal)) none
+
+-- the built-in rule that matches the front of ws
+unfoldable pub computed : List ℕ → Option Computation
+computed ws = applied (getD ws 0 0) (getD ws 1 0) (getD ws 2 0)
+
+abbrev pub computedContraction : Option Computation → Option Contraction
+computedContraction none = none
+computedContraction (some c) = some (record { number = c .number; reduct = c .word ∷ [] })
+
+-- "the lowest-numbered rule that fits here", at the front of ws: a listed rule, or else a built-in one, whose number is higher
+unfoldable pub contraction : System → List ℕ → Option Contraction
+contraction s ws = elim (firstMatch (s .arities) (s .rules) 0 ws) [ some x ↦ some x | none ↦ computedContraction (computed ws) ]
+
+-- "The first rule that fits is the lowest-numbered": a rule of number `x .number` matches the subterm of t at p, none of a lower number does, and
+-- the reduct is "the same filling's instance of its right side", which is whole
 pub record FirstMatch (s : System) (t : List ℕ) (p : ℕ) (x : Contraction) : Type 0 where
-  pub known : x .number < length (s .rules)
-  pub match : Matches (s .arities) t p (rule s (x .number))
-  pub lowest : (k : ℕ) → k < x .number → Matches (s .arities) t p (rule s k) → ⊥
-  pub reduct : x .reduct ≡ instance (match .σ) (rule s (x .number) .rhs)
+  pub chosen : Rule
+  pub known : RuleOf s (x .number) chosen
+  pub match : Matches (s .arities) t p chosen
+  pub lowest : (k : ℕ) (r : Rule) → RuleOf s k r → k < x .number → Matches (s .arities) t p r → ⊥
+  pub reduct : x .reduct ≡ instance (match .σ) (chosen .rhs)
   pub left : Whole (s .arities) (x .reduct)

@@ -8,7 +8,8 @@ use Rattle.system.specs.declared.Answer.{Answer}
 use Rattle.system.specs.Numbers.{Fault, taken, unsettled, numberOf}
 use Rattle.system.specs.Limits.{variable}
 use Rattle.system.specs.Signature.{Symbol, argument}
-use Rattle.system.specs.System.{System, strategy, rule, head}
+use Rattle.system.specs.System.{System, Rule, strategy, head}
+use Rattle.system.specs.Rules.{RuleOf}
 use Rattle.system.specs.Terms.{Member}
 use Rattle.system.specs.Book.{systemOf}
 use Rattle.system.specs.Parser.{ok, fault, read}
@@ -16,8 +17,7 @@ use Rattle.system.specs.Answers.{answerOf}
 
 -- "An argument is idle if it is a placeholder in every left side starting with that name": the argument of f with i others before it
 abbrev pub Idle : System → ℕ → ℕ → Type 0
-Idle s f i =
-    (k : ℕ) → k < length (s .rules) → head (rule s k .lhs) ≡ f → variable ≤ getD (rule s k .lhs) (argument (s .arities) (rule s k .lhs) 0 i) 0
+Idle s f i = (k : ℕ) (r : Rule) → RuleOf s k r → head (r .lhs) ≡ f → variable ≤ getD (r .lhs) (argument (s .arities) (r .lhs) 0 i) 0
 
 -- an entry that is an idle argument
 pub data IdleEntry (s : System) (f : ℕ) : ℕ → Type 0 where
@@ -32,13 +32,13 @@ pub record Guarded (s : System) (f : ℕ) : Type 0 where
 
 -- a constructor: "no left side starts with it"
 abbrev pub Constructor : System → ℕ → Type 0
-Constructor s f = (k : ℕ) → k < length (s .rules) → head (rule s k .lhs) ≡ f → ⊥
+Constructor s f = (k : ℕ) (r : Rule) → RuleOf s k r → head (r .lhs) ≡ f → ⊥
 
 -- "a name passes if no left side starts with it, or if its order holds a 0 and .."
 abbrev pub Passes : System → ℕ → Type 0
 Passes s f = Constructor s f ⊎ Guarded s f
 
--- "All pass"
+-- "All pass", the built-in symbols too
 abbrev pub Safe : System → Type 0
 Safe s = (f : ℕ) → Symbol (s .arities) f → Passes s f
 

@@ -23,7 +23,7 @@ every test (r ∷ rs) = test r && every test rs
 unfoldable pub isVariable : Signature → List ℕ → ℕ → Bool
 isVariable g lhs i = leb variable (getD lhs (argument g lhs 0 i) 0)
 
--- whether the argument of f with i others before it is idle: "a placeholder in every left side starting with that name"
+-- whether the argument of f, a listed symbol, with i others before it is idle: "a placeholder in every left side starting with that name"
 unfoldable pub idleTest : System → ℕ → ℕ → Bool
 idleTest s f i = every (λ r. not (eqb (head (r .lhs)) f) || isVariable (s .arities) (r .lhs) i) (s .rules)
 
@@ -39,11 +39,11 @@ closes test [] = false
 closes test (zero ∷ es) = idles test es || closes test es
 closes test (suc i ∷ es) = closes test es
 
--- whether "no left side starts with it"
+-- whether "no left side starts with" f, a listed symbol
 unfoldable pub constructs : System → ℕ → Bool
 constructs s f = every (λ r. not (eqb (head (r .lhs)) f)) (s .rules)
 
--- whether the symbol f passes: either of the two
+-- whether the listed symbol f passes: either of the two. (The built-in symbols pass in every book: no test looks at them.)
 unfoldable pub passes : System → ℕ → Bool
 passes s f = constructs s f || closes (idleTest s f) (strategy s f)
 

@@ -2,8 +2,7 @@
 // contracts of `system`. The two operations here ask nothing of their caller; `rules` and `safety::test` are the inner interface for
 // the layers above, over a book that was scanned.
 ghost use mathlib.Core.Path.{_≡_};
-ghost use Rattle.system.specs.Book.{systemOf};
-ghost use Rattle.matching.specs.Bindings.{matchOf};
+ghost use Rattle.matching.specs.Bindings.{matchIn};
 ghost use Rattle.matching.specs.Safety.{Tells};
 ghost use Rattle.matching.specs.StrategyTest.{testAnswer};
 use system::Answer;
@@ -11,16 +10,22 @@ use system::limits::VARIABLES;
 use system::numbers::TAKEN;
 use system::reader::scan_book;
 
+mod operators;
 pub mod rules;
 pub mod safety;
 
-// The first rule that matches: its number, the index in the book of the first word of its right side, and how many words that has.
+// The first rule that matches. One that the book lists: its number, the index in the book of the first word of its right side, and how
+// many words that has. A built-in one: its number, and the word that it puts there.
 pub enum FirstRule {
     Nothing,
     First {
         number: usize,
         rhs: usize,
         size: usize,
+    },
+    Computed {
+        number: usize,
+        word: u16,
     },
 }
 
@@ -31,9 +36,9 @@ pub struct Match {
     pub lengths: [usize; VARIABLES],
 }
 
-// The first rule of the book that matches the subterm at the front of ws; nothing in a book that the reader refuses.
+// The first rule that matches the subterm at the front of ws, listed or built in; nothing over a book that the reader refuses.
 pub fn first_match(book: &[u16], ws: &[u16]) -> Match
-    ensures { λ r. ⌜ r ≡ matchOf (systemOf (now (book .entry))) (now (ws .entry)) ⌝ }
+    ensures { λ r. ⌜ r ≡ matchIn (now (book .entry)) (now (ws .entry)) ⌝ }
 {
     let s = scan_book(book);
     if s.answer.number != TAKEN {

@@ -1,14 +1,16 @@
 // The inner interface for the layers above: matching against an accepted book whose shape is known.
 ghost use mathlib.Core.Path.{_≡_};
-ghost use Prim.Native.Nat.{ℕ, _+_, _≤_};
-ghost use lib.ListN.{length, getD, take, drop};
+ghost use Prim.Native.Nat.{ℕ, _≤_};
+ghost use lib.ListN.{length, getD};
 ghost use Rattle.system.specs.Answers.{signatureOf};
 ghost use Rattle.system.specs.Book.{systemOf, Accepted};
 ghost use Rattle.matching.specs.Bindings.{consumed};
-ghost use Rattle.matching.specs.rules.Searches.{searchOf, RightSide, reductLength};
+ghost use Rattle.matching.specs.rules.Searches.{searchListed, searchOf, RightSide, reductLength};
 use crate::FirstRule;
 use crate::Match;
+use crate::operators::computed;
 use system::Shape;
+use system::built_ins::LITERAL;
 use system::layout::rules::rule_at;
 use system::limits::VARIABLE;
 use system::limits::VARIABLES;
@@ -37,11 +39,11 @@ fn consumed(book: &[u16], l: u16, ws: &[u16]) -> usize
     1
 }
 
-// The first rule that matches the subterm at the front of ws; what follows the subterm does not count. Most rules start with another
-// symbol: they are given up before the stretches are cleared.
-pub fn first_rule(book: &[u16], shape: Shape, ws: &[u16]) -> Search
+// The first listed rule that matches the subterm at the front of ws; what follows the subterm does not count. Most rules start with
+// another symbol: they are given up before the stretches are cleared.
+fn first_listed(book: &[u16], shape: Shape, ws: &[u16]) -> Search
     requires { ⌜ Accepted (now book) shape ⌝ }
-    ensures { λ r. ⌜ r ≡ searchOf (systemOf (now (book .entry))) (now (ws .entry)) ⌝ }
+    ensures { λ r. ⌜ r ≡ searchListed (systemOf (now (book .entry))) (now (ws .entry)) ⌝ }
 {
     let mut found = FirstRule::Nothing;
     let mut starts = [0usize; VARIABLES];
@@ -97,15 +99,30 @@ pub fn first_rule(book: &[u16], shape: Shape, ws: &[u16]) -> Search
     }
 }
 
+// The first rule that matches the subterm at the front of ws. Its first word tells which rules there may be: a listed left side starts
+// below the literals, a built-in one above them.
+pub fn first_rule(book: &[u16], shape: Shape, ws: &[u16]) -> Search
+    requires { ⌜ Accepted (now book) shape ⌝ }
+    ensures { λ r. ⌜ r ≡ searchOf (systemOf (now (book .entry))) (now (ws .entry)) ⌝ }
+{
+    if ws.len() == 0 {
+        return first_listed(book, shape, ws);
+    }
+    if LITERAL <= wide(ws[0]) {
+        return computed(ws);
+    }
+    first_listed(book, shape, ws)
+}
+
 // How many words the reduct has: the right side's, with the variables' terms of these lengths in their places.
-pub fn reduct_length(book: &[u16], rhs: usize, size: usize, lengths: [usize; VARIABLES]) -> usize
-    requires { ⌜ RightSide (now book) rhs size × ((v : ℕ) → getD lengths v 0 ≤ 65535) ⌝ }
-    ensures { λ r. ⌜ r ≡ reductLength lengths (take size (drop rhs (now (book .entry)))) ⌝ }
+pub fn reduct_length(side: &[u16], lengths: [usize; VARIABLES]) -> usize
+    requires { ⌜ RightSide (now side) × ((v : ℕ) → getD lengths v 0 ≤ 65535) ⌝ }
+    ensures { λ r. ⌜ r ≡ reductLength lengths (now (side .entry)) ⌝ }
 {
     let mut total = 0;
     let mut j = 0;
-    while j < size {
-        let w = wide(book[rhs + j]);
+    while j < side.len() {
+        let w = wide(side[j]);
         j += 1;
         if w < VARIABLE {
             total += 1;

@@ -1,5 +1,5 @@
 -- The built-in words: what is cited of the shut definitions of BuiltIns.antt.
-use Prim.Native.Nat.{ℕ, _≤_, _<_}
+use Prim.Native.Nat.{ℕ, _+_, _-_, _≤_, _<_}
 use native.Mathlib.Omega.{arith}
 use native.Mathlib.Decide.{decLt, ℕ-discrete}
 use mathlib.Core.Path.{_≡_, refl}
@@ -7,10 +7,10 @@ use mathlib.Core.Logic.{_⊎_, inl, inr}
 use mathlib.Core.Bool.{Bool, true, false, _&&_}
 use mathlib.Core.List.{[], _∷_}
 use lib.ListN.{length}
-use lib.Dec.{leb, eqb}
-use borrow.Author.Tests.{lt-ltb, le-ltb, le-leb, lt-leb, leb-true, eq-eqb, ne-eqb}
+use lib.Dec.{ltb, leb, eqb}
+use borrow.Author.Tests.{lt-ltb, le-ltb, ltb-true, le-leb, lt-leb, leb-true, eq-eqb, ne-eqb}
 use Rattle.system.specs.Limits.{maxEntries}
-use Rattle.system.specs.BuiltIns.{literal, maximum, minimum, isBuiltIn, isOperator, builtInArity, builtInStrategy, larger, smaller}
+use Rattle.system.specs.BuiltIns.{literal, literals, maximum, minimum, isLiteral, isBuiltIn, isOperator, builtInArity, builtInStrategy, larger, smaller}
 use Rattle.system.specs.Terms.{Member, first, later}
 
 both : (a b : Bool) → (a && b) ≡ true → (a ≡ true) × (b ≡ true)
@@ -39,13 +39,38 @@ pub above-builtin : (w : ℕ) → literal ≤ w → isBuiltIn w ≡ leb w minimu
 unfolding isBuiltIn
 above-builtin w h = rw (le-leb literal w h)
 
+-- ---- literals
+
+pub literal-is : (n : ℕ) → n < literals → isLiteral (literal + n) ≡ true
+unfolding isLiteral
+literal-is n h = rw (le-leb literal (literal + n) (omega arith), lt-ltb (literal + n) maximum (omega arith))
+
+pub is-literal : (w : ℕ) → isLiteral w ≡ true → (literal ≤ w) × (w < maximum)
+unfolding isLiteral
+is-literal w e = let c = both _ _ e in (leb-true literal w (c .0), ltb-true w maximum (c .1))
+
+pub below-literal : (w : ℕ) → w < literal → isLiteral w ≡ false
+unfolding isLiteral
+below-literal w h = rw (lt-leb literal w h)
+
+pub above-literal : (w : ℕ) → literal ≤ w → isLiteral w ≡ ltb w maximum
+unfolding isLiteral
+above-literal w h = rw (le-leb literal w h)
+
+-- the word of a literal, by its number
+pub number-of : (w : ℕ) → isLiteral w ≡ true → (w ≡ literal + (w - literal)) × (w - literal < literals)
+number-of w e = let c = is-literal w e in (omega arith, omega arith)
+
 -- ---- operators, and all other words
 
-pub operator-cases : (w : ℕ) → ((w ≡ maximum) ⊎ (w ≡ minimum)) ⊎ (isOperator w ≡ false)
+pub unequal-plain : (w : ℕ) → (w ≡ maximum → ⊥) → (w ≡ minimum → ⊥) → isOperator w ≡ false
 unfolding isOperator
+unequal-plain w a b = rw (ne-eqb w maximum a, ne-eqb w minimum b)
+
+pub operator-cases : (w : ℕ) → ((w ≡ maximum) ⊎ (w ≡ minimum)) ⊎ (isOperator w ≡ false)
 operator-cases w = elim (ℕ-discrete w maximum) [
   | yes e ↦ inl (inl e)
-  | no a ↦ elim (ℕ-discrete w minimum) [ yes e ↦ inl (inr e) | no b ↦ inr (rw (ne-eqb w maximum a, ne-eqb w minimum b)) ]
+  | no a ↦ elim (ℕ-discrete w minimum) [ yes e ↦ inl (inr e) | no b ↦ inr (unequal-plain w a b) ]
 ]
 
 pub operator-maximum : (w : ℕ) → w ≡ maximum → isOperator w ≡ true
@@ -57,12 +82,10 @@ unfolding isOperator
 operator-minimum w n = rw (ne-eqb w maximum n)
 
 pub literal-operator : (w : ℕ) → w < maximum → isOperator w ≡ false
-unfolding isOperator
-literal-operator w h = rw (ne-eqb w maximum (λ e. omega arith), ne-eqb w minimum (λ e. omega arith))
+literal-operator w h = unequal-plain w (λ e. omega arith) (λ e. omega arith)
 
 pub beyond-operator : (w : ℕ) → minimum < w → isOperator w ≡ false
-unfolding isOperator
-beyond-operator w h = rw (ne-eqb w maximum (λ e. omega arith), ne-eqb w minimum (λ e. omega arith))
+beyond-operator w h = unequal-plain w (λ e. omega arith) (λ e. omega arith)
 
 pub maximum-operator : isOperator maximum ≡ true
 unfolding isOperator
@@ -112,7 +135,38 @@ module _ (w : ℕ) where
       go true e = rw (operator-arity e, operator-strategy e) (omega arith, binary)
       go false e = rw (plain-arity e, plain-strategy e) (omega arith, empty)
 
--- ---- "the larger or smaller level" is a level again
+-- ---- "the larger or smaller level": that of the words, too, and a level again
+
+pub larger-words : (c m n : ℕ) → c ≤ m → c ≤ n → larger m n ≡ c + larger (m - c) (n - c)
+unfolding larger
+larger-words c m n a b = elim (decLt m n) [
+  | yes l ↦ rw (lt-ltb m n l, lt-ltb (m - c) (n - c) (omega arith)) (omega arith)
+  | no l ↦ rw (le-ltb m n (omega arith), le-ltb (m - c) (n - c) (omega arith)) (omega arith)
+]
+
+pub smaller-words : (c m n : ℕ) → c ≤ m → c ≤ n → smaller m n ≡ c + smaller (m - c) (n - c)
+unfolding smaller
+smaller-words c m n a b = elim (decLt m n) [
+  | yes l ↦ rw (lt-ltb m n l, lt-ltb (m - c) (n - c) (omega arith)) (omega arith)
+  | no l ↦ rw (le-ltb m n (omega arith), le-ltb (m - c) (n - c) (omega arith)) (omega arith)
+]
+
+pub larger-second : (m n : ℕ) → m < n → larger m n ≡ n
+unfolding larger
+larger-second m n h = rw (lt-ltb m n h)
+
+pub larger-first : (m n : ℕ) → n ≤ m → larger m n ≡ m
+unfolding larger
+larger-first m n h = rw (le-ltb m n h)
+
+pub smaller-first : (m n : ℕ) → m < n → smaller m n ≡ m
+unfolding smaller
+smaller-first m n h = rw (lt-ltb m n h)
+
+pub smaller-second : (m n : ℕ) → n ≤ m → smaller m n ≡ n
+unfolding smaller
+smaller-second m n h = rw (le-ltb m n h)
+
 
 pub larger-below : (m n c : ℕ) → m < c → n < c → larger m n < c
 unfolding larger

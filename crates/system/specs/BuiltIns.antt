@@ -18,6 +18,9 @@ maximum = 16640
 abbrev pub minimum : ℕ
 minimum = 16641
 
+unfoldable pub isLiteral : ℕ → Bool
+isLiteral w = leb literal w && ltb w maximum
+
 -- a literal, or one of the two operators behind the literals
 unfoldable pub isBuiltIn : ℕ → Bool
 isBuiltIn w = leb literal w && leb w minimum

@@ -1,7 +1,7 @@
 // The built-in words, as specs/BuiltIns.antt names them.
 ghost use mathlib.Core.Path.{_≡_};
 ghost use Prim.Native.Nat.{_≤_};
-ghost use Rattle.system.specs.BuiltIns.{isBuiltIn, isOperator, builtInArity};
+ghost use Rattle.system.specs.BuiltIns.{isLiteral, isBuiltIn, isOperator, builtInArity, larger, smaller};
 
 // Where the literals start, and the operators behind them.
 pub const LITERAL: usize = 16384;
@@ -9,6 +9,21 @@ pub const LITERAL: usize = 16384;
 pub const MAXIMUM: usize = 16640;
 
 pub const MINIMUM: usize = 16641;
+
+// The numbers of their rules.
+pub const MAXIMUM_RULE: usize = 128;
+
+pub const MINIMUM_RULE: usize = 129;
+
+pub fn is_literal(w: u16) -> bool
+    ensures { λ r. ⌜ r ≡ isLiteral w ⌝ }
+{
+    let x = w as usize;
+    if x < LITERAL {
+        return false;
+    }
+    x < MAXIMUM
+}
 
 // Whether w is a literal or an operator.
 pub fn is_built_in(w: u16) -> bool
@@ -39,4 +54,23 @@ pub fn built_in_arity(w: u16) -> usize
         return 2;
     }
     0
+}
+
+// The larger and the smaller of two words.
+pub fn larger(m: u16, n: u16) -> u16
+    ensures { λ r. ⌜ r ≡ larger m n ⌝ }
+{
+    if m < n {
+        return n;
+    }
+    m
+}
+
+pub fn smaller(m: u16, n: u16) -> u16
+    ensures { λ r. ⌜ r ≡ smaller m n ⌝ }
+{
+    if m < n {
+        return m;
+    }
+    n
 }

@@ -2,7 +2,7 @@
 use mathlib.Core.Path.{ap, _∙_}
 use Rattle.system.proofs.layout.Accepting.{scan-accepted}
 use Rattle.matching.specs.Bindings.{noBindings}
-use Rattle.matching.proofs.rules.Searches.{refused-nothing}
+use Rattle.matching.proofs.Sources.{scan-refuses, scan-matches}
 use Rattle.matching.proofs.rules.Widths.{search-match}
 use borrow.Author.Needs.{needs}
 use Rattle.matching.proofs.first_match.Statement.{statement}
@@ -13,13 +13,15 @@ scan-book-requires c κs = search needs
 
 returns : tie.Need-returns
 unfolding noBindings
-returns c = let x = c .before .before .scan-book in refused-nothing _ (x .result) (x .ensures) (c .if1 .taken) _
+returns c = let x = c .before .before .scan-book in scan-refuses _ (x .result) (x .ensures) (c .if1 .taken) _
 
 first-rule-requires : tie.Need-first-rule-requires
 first-rule-requires c κs = let x = c .before .before .scan-book in scan-accepted _ (x .result) (x .ensures) (c .if1 .left)
 
 returns-2 : tie.Need-returns-2
-returns-2 c = ap (λ y. y .matched) (c .before .first-rule .ensures) ∙ search-match _ _
+returns-2 c =
+    let x = c .before .before .before .before .scan-book in
+    ap (λ y. y .matched) (c .before .first-rule .ensures) ∙ search-match _ _ ∙ scan-matches _ (x .result) (x .ensures) (c .before .before .if1 .left) _
 
 pub first-match-spec : {M : Type 1} → statement M
 first-match-spec = tie.close (tie.spec scan-book-requires returns first-rule-requires returns-2)

@@ -6,22 +6,18 @@ use mathlib.Core.Option.{none, some}
 use mathlib.Core.List.{List, []}
 use lib.ListN.{length, getD, take, drop, set, length-set, length-drop}
 use Rattle.system.specs.declared.Shape.{Shape}
-use Rattle.system.specs.declared.reader.Scan.{Scan}
 use Rattle.system.specs.Limits.{variable}
 use Rattle.system.specs.System.{Rule, rule}
-use Rattle.system.specs.Parser.{read}
 use Rattle.system.specs.Answers.{signatureOf}
-use Rattle.system.specs.reader.Sections.{scanOf}
 use Rattle.matching.specs.declared.FirstRule.{FirstRule}
 use Rattle.matching.specs.declared.FirstRule.the-variants.{Nothing, First}
 use Rattle.system.specs.declared.layout.rules.RuleSpan.{RuleSpan}
 use Rattle.system.specs.Book.{systemOf, Accepted}
-use Rattle.matching.specs.Bindings.{Bindings, noBindings, consumed, withBinding, bindings, noMatch, matchFrom, matchOf}
-use Rattle.matching.specs.rules.Searches.{lhsEnd, searchWidth, searchOf}
-use Rattle.system.proofs.layout.Accepting.{scan-empty}
+use Rattle.matching.specs.Bindings.{Bindings, noBindings, consumed, withBinding, bindings, noMatch, matchFrom, matchListed}
+use Rattle.matching.specs.rules.Searches.{lhsEnd, searchWidth, searchListed}
 use Rattle.system.proofs.layout.Books.{Rest, Here, Turn, signature, rule-count, first-index, first-rest}
-use Rattle.matching.proofs.rules.MatchSteps.{from-nil, tail, withBinding-symbol, withBinding-variable, words-end, words-stop, words-next, rules-end, rules-next, rules-here}
-use Rattle.matching.proofs.rules.Widths.{is-search, lhsEnd-done, lhsEnd-next}
+use Rattle.matching.proofs.rules.MatchSteps.{tail, withBinding-symbol, withBinding-variable, words-end, words-stop, words-next, rules-end, rules-next, rules-here}
+use Rattle.matching.proofs.rules.Widths.{is-listed, lhsEnd-done, lhsEnd-next}
 
 -- no rule before number k matched
 pub record Searched (b : List ℕ) (sh : Shape) (ws : List ℕ) (found : FirstRule) (starts lengths : List ℕ) (end k at : ℕ) : Type 0 where
@@ -31,7 +27,7 @@ pub record Searched (b : List ℕ) (sh : Shape) (ws : List ℕ) (found : FirstRu
   pub no-lengths : lengths ≡ noBindings .lengths
   pub no-end : end ≡ 0
   pub rest : Rest b k at
-  pub goes : matchFrom (signatureOf b) (drop k (systemOf b .rules)) k at ws ≡ matchOf (systemOf b) ws
+  pub goes : matchFrom (signatureOf b) (drop k (systemOf b .rules)) k at ws ≡ matchListed (systemOf b) ws
 
 -- the first j words of the left side of rule k have taken the first q words
 pub record Walked (b ws : List ℕ) (k width j q : ℕ) (starts lengths : List ℕ) : Type 0 where
@@ -43,23 +39,18 @@ pub record Walked (b ws : List ℕ) (k width j q : ℕ) (starts lengths : List �
       bindings (signatureOf b) (rule (systemOf b) k .lhs) ws 0 noBindings
   pub ending : lhsEnd (signatureOf b) (drop j (rule (systemOf b) k .lhs)) (drop q ws) q ≡ lhsEnd (signatureOf b) (rule (systemOf b) k .lhs) ws 0
 
--- no rule of a refused book matches
-pub refused-nothing : (b : List ℕ) (s : Scan) → s ≡ scanOf (read b) → (s .answer .number ≡ 0 → ⊥) → (ws : List ℕ) → noMatch ≡ matchOf (systemOf b) ws
-unfolding matchOf
-refused-nothing b s is bad ws = rw (scan-empty b s is bad) (sym (from-nil [] 0 _ ws))
-
 module _ {b : List ℕ} {sh : Shape} (acc : Accepted b sh) where
   -- the search starts at the first rule
-  pub match-start : (ws : List ℕ) → matchFrom (signatureOf b) (drop 0 (systemOf b .rules)) 0 (sh .«first_rule») ws ≡ matchOf (systemOf b) ws
-  unfolding matchOf
+  pub match-start : (ws : List ℕ) → matchFrom (signatureOf b) (drop 0 (systemOf b .rules)) 0 (sh .«first_rule») ws ≡ matchListed (systemOf b) ws
+  unfolding matchListed
   match-start ws = rw (first-index b sh acc, ← signature b sh acc)
 
   pub search-starts : (ws : List ℕ) → Searched b sh ws Nothing (noBindings .starts) (noBindings .lengths) 0 0 (sh .«first_rule»)
   search-starts ws = record { inside = omega arith; none-found = refl; no-starts = refl; no-lengths = refl; no-end = refl; rest = first-rest b sh acc; goes = match-start ws }
 
   pub search-ends : {ws : List ℕ} {found : FirstRule} {starts lengths : List ℕ} {end k at : ℕ} → Searched b sh ws found starts lengths end k at → sh .rules ≤ k →
-      record { matched = record { rule = found; starts = starts; lengths = lengths }; width = end } ≡ searchOf (systemOf b) ws
-  search-ends {ws} {k} {at} so h = is-search (systemOf b) ws _ _
+      record { matched = record { rule = found; starts = starts; lengths = lengths }; width = end } ≡ searchListed (systemOf b) ws
+  search-ends {ws} {k} {at} so h = is-listed (systemOf b) ws _ _
       (rw (so .none-found, so .no-starts, so .no-lengths)
       (sym (rules-end (signatureOf b) (systemOf b .rules) k at ws (omega (arith, rule-count b sh acc))) ∙ so .goes))
       (so .no-end ∙ ap (searchWidth (systemOf b) ws) (sym (so .none-found)))
@@ -99,8 +90,8 @@ module _ {b : List ℕ} {sh : Shape} {k at : ℕ} {p : RuleSpan} (t : Turn b sh 
 
       -- all words of the left side are matched
       pub matches-here : p .width ≤ j →
-          record { matched = record { rule = First k (p .rhs) (p .size); starts = s; lengths = l }; width = q } ≡ searchOf (systemOf b) ws
-      matches-here e = is-search (systemOf b) ws _ _
+          record { matched = record { rule = First k (p .rhs) (p .size); starts = s; lengths = l }; width = q } ≡ searchListed (systemOf b) ws
+      matches-here e = is-listed (systemOf b) ws _ _
           (rw (h .right, h .size)
           (sym (rules-here (signatureOf b) (systemOf b .rules) k at ws (t .more) x
           (sym (wo .goes) ∙ words-end (signatureOf b) (r .lhs) ws j q x (omega (arith, h .width)))) ∙ so .goes))

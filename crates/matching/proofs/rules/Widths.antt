@@ -5,7 +5,7 @@ use native.Mathlib.Numerals.{add-one}
 use native.Mathlib.Decide.{ℕ-discrete}
 use mathlib.Core.Path.{_≡_, refl, sym, ap, _∙_}
 use mathlib.Core.Logic.{inl, inr}
-use mathlib.Core.Option.{some}
+use mathlib.Core.Option.{none, some}
 use mathlib.Core.List.{List, [], _∷_, _++_, append-assoc}
 use lib.ListN.{length, getD, drop, drop-of-length-le, length-append}
 use lib.Seq.{drop-cons, drop-drop, drop-append-seam}
@@ -15,11 +15,11 @@ use Rattle.system.specs.System.{System, rule}
 use Rattle.system.specs.Terms.{Forest, empty, more, Word, Whole}
 use Rattle.system.proofs.Signatures.{arity-variable, symbol-below}
 use Rattle.system.proofs.Forests.{span-forest, split, Split}
-use Rattle.matching.specs.Matching.{bind}
+use Rattle.matching.specs.Matching.{bind, computed}
 use Rattle.matching.specs.declared.Match.{Match}
-use Rattle.matching.specs.declared.FirstRule.the-variants.{First}
-use Rattle.matching.specs.Bindings.{consumed, matchOf}
-use Rattle.matching.specs.rules.Searches.{lhsEnd, searchWidth, searchOf}
+use Rattle.matching.specs.declared.FirstRule.the-variants.{First, Computed}
+use Rattle.matching.specs.Bindings.{noBindings, consumed, noMatch, matchListed, matchComputed, matchOf}
+use Rattle.matching.specs.rules.Searches.{lhsEnd, searchWidth, searchListed, searchComputed, searchOf}
 use Rattle.matching.proofs.Matched.{bind-symbol, bind-differ, bind-variable}
 use Rattle.matching.proofs.rules.MatchSteps.{consumed-variable, consumed-same}
 
@@ -34,9 +34,36 @@ module _ (s : System) (ws : List ℕ) where
   unfolding searchOf
   search-width k rhs size e = ap (searchWidth s ws) e
 
-  pub is-search : (m : Match) (n : ℕ) → m ≡ matchOf s ws → n ≡ searchWidth s ws (m .rule) → record { matched = m; width = n } ≡ searchOf s ws
+  pub search-three : (k w : ℕ) → matchOf s ws .rule ≡ Computed k w → searchOf s ws .width ≡ 3
   unfolding searchOf
-  is-search m n e q = λ i. record { matched = e i; width = (q ∙ ap (λ y. searchWidth s ws (y .rule)) e) i }
+  search-three k w e = ap (searchWidth s ws) e
+
+  pub is-listed : (m : Match) (n : ℕ) → m ≡ matchListed s ws → n ≡ searchWidth s ws (m .rule) → record { matched = m; width = n } ≡ searchListed s ws
+  unfolding searchListed
+  is-listed m n e q = λ i. record { matched = e i; width = (q ∙ ap (λ y. searchWidth s ws (y .rule)) e) i }
+
+  pub is-computed : (m : Match) (n : ℕ) → m ≡ matchComputed ws → n ≡ searchWidth s ws (m .rule) → record { matched = m; width = n } ≡ searchComputed s ws
+  unfolding searchComputed
+  is-computed m n e q = λ i. record { matched = e i; width = (q ∙ ap (λ y. searchWidth s ws (y .rule)) e) i }
+
+  -- nothing is computed, or the word that an operator puts in the place of three
+  pub is-nothing : computed ws ≡ none → record { matched = noMatch; width = 0 } ≡ searchComputed s ws
+  unfolding matchComputed
+  is-nothing e = is-computed noMatch 0 (rw e) refl
+
+  pub is-put : (k w : ℕ) → computed ws ≡ some (record { number = k; word = w }) →
+      record { matched = record { rule = Computed k w; starts = noBindings .starts; lengths = noBindings .lengths }; width = 3 } ≡ searchComputed s ws
+  unfolding matchComputed
+  is-put k w e = is-computed _ 3 (rw e) refl
+
+  -- the whole search is one of the two
+  pub listed-search : matchListed s ws ≡ matchOf s ws → searchListed s ws ≡ searchOf s ws
+  unfolding searchListed searchOf
+  listed-search e = λ i. record { matched = e i; width = searchWidth s ws (e i .rule) }
+
+  pub computed-search : matchComputed ws ≡ matchOf s ws → searchComputed s ws ≡ searchOf s ws
+  unfolding searchComputed searchOf
+  computed-search e = λ i. record { matched = e i; width = searchWidth s ws (e i .rule) }
 
 -- ---- where a left side ends
 

@@ -12,23 +12,34 @@ use Rattle.system.specs.System.{System, rule, instance}
 use Rattle.matching.specs.declared.Match.{Match}
 use Rattle.matching.specs.declared.rules.Search.{Search}
 use Rattle.matching.specs.declared.FirstRule.{FirstRule}
-use Rattle.matching.specs.declared.FirstRule.the-variants.{Nothing, First}
+use Rattle.matching.specs.declared.FirstRule.the-variants.{Nothing, First, Computed}
 use Rattle.matching.specs.Matching.{Contraction}
-use Rattle.matching.specs.Bindings.{value, bindingsOf, Bindings, consumed, matchOf}
+use Rattle.matching.specs.Bindings.{value, bindingsOf, Bindings, consumed, matchListed, matchComputed, matchOf}
 
 -- where a left side ends among the words, of which the first q come before ws
 unfoldable pub lhsEnd : Signature → List ℕ → List ℕ → ℕ → ℕ
 lhsEnd g [] ws q = q
 lhsEnd g (l ∷ ls) ws q = lhsEnd g ls (drop (consumed g l ws) ws) (q + consumed g l ws)
 
--- where the left side of the rule that was found ends among the words ws; 0 where none matches
+-- where the left side of the rule that was found ends among the words ws (a built-in one has three words); 0 where none matches
 abbrev pub searchWidth : System → List ℕ → FirstRule → ℕ
 searchWidth s ws Nothing = 0
 searchWidth s ws (First k rhs size) = lhsEnd (s .arities) (rule s k .lhs) ws 0
+searchWidth s ws (Computed k w) = 3
 
--- the match, and how many words the left side takes: what the layers above are handed
+-- a match, and how many words the left side takes: what the layers above are handed
+abbrev pub searchFor : System → List ℕ → Match → Search
+searchFor s ws m = record { matched = m; width = searchWidth s ws (m .rule) }
+
+-- among the listed rules, among the built-in ones, and among all
+unfoldable pub searchListed : System → List ℕ → Search
+searchListed s ws = searchFor s ws (matchListed s ws)
+
+unfoldable pub searchComputed : System → List ℕ → Search
+searchComputed s ws = searchFor s ws (matchComputed ws)
+
 unfoldable pub searchOf : System → List ℕ → Search
-searchOf s ws = record { matched = matchOf s ws; width = searchWidth s ws (matchOf s ws .rule) }
+searchOf s ws = searchFor s ws (matchOf s ws)
 
 -- ---- the reduct
 
@@ -38,6 +49,7 @@ contractionOf book ws m =
     elim (m .rule) [
       | Nothing ↦ none
       | First k rhs size ↦ some (record { number = k; reduct = instance (value ws (bindingsOf m)) (take size (drop rhs book)) })
+      | Computed k w ↦ some (record { number = k; reduct = w ∷ [] })
     ]
 
 -- how many words the instance of a side has, where the variables' terms have these lengths
@@ -45,12 +57,16 @@ unfoldable pub reductLength : List ℕ → List ℕ → ℕ
 reductLength lengths [] = 0
 reductLength lengths (w ∷ ws) = cond (ltb w variable) 1 (getD lengths (w - variable) 0) + reductLength lengths ws
 
--- a right side that stands in the book: its words are symbols and variables of number 0 to 15
-pub record RightSide (book : List ℕ) (rhs size : ℕ) : Type 0 where
+-- a right side: its words are symbols and variables of number 0 to 15
+pub record RightSide (side : List ℕ) : Type 0 where
+  pub some : 1 ≤ length side
+  pub small : length side ≤ sideWords
+  pub known : (j : ℕ) → j < length side → getD side j 0 < variable + variables
+
+-- one that stands in the book
+pub record RightSideAt (book : List ℕ) (rhs size : ℕ) : Type 0 where
   pub fits : rhs + size ≤ length book
-  pub some : 1 ≤ size
-  pub small : size ≤ sideWords
-  pub known : (j : ℕ) → j < size → getD book (rhs + j) 0 < variable + variables
+  pub right : RightSide (take size (drop rhs book))
 
 -- the stretches lie in ws
 pub record Within (ws starts lengths : List ℕ) : Type 0 where

@@ -1,0 +1,71 @@
+// The built-in rules: three words tell whether one matches, and no rule of the book is looked at.
+ghost use mathlib.Core.Path.{_≡_};
+ghost use Rattle.system.specs.System.{System};
+ghost use Rattle.matching.specs.declared.FirstRule.the-variants.{Computed};
+ghost use Rattle.matching.specs.Bindings.{noBindings, noMatch};
+ghost use Rattle.matching.specs.rules.Searches.{searchComputed};
+use crate::FirstRule;
+use crate::Match;
+use crate::rules::Search;
+use system::built_ins::MAXIMUM;
+use system::built_ins::MAXIMUM_RULE;
+use system::built_ins::MINIMUM;
+use system::built_ins::MINIMUM_RULE;
+use system::built_ins::is_literal;
+use system::built_ins::larger;
+use system::built_ins::smaller;
+use system::limits::VARIABLES;
+use system::words::wide;
+
+fn nothing() -> Search
+    ensures { λ r. ⌜ r ≡ record { matched = noMatch; width = 0 } ⌝ }
+{
+    Search {
+        matched: Match {
+            rule: FirstRule::Nothing,
+            starts: [0; VARIABLES],
+            lengths: [0; VARIABLES],
+        },
+        width: 0,
+    }
+}
+
+// A built-in rule that matches, in the place of three words.
+fn puts(number: usize, word: u16) -> Search
+    ensures { λ r. ⌜ r ≡ record {
+        matched = record { rule = Computed number word; starts = noBindings .starts; lengths = noBindings .lengths }; width = 3 } ⌝ }
+{
+    Search {
+        matched: Match {
+            rule: FirstRule::Computed { number, word },
+            starts: [0; VARIABLES],
+            lengths: [0; VARIABLES],
+        },
+        width: 3,
+    }
+}
+
+// The built-in rule that matches the subterm at the front of ws, whatever the system.
+pub fn computed(ws: &[u16]) -> Search
+    ensures { λ r. ⌜ ((s : System) → r ≡ searchComputed s (now (ws .entry))) ⌝ }
+{
+    if ws.len() < 3 {
+        return nothing();
+    }
+    let m = ws[1];
+    let n = ws[2];
+    if !is_literal(m) {
+        return nothing();
+    }
+    if !is_literal(n) {
+        return nothing();
+    }
+    let f = wide(ws[0]);
+    if f == MAXIMUM {
+        return puts(MAXIMUM_RULE, larger(m, n));
+    }
+    if f == MINIMUM {
+        return puts(MINIMUM_RULE, smaller(m, n));
+    }
+    nothing()
+}
