@@ -63,6 +63,7 @@ module _ (s : System) where
           at = length a;
           number = x .number;
           within = whole-within a b h;
+          chosen = f .chosen;
           known = f .known;
           active = act;
           match = f .match;

@@ -144,7 +144,7 @@ module _ (s : System) where
         go : (v : List ℕ) → Whole g v → Inert s levels v → Stable s v
         go v h c = record {
           whole = h;
-          normal = λ p act k m x. let y = active-at s wf (λ u. (l : ℕ) × Inert s l u) inert-inherited h (levels, c) act in
-              unfired s wf (y .whole) (y .before) (y .behind) (inert-contraction (y .has .0) (y .whole) (y .has .1)) k m (rw (← y .equal, ← y .position) x);
+          normal = λ p act k o m x. let y = active-at s wf (λ u. (l : ℕ) × Inert s l u) inert-inherited h (levels, c) act in
+              unfired s wf (y .whole) (y .before) (y .behind) (inert-contraction (y .has .0) (y .whole) (y .has .1)) k o m (rw (← y .equal, ← y .position) x);
           again = λ limit. rw (append-nil v) at (inert-rests s wf limit levels [] [] v 0 h c);
         }

@@ -1,9 +1,9 @@
 -- What demand 3 asks of an evaluation that ends within its limits.
-use Prim.Native.Nat.{ℕ, _≤_, _<_}
+use Prim.Native.Nat.{ℕ, _≤_}
 use mathlib.Core.Path.{_≡_}
 use mathlib.Core.List.{List}
-use lib.ListN.{length}
-use Rattle.system.specs.System.{System, rule}
+use Rattle.system.specs.System.{System, Rule}
+use Rattle.system.specs.Rules.{RuleOf}
 use Rattle.system.specs.Terms.{Whole}
 use Rattle.matching.specs.Matching.{Matches}
 use Rattle.rewriting.specs.Evaluation.{finished, evaluation}
@@ -21,7 +21,7 @@ pub record Done (s : System) (limit : ℕ) (t₀ t : List ℕ) (n : ℕ) : Type 
 
 -- no rule matches at an active position of t
 abbrev pub Normal : System → List ℕ → Type 0
-Normal s t = (p : ℕ) → Active s t p → (k : ℕ) → k < length (s .rules) → Matches (s .arities) t p (rule s k) → ⊥
+Normal s t = (p : ℕ) → Active s t p → (k : ℕ) (r : Rule) → RuleOf s k r → Matches (s .arities) t p r → ⊥
 
 -- "Found", where the system is safe ("A book passed if the order test answers 0"): t is whole, no rule matches at an active position of
 -- it, and evaluating it again takes no step and changes nothing

@@ -5,7 +5,8 @@ use mathlib.Core.Path.{_≡_}
 use mathlib.Core.List.{List}
 use lib.ListN.{length, getD}
 use Rattle.system.specs.Signature.{argument, replace}
-use Rattle.system.specs.System.{System, instance, strategy, rule}
+use Rattle.system.specs.System.{System, Rule, instance, strategy}
+use Rattle.system.specs.Rules.{RuleOf}
 use Rattle.system.specs.Terms.{Whole, Member}
 use Rattle.matching.specs.Matching.{Matches}
 
@@ -16,17 +17,18 @@ pub data Active (s : System) (t : List ℕ) : ℕ → Type 0 where
 
 -- one step from t to t′
 pub record Step (s : System) (t t′ : List ℕ) : Type 0 where
-  -- "A place in a cue is the index of one of its words", here an active one; a rule, by its number
+  -- "A place in a cue is the index of one of its words", here an active one; a rule and its number
   pub at : ℕ
   pub number : ℕ
+  pub chosen : Rule
   pub within : at < length t
-  pub known : number < length (s .rules)
+  pub known : RuleOf s number chosen
   pub active : Active s t at
   -- "The first rule that fits is the lowest-numbered"
-  pub match : Matches (s .arities) t at (rule s number)
-  pub lowest : (k : ℕ) → k < number → Matches (s .arities) t at (rule s k) → ⊥
+  pub match : Matches (s .arities) t at chosen
+  pub lowest : (k : ℕ) (r : Rule) → RuleOf s k r → k < number → Matches (s .arities) t at r → ⊥
   -- "A step with it puts the same filling's instance of its right side for that part, keeps all other words, and leaves a whole cue"
-  pub next : t′ ≡ replace (s .arities) t at (instance (match .σ) (rule s number .rhs))
+  pub next : t′ ≡ replace (s .arities) t at (instance (match .σ) (chosen .rhs))
   pub left : Whole (s .arities) t′
 
 -- `Steps s size n t t′`: a list of exactly n steps that leads from t to t′, in which no term has more than `size` words
