@@ -2,4 +2,5 @@
 pub mod Bindings
 pub mod Writing
 pub mod Replacing
+pub mod Putting
 pub mod Rewrites

@@ -5,7 +5,7 @@ ghost use lib.ListN.{length, drop};
 ghost use Rattle.buffers.specs.moves.Parts.{part};
 ghost use Rattle.buffers.specs.Words.{over, zeros};
 ghost use Rattle.machine.specs.reducts.Reduct.{Writable, reduct};
-ghost use Rattle.machine.specs.reducts.Replaced.{Replaceable, Replaced};
+ghost use Rattle.machine.specs.reducts.Replaced.{Replaceable, Replaced, Puttable, Put};
 ghost use Rattle.machine.specs.reducts.Rewritten.{Reducible, Rewrites};
 use buffers::clear;
 use buffers::move_words;
@@ -24,11 +24,8 @@ pub struct Subterm {
     pub width: usize,
 }
 
-// What comes in the place of a redex: the right side of the rule that matches, as an index of the book and a number of words, and the
-// bindings of its variables, as stretches of the redex.
-struct Instance {
-    rhs: usize,
-    size: usize,
+// What the variables of a right side stand for: stretches of the redex, by the first word and the number of words of each.
+struct Stretches {
     starts: [usize; VARIABLES],
     lengths: [usize; VARIABLES],
 }
@@ -59,19 +56,18 @@ fn clear_between(area: &mut [u16], a: usize, b: usize)
     }
 }
 
-// Writes the reduct of c over the area from `at` on, each variable filled with its stretch of the words from `base` on.
-fn write_reduct(book: &[u16], area: &mut [u16], c: Instance, at: usize, base: usize)
-    requires { ⌜ Writable (now book) (now area) c at base ⌝ }
-    ensures { λ _. ⌜ now (area .exit) ≡ over (now (area .entry)) at (reduct (now (book .entry)) c (drop base (now (area .entry)))) ⌝ }
+// Writes the reduct over the area from `at` on: the words of the right side, each variable filled with its stretch of the words from
+// `base` on.
+fn write_reduct(side: &[u16], area: &mut [u16], c: Stretches, at: usize, base: usize)
+    requires { ⌜ Writable (now side) (now area) c at base ⌝ }
+    ensures { λ _. ⌜ now (area .exit) ≡ over (now (area .entry)) at (reduct (now (side .entry)) c (drop base (now (area .entry)))) ⌝ }
 {
-    let rhs = c.rhs;
-    let size = c.size;
     let starts = c.starts;
     let lengths = c.lengths;
     let mut to = at;
     let mut j = 0;
-    while j < size {
-        let w = book[rhs + j];
+    while j < side.len() {
+        let w = side[j];
         let v = wide(w);
         j += 1;
         if v < VARIABLE {
@@ -85,14 +81,14 @@ fn write_reduct(book: &[u16], area: &mut [u16], c: Instance, at: usize, base: us
     }
 }
 
-// Puts the reduct of c, of k words, in the place of the subterm u of a term of n words.
+// Puts the reduct, of k words, in the place of the subterm u of a term of n words.
 //
 // While it is written the subterm's words, but for its first, stand behind the counts: at `level` levels around the innermost one the term
 // has at least as many words before the subterm, so there is always room. Then they are cleared again, and with them the count of the
 // innermost level, which so starts anew.
-fn replace_subterm(book: &[u16], area: &mut [u16], n: usize, u: Subterm, c: Instance, k: usize)
-    requires { ⌜ Replaceable (now book) (now area) n u c k ⌝ }
-    ensures { λ _. ⌜ Replaced (now (book .entry)) (now (area .entry)) n u c (now (area .exit)) ⌝ }
+fn replace_subterm(side: &[u16], area: &mut [u16], n: usize, u: Subterm, c: Stretches, k: usize)
+    requires { ⌜ Replaceable (now side) (now area) n u c k ⌝ }
+    ensures { λ _. ⌜ Replaced (now (side .entry)) (now (area .entry)) n u c (now (area .exit)) ⌝ }
 {
     let p = u.at;
     let width = u.width;
@@ -100,17 +96,36 @@ fn replace_subterm(book: &[u16], area: &mut [u16], n: usize, u: Subterm, c: Inst
     let end = p + width;
     move_words(area, p + 1, base + 1, width - 1);
     move_tail(area, end, p + k, n - end);
-    write_reduct(book, area, c, p, base);
+    write_reduct(side, area, c, p, base);
     clear_between(area, n - width + k, n);
     clear(area, base, width);
 }
 
-// Puts the reduct of the match m in the place of the subterm u of a term of n words, and starts the innermost level anew. The area is
-// unchanged where the term would be too long.
+// Puts the reduct of a right side in the place of the subterm u of a term of n words. The area is unchanged where the term would be too long.
+fn put_reduct(side: &[u16], area: &mut [u16], n: usize, u: Subterm, c: Stretches) -> Reduced
+    requires { ⌜ Puttable (now side) (now area) n u c ⌝ }
+    ensures { λ r. ⌜ Put (now (side .entry)) (now (area .entry)) n u c r (now (area .exit)) ⌝ }
+{
+    let lengths = c.lengths;
+    let k = reduct_length(side, lengths);
+    let after = n - u.width + k;
+    if TERM_WORDS < after {
+        return Reduced::TooLong;
+    }
+    replace_subterm(side, area, n, u, c, k);
+    Reduced::Done(after)
+}
+
+// Puts the reduct of the match m in the place of the subterm u of a term of n words, and starts the innermost level anew: the right side of
+// a listed rule stands in the book, that of a built-in one is the word that it puts there. The area is unchanged where the term would be too
+// long.
 pub fn rewrite(book: &[u16], area: &mut [u16], n: usize, u: Subterm, m: Match) -> Reduced
     requires { ⌜ Reducible (now book) (now area) n u m ⌝ }
     ensures { λ r. ⌜ Rewrites (now (book .entry)) (now (area .entry)) n u r (now (area .exit)) ⌝ }
 {
+    let starts = m.starts;
+    let lengths = m.lengths;
+    let c = Stretches { starts, lengths };
     let found = m.rule;
     match found {
         // It never is: the caller found a rule.
@@ -122,21 +137,12 @@ pub fn rewrite(book: &[u16], area: &mut [u16], n: usize, u: Subterm, m: Match) -
             rhs,
             size,
         } => {
-            let starts = m.starts;
-            let lengths = m.lengths;
-            let k = reduct_length(book, rhs, size, lengths);
-            let after = n - u.width + k;
-            if TERM_WORDS < after {
-                return Reduced::TooLong;
-            }
-            let c = Instance {
-                rhs,
-                size,
-                starts,
-                lengths,
-            };
-            replace_subterm(book, area, n, u, c, k);
-            return Reduced::Done(after);
+            let end = rhs + size;
+            return put_reduct(&book[rhs..end], area, n, u, c);
+        }
+        FirstRule::Computed { number: _, word } => {
+            let side = [word; 1];
+            return put_reduct(&side, area, n, u, c);
         }
     }
 }

@@ -20,7 +20,7 @@ use Rattle.matching.specs.declared.Match.{Match}
 use Rattle.matching.specs.declared.FirstRule.{FirstRule}
 use Rattle.matching.specs.declared.FirstRule.the-variants.{Nothing, First, Computed}
 use Rattle.matching.specs.Matching.{firstMatch, Computation, computed, computedContraction, contraction}
-use Rattle.matching.specs.Bindings.{noBindings, noMatch, matchListed, computedRule, matchComputed, orComputed, matchOf, matchIn, value, bindingsOf}
+use Rattle.matching.specs.Bindings.{noBindings, noMatch, matchListed, computedRule, matchComputed, orElse, matchOf, matchIn, value, bindingsOf}
 use Rattle.matching.specs.rules.Searches.{contractionOf, Within}
 use Rattle.matching.proofs.Computed.{computed-low}
 use Rattle.matching.proofs.Firsts.{contraction-listed, contraction-computed, first-high}
@@ -47,13 +47,13 @@ module _ (b : List ℕ) (sh : Shape) (acc : Accepted b sh) where
     comes = go (matchListed s ws .rule) refl
       where
         keeps : {n rhs size : ℕ} (f : FirstRule) (st ln : List ℕ) → f ≡ First n rhs size →
-            orComputed ws (record { rule = f; starts = st; lengths = ln }) ≡ record { rule = f; starts = st; lengths = ln }
+            orElse (record { rule = f; starts = st; lengths = ln }) (matchComputed ws) ≡ record { rule = f; starts = st; lengths = ln }
         keeps Nothing st ln e = absurd (let z : _≡_ {A = ℕ} 0 1 = cc in omega arith)
         keeps (First k rhs size) st ln e = refl
         keeps (Computed k w) st ln e = refl
 
-        go : (f : FirstRule) → matchListed s ws .rule ≡ f → Comes (orComputed ws (matchListed s ws))
-        go Nothing e = let q = found .nothing e in from-words q (ap (orComputed ws) q)
+        go : (f : FirstRule) → matchListed s ws .rule ≡ f → Comes (orElse (matchListed s ws) (matchComputed ws))
+        go Nothing e = let q = found .nothing e in from-words q (ap (λ y. orElse y (matchComputed ws)) q)
         go (First n rhs size) e =
             let q = keeps (matchListed s ws .rule) (matchListed s ws .starts) (matchListed s ws .lengths) e in
             from-book (ap (λ y. y .rule) q ∙ e) q

@@ -69,12 +69,13 @@ computedRule (some c) = Computed (c .number) (c .word)
 unfoldable pub matchComputed : List ℕ → Match
 matchComputed ws = record { rule = computedRule (computed ws); starts = noBindings .starts; lengths = noBindings .lengths }
 
-abbrev pub orComputed : List ℕ → Match → Match
-orComputed ws m = elim (m .rule) [ Nothing ↦ matchComputed ws | First k rhs size ↦ m | Computed k w ↦ m ]
+-- the one match, or where it found nothing the other
+abbrev pub orElse : Match → Match → Match
+orElse m m′ = elim (m .rule) [ Nothing ↦ m′ | First k rhs size ↦ m | Computed k w ↦ m ]
 
 -- "the lowest-numbered rule that fits here", at the front of ws
 unfoldable pub matchOf : System → List ℕ → Match
-matchOf s ws = orComputed ws (matchListed s ws)
+matchOf s ws = orElse (matchListed s ws) (matchComputed ws)
 
 -- the same, by the words of a book: no rule matches over a book that the reader refuses
 unfoldable pub matchIn : List ℕ → List ℕ → Match

@@ -6,7 +6,7 @@ use mathlib.Core.List.{List, [], _∷_, _++_}
 use lib.ListN.{length, getD, take, drop, length-append}
 use Rattle.system.specs.System.{System}
 use Rattle.matching.specs.declared.rules.Search.{Search}
-use Rattle.matching.specs.declared.FirstRule.the-variants.{First}
+use Rattle.matching.specs.declared.FirstRule.the-variants.{Nothing}
 use Rattle.system.specs.Book.{systemOf}
 use Rattle.matching.specs.Matching.{contraction}
 use Rattle.matching.specs.Bindings.{matchOf}
@@ -76,14 +76,14 @@ module _ (τ : Round) where
         ≡ drop (position s (termIn (τ .ws₀) n) outer 0) (termIn (τ .ws₀) n)
     subterm-is = same-subterm τ e ∙ (λ j. drop (position s (τ .kept .term j) outer 0) (τ .kept .term j))
 
-    pub arrives-ready : (i rhs size : ℕ) → fit .matched .rule ≡ First i rhs size → (r : Advanced) →
+    pub arrives-ready : (fit .matched .rule ≡ Nothing → ⊥) → (r : Advanced) →
         r ≡ record { stop = Ready; level = τ .level; matched = fit .matched; width = fit .width } → Came r
-    arrives-ready i rhs size q r is =
+    arrives-ready q r is =
         let x = told τ Rules e in
         let held = tries-held τ e in
         let found = tried-match (τ .book) (τ .shape) (τ .accepted) (τ .ws′) (τ .positions′) n (τ .level) held fit fits in
-        let some = tried-some (τ .book) (τ .shape) (τ .accepted) (τ .ws′) (τ .positions′) n (τ .level) held fit fits i rhs size q in
-        let wide = tried-width (τ .book) (τ .shape) (τ .accepted) (τ .ws′) (τ .positions′) n (τ .level) held fit fits i rhs size q in
+        let some = tried-some (τ .book) (τ .shape) (τ .accepted) (τ .ws′) (τ .positions′) n (τ .level) held fit fits q in
+        let wide = tried-width (τ .book) (τ .shape) (τ .accepted) (τ .ws′) (τ .positions′) n (τ .level) held fit fits q in
         let here = ap (contraction s) (sym (same-subterm τ e)) ∙ some .1 in
         subst Came (sym is) (record {
           outer = outer;

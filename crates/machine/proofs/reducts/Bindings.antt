@@ -13,11 +13,14 @@ use Rattle.system.specs.Signature.{Signature, Symbol, arity}
 use Rattle.system.specs.Limits.{variable, variables}
 use Rattle.system.specs.System.{System, Rule, noRule}
 use Rattle.system.specs.Terms.{Forest, empty, more, Word, Whole, WellFormedRule, WellFormed}
-use Rattle.system.proofs.Signatures.{arity-variable, symbol-below, few-symbols}
+use Rattle.system.proofs.Signatures.{arity-variable, symbol-below, few-symbols, few-listed}
 use Rattle.system.proofs.Forests.{span-forest, split, Split}
 use Rattle.matching.specs.declared.Match.{Match}
-use Rattle.matching.specs.Bindings.{Bindings, noBindings, consumed, withBinding, bindings, matchFrom, matchOf}
+use Rattle.matching.specs.declared.FirstRule.{FirstRule}
+use Rattle.matching.specs.declared.FirstRule.the-variants.{Nothing, First, Computed}
+use Rattle.matching.specs.Bindings.{Bindings, noBindings, consumed, withBinding, bindings, matchFrom, matchListed, matchComputed, orElse, matchOf}
 use Rattle.machine.specs.reducts.Replaced.{Behind}
+use Rattle.matching.proofs.Computed.{computed-rest}
 use Rattle.matching.proofs.BindingsAgree.{zero-at}
 use Rattle.matching.proofs.rules.MatchSteps.{cons-stop, cons-next, consumed-variable, consumed-differ, consumed-same, withBinding-symbol, withBinding-variable, from-nil, from-here, from-next}
 
@@ -142,11 +145,39 @@ module _ (g : Signature) where
         go none e ih = rw (from-next g r rs k at ws e) ih
         go (some a) e ih = rw (from-here g r rs k at ws a e) (behind-left few (r .lhs) ws a (law 0 (omega arith) .headed) e)
 
+-- ---- what three words compute binds nothing
+
+unbound : (ws : List ℕ) → Behind (matchComputed ws .starts) (matchComputed ws .lengths)
+unfolding matchComputed
+unbound ws = behind-none []
+
+-- the one match, or else the other
+behind-either : (m m′ : Match) → Behind (m .starts) (m .lengths) → Behind (m′ .starts) (m′ .lengths) → Behind (orElse m m′ .starts) (orElse m m′ .lengths)
+behind-either m m′ h h′ = go (m .rule) (m .starts) (m .lengths) h
+  where
+    go : (f : FirstRule) (st ln : List ℕ) → Behind st ln →
+        Behind (orElse (record { rule = f; starts = st; lengths = ln }) m′ .starts) (orElse (record { rule = f; starts = st; lengths = ln }) m′ .lengths)
+    go Nothing st ln h = h′
+    go (First k rhs size) st ln h = h
+    go (Computed k w) st ln h = h
+
 module _ (s : System) (wf : WellFormed s) where
+  listed-rest : {u : List ℕ} (b : List ℕ) → Whole (s .arities) u → matchListed s (u ++ b) ≡ matchListed s u
+  unfolding matchListed
+  listed-rest b h = from-rest (s .arities) (few-symbols s wf) h b (s .rules) 0 _ (wf .wellFormedRules)
+
+  word-rest : {u : List ℕ} (b : List ℕ) → Whole (s .arities) u → matchComputed (u ++ b) ≡ matchComputed u
+  unfolding matchComputed
+  word-rest b h = rw (computed-rest (s .arities) (few-listed s wf) b h)
+
   pub match-rest : {u : List ℕ} (b : List ℕ) → Whole (s .arities) u → matchOf s (u ++ b) ≡ matchOf s u
   unfolding matchOf
-  match-rest b h = from-rest (s .arities) (few-symbols s wf) h b (s .rules) 0 _ (wf .wellFormedRules)
+  match-rest b h = λ i. orElse (listed-rest b h i) (word-rest b h i)
+
+  listed-behind : (ws : List ℕ) → Behind (matchListed s ws .starts) (matchListed s ws .lengths)
+  unfolding matchListed
+  listed-behind ws = from-behind (s .arities) (few-symbols s wf) ws (s .rules) 0 _ (wf .wellFormedRules)
 
   pub match-behind : (ws : List ℕ) → Behind (matchOf s ws .starts) (matchOf s ws .lengths)
   unfolding matchOf
-  match-behind ws = from-behind (s .arities) (few-symbols s wf) ws (s .rules) 0 _ (wf .wellFormedRules)
+  match-behind ws = behind-either (matchListed s ws) (matchComputed ws) (listed-behind ws) (unbound ws)

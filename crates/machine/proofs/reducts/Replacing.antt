@@ -16,9 +16,9 @@ use Rattle.matching.specs.rules.Searches.{Within}
 use Rattle.matching.proofs.Matched.{instance-cong}
 use Rattle.matching.proofs.Reducts.{reduct-length}
 use Rattle.system.specs.Limits.{termWords, areaWords}
-use Rattle.machine.specs.declared.reducts.Instance.{Instance}
+use Rattle.machine.specs.declared.reducts.Stretches.{Stretches}
 use Rattle.machine.specs.declared.reducts.Subterm.{Subterm}
-use Rattle.machine.specs.reducts.Reduct.{side, instanceBindings, reduct, Writable}
+use Rattle.machine.specs.reducts.Reduct.{stretchBindings, reduct, Writable}
 use Rattle.machine.specs.reducts.Replaced.{subtermIn, Room, Replaceable, replaced, Replaced}
 
 -- ---- laws of words written over a list
@@ -179,7 +179,7 @@ module _ {ws : List ℕ} {n : ℕ} {u : Subterm} {k : ℕ} (room : Room ws n u k
   behind₂ : drop base w₂ ≡ drop base w₁
   behind₂ = drop-over base w₁ (p + k) (part (p + width) after w₁) (let h = room in rw (tail-is, tail-length) (omega arith))
 
-module _ {book ws : List ℕ} {n : ℕ} {u : Subterm} {c : Instance} {k : ℕ} (asked : Replaceable book ws n u c k) where
+module _ {side ws : List ℕ} {n : ℕ} {u : Subterm} {c : Stretches} {k : ℕ} (asked : Replaceable side ws n u c k) where
   abbrev room : Room ws n u k
   room = asked .room
 
@@ -190,7 +190,7 @@ module _ {book ws : List ℕ} {n : ℕ} {u : Subterm} {c : Instance} {k : ℕ} (
     inside = λ v. rw (length-drop (base room) (w₂ room), length₂ room) (let i = asked .inside .inside v in let h = room in let e = contraction-length room in omega arith);
   }
 
-  writable₂ : Writable book (w₂ room) c (u .at) (base room)
+  writable₂ : Writable side (w₂ room) c (u .at) (base room)
   writable₂ =
       let h = room in
       record {
@@ -200,7 +200,7 @@ module _ {book ws : List ℕ} {n : ℕ} {u : Subterm} {c : Instance} {k : ℕ} (
         room = omega (arith, asked .counted);
       }
 
-  value₂ : (v : ℕ) → value (drop (base room) (w₂ room)) (instanceBindings c) v ≡ value (contraction room) (instanceBindings c) v
+  value₂ : (v : ℕ) → value (drop (base room) (w₂ room)) (stretchBindings c) v ≡ value (contraction room) (stretchBindings c) v
   unfolding value
   value₂ v = rw (behind₂ room) (at (getD (c .lengths) v 0) (getD (c .starts) v 0) (asked .behind .later v) (rw (contraction-length room) at (asked .inside .inside v)))
     where
@@ -215,13 +215,13 @@ module _ {book ws : List ℕ} {n : ℕ} {u : Subterm} {c : Instance} {k : ℕ} (
 
   -- 3, 4 and 5: the reduct, the end of the first half, the count and the words behind it
   abbrev x : List ℕ
-  x = reduct book c (contraction room)
+  x = reduct side c (contraction room)
 
-  reduct₂ : reduct book c (drop (base room) (w₂ room)) ≡ x
-  reduct₂ = instance-cong (value (drop (base room) (w₂ room)) (instanceBindings c)) (value (contraction room) (instanceBindings c)) (side book c) (λ w v st e. value₂ v)
+  reduct₂ : reduct side c (drop (base room) (w₂ room)) ≡ x
+  reduct₂ = instance-cong (value (drop (base room) (w₂ room)) (stretchBindings c)) (value (contraction room) (stretchBindings c)) side (λ w v st e. value₂ v)
 
   x-length : length x ≡ k
-  x-length = reduct-length (contraction room) (instanceBindings c) (asked .inside) (side book c) ∙ sym (asked .counted)
+  x-length = reduct-length (contraction room) (stretchBindings c) (asked .inside) side ∙ sym (asked .counted)
 
   -- how many words the term has then, and how many are to be cleared behind it
   abbrev new : ℕ
@@ -246,7 +246,7 @@ module _ {book ws : List ℕ} {n : ℕ} {u : Subterm} {c : Instance} {k : ℕ} (
       ∙ ap (λ y. pad termWords (splice y (u .at) (u .width) x)) (take-take n termWords ws (h .bounded))
 
   abbrev w₃ : List ℕ
-  w₃ = over (w₂ room) (u .at) (reduct book c (drop (base room) (w₂ room)))
+  w₃ = over (w₂ room) (u .at) (reduct side c (drop (base room) (w₂ room)))
 
   abbrev w₄ : List ℕ
   w₄ = over w₃ new (zeros (n - new))
@@ -275,12 +275,12 @@ module _ {book ws : List ℕ} {n : ℕ} {u : Subterm} {c : Instance} {k : ℕ} (
     second : v₂ ≡ w₂ room
     second = e₂ ∙ ap (λ y. over y (u .at + k) (part (u .at + u .width) (after room) y)) e₁
 
-    pub second-writable : Writable book v₂ c (u .at) (base room)
-    second-writable = subst (λ y. Writable book y c (u .at) (base room)) (sym second) writable₂
+    pub second-writable : Writable side v₂ c (u .at) (base room)
+    second-writable = subst (λ y. Writable side y c (u .at) (base room)) (sym second) writable₂
 
-    pub all-edits : (v₃ v₄ v₅ : List ℕ) → v₃ ≡ over v₂ (u .at) (reduct book c (drop (base room) v₂)) →
-        v₄ ≡ over v₃ new (zeros (n - new)) → v₅ ≡ over v₄ (base room) (zeros (u .width)) → Replaced book ws n u c v₅
+    pub all-edits : (v₃ v₄ v₅ : List ℕ) → v₃ ≡ over v₂ (u .at) (reduct side c (drop (base room) v₂)) →
+        v₄ ≡ over v₃ new (zeros (n - new)) → v₅ ≡ over v₄ (base room) (zeros (u .width)) → Replaced side ws n u c v₅
     all-edits v₃ v₄ v₅ e₃ e₄ e₅ =
-        let f₃ : v₃ ≡ w₃ = e₃ ∙ ap (λ y. over y (u .at) (reduct book c (drop (base room) y))) second in
+        let f₃ : v₃ ≡ w₃ = e₃ ∙ ap (λ y. over y (u .at) (reduct side c (drop (base room) y))) second in
         let f₄ : v₄ ≡ w₄ = e₄ ∙ ap (λ y. over y new (zeros (n - new))) f₃ in
         e₅ ∙ ap (λ y. over y (base room) (zeros (u .width))) f₄ ∙ edits

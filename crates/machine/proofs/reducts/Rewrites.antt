@@ -1,38 +1,38 @@
 -- A rewrite in an area that holds a state: what the code may count on there, and that the edits leave the area of the state after it.
-use Prim.Native.Nat.{ℕ, _+_, _-_, _*_, _≤_, _<_}
+use Prim.Native.Nat.{ℕ, zero, suc, _+_, _-_, _≤_, _<_}
 use native.Mathlib.Omega.{arith}
-use native.Mathlib.Decide.{decLt}
 use mathlib.Core.Path.{_≡_, refl, sym, ap, _∙_, subst}
 use mathlib.Core.Option.{some}
 use mathlib.Core.List.{List, [], _∷_, _++_, append-assoc}
 use lib.ListN.{length, getD, take, drop, length-append, length-drop}
-use lib.Seq.{sets-eq, drop-at, take-at, drop-drop, length-take-le}
-use borrow.Author.Tests.{lt-ltb, le-ltb}
+use lib.Seq.{sets-eq, drop-at, take-at, drop-drop}
 use Rattle.buffers.specs.Words.{over, zeros}
 use Rattle.buffers.specs.moves.Parts.{pad, splice}
 use Rattle.buffers.proofs.Pads.{length-zeros, length-pad, zeros-append, drop-zeros, pad-zero}
 use Rattle.system.specs.Signature.{Signature, Symbol, span, replace}
-use Rattle.system.specs.Limits.{variable, termWords, areaWords}
+use Rattle.system.specs.Limits.{variable, variables, termWords, areaWords}
 use Rattle.system.specs.System.{System}
 use Rattle.system.specs.Terms.{WellFormed}
 use Rattle.system.proofs.Forests.{span-forest}
 use Rattle.system.proofs.Places.{replace-length}
 use Rattle.matching.specs.declared.Match.{Match}
-use Rattle.matching.specs.declared.FirstRule.the-variants.{Nothing, First}
+use Rattle.matching.specs.declared.FirstRule.the-variants.{Nothing, First, Computed}
 use Rattle.system.specs.Book.{systemOf}
 use Rattle.matching.specs.Matching.{Contraction, contraction}
-use Rattle.matching.specs.Bindings.{matchOf}
-use Rattle.matching.specs.rules.Searches.{reductLength, RightSide}
+use Rattle.matching.specs.Bindings.{matchOf, value}
+use Rattle.matching.specs.rules.Searches.{RightSide, RightSideAt}
 use Rattle.matching.proofs.Firsts.{contraction-rest}
 use Rattle.system.proofs.layout.Books.{well}
-use Rattle.matching.proofs.Reducts.{match-right, match-within, match-none, match-some, match-length}
+use Rattle.matching.proofs.Matched.{instance-nil, instance-symbol}
+use Rattle.matching.proofs.Reducts.{match-right, match-within, match-none, match-some, match-word, match-value}
 use Rattle.rewriting.specs.Rewriting.{root}
-use Rattle.machine.specs.declared.reducts.Reduced.the-variants.{Done, TooLong}
+use Rattle.machine.specs.declared.reducts.Reduced.{Reduced}
+use Rattle.machine.specs.declared.reducts.Reduced.the-variants.{Done}
 use Rattle.machine.specs.declared.reducts.Subterm.{Subterm}
 use Rattle.rewriting.specs.Machine.{down, position}
 use Rattle.machine.specs.advance.Area.{area, termIn, outerIn, countIn, Represents}
-use Rattle.machine.specs.reducts.Reduct.{instanceOf, side, reduct}
-use Rattle.machine.specs.reducts.Replaced.{subtermIn, Room, Replaceable, Replaced}
+use Rattle.machine.specs.reducts.Reduct.{stretchesOf, stretchBindings, reduct}
+use Rattle.machine.specs.reducts.Replaced.{subtermIn, Room, Puttable, Put, fits, exceeds}
 use Rattle.machine.specs.reducts.Rewritten.{Contracts, Reducible, rewritten, done, long, Rewrites}
 use Rattle.rewriting.proofs.Actives.{At, at-parted, active-whole}
 use Rattle.rewriting.proofs.Done.{whole-within}
@@ -49,17 +49,6 @@ position-room s t [] p = omega arith
 position-room s t (c ∷ cs) p =
     let z : length cs + down s t p c ≤ position s t (c ∷ cs) p = position-room s t cs (down s t p c) in
     omega (arith, down-lt s t p c)
-
--- the length of a reduct has a bound
-length-bound : (lengths ls : List ℕ) → ((v : ℕ) → getD lengths v 0 ≤ 65535) → reductLength lengths ls ≤ length ls * 65535
-unfolding reductLength
-length-bound lengths [] h = omega arith
-length-bound lengths (w ∷ ls) h =
-    let z = length-bound lengths ls h in
-    elim (decLt w variable) [
-      | yes l ↦ rw (lt-ltb w variable l) (omega arith)
-      | no l ↦ rw (le-ltb w variable (omega arith)) (omega (arith, h (w - variable)))
-    ]
 
 -- ---- the halves of an area
 
@@ -196,73 +185,82 @@ module _ {book ws : List ℕ} {n : ℕ} {u : Subterm} {m : Match} (asked : Reduc
       let z : _≡_ {A = ℕ} 0 1 = cc (asked .contracts) in
       omega arith
 
-  pub binding-bound : (v : ℕ) → getD (m .lengths) v 0 ≤ 65535
-  binding-bound v =
-      let z = match-within book (asked .shape) (asked .accepted) (drop p t) m (asked .match) .inside v in
-      omega (arith, length-drop p t, represents .words, bounded)
+  -- the reduct comes there, if it fits
+  pub puttable : {side : List ℕ} → RightSide side → Puttable side ws n u (stretchesOf m)
+  puttable right = record {
+    room = room;
+    bounded = bounded;
+    within = ends;
+    right = right;
+    inside = match-within book (asked .shape) (asked .accepted) (subtermIn ws u) m match-here;
+    behind = rw (asked .match) (match-behind s formed (drop p t));
+  }
 
-  module _ {number rhs size : ℕ} (found : m .rule ≡ First number rhs size) where
-    abbrev ls : List ℕ
-    ls = side book (instanceOf m rhs size)
+  -- the right side of a listed rule, and of a built-in one: what stands in the book, and the word that is put there
+  abbrev reductOf : List ℕ → List ℕ
+  reductOf side = reduct side (stretchesOf m) (subtermIn ws u)
 
+  abbrev pub Reduces : List ℕ → Type 0
+  Reduces side = (number : ℕ) × (contraction s (subtermIn ws u) ≡ some (record { number = number; reduct = reductOf side }))
+
+  pub listed-side : {number rhs size : ℕ} → m .rule ≡ First number rhs size → RightSideAt book rhs size
+  listed-side f = match-right book (asked .shape) (asked .accepted) (drop p t) m (asked .match) f
+
+  pub listed-reduces : {number rhs size : ℕ} → m .rule ≡ First number rhs size → Reduces (take size (drop rhs book))
+  listed-reduces f = (_, match-some book (asked .shape) (asked .accepted) (subtermIn ws u) m match-here f)
+
+  pub word-side : {number w : ℕ} → m .rule ≡ Computed number w → RightSide (w ∷ [])
+  word-side {number} {w} f =
+      let low = match-value book (asked .shape) (asked .accepted) (drop p t) m (asked .match) f in
+      record { some = omega arith; small = omega arith; known = one }
+    where
+      one : (j : ℕ) → j < 1 → getD (w ∷ []) j 0 < variable + variables
+      one zero h = let low = match-value book (asked .shape) (asked .accepted) (drop p t) m (asked .match) f in omega arith
+      one (suc j) h = absurd (omega arith)
+
+  pub word-reduces : {number w : ℕ} → m .rule ≡ Computed number w → Reduces (w ∷ [])
+  word-reduces {number} {w} f =
+      let low = match-value book (asked .shape) (asked .accepted) (drop p t) m (asked .match) f in
+      let σ = value (subtermIn ws u) (stretchBindings (stretchesOf m)) in
+      let e : reductOf (w ∷ []) ≡ w ∷ [] = instance-symbol σ w [] low ∙ ap (λ r. w ∷ r) (instance-nil σ) in
+      (number, match-word book (asked .shape) (asked .accepted) (subtermIn ws u) m match-here f ∙ ap (λ r. some (record { number = number; reduct = r })) (sym e))
+
+  -- the counts after it
+  counts : over (drop termWords ws) (u .level) (zeros (u .width)) ≡ pad termWords (outer ++ 0 ∷ [])
+  counts =
+      let z = around in
+      let y = ends in
+      let a = bounded in
+      ap (λ y. over (drop termWords y) (u .level) (zeros (u .width))) (represents .equal)
+      ∙ ap (λ y. over y (u .level) (zeros (u .width))) (area-right t (outer ++ countIn ws (u .level) ∷ []) (represents .valid .bounded))
+      ∙ counts-cleared termWords outer (countIn ws (u .level)) (u .level) (u .width) (represents .levels) width-some (omega arith)
+
+  -- so what is put there is the rewrite
+  module _ (side : List ℕ) (reduces : Reduces side) where
     abbrev v : List ℕ
-    v = reduct book (instanceOf m rhs size) (subtermIn ws u)
+    v = reductOf side
 
-    pub right-side : RightSide book rhs size
-    right-side = match-right book (asked .shape) (asked .accepted) (drop p t) m (asked .match) found
+    reduct-is : (x : Contraction) → Contracts book ws n u x → x .reduct ≡ v
+    reduct-is x e =
+        let f = contraction-here ∙ reduces .1 in
+        let z : record { number = reduces .0; reduct = v } ≡ x = cc in
+        ap (λ y. y .reduct) (sym z)
 
-    -- the reduct's length, as a number of the code
-    module _ (k : ℕ) (counted : k ≡ reductLength (m .lengths) ls) where
-      -- a right side has at most 64 words, so it fits a word of the machine
-      pub reduct-bound : n - u .width + k ≤ termWords + 64 * 65535
-      reduct-bound =
-          let r = right-side in
-          let z = length-bound (m .lengths) ls binding-bound in
-          let y : length ls ≡ size = length-take-le size (drop rhs book) (rw (length-drop rhs book) (omega (arith, r .fits))) in
-          omega (arith, r .small, bounded)
+    rewritten-length : (x : Contraction) → Contracts book ws n u x → length (rewritten s ws n u x) ≡ n - u .width + length v
+    rewritten-length x e =
+        let z = replace-length g t (x .reduct) p (rw (← asked .wide, represents .words) ends) in
+        let y = ap length (reduct-is x e) in
+        omega (arith, asked .wide, represents .words, ends)
 
-      reduct-is : (x : Contraction) → Contracts book ws n u x → x .reduct ≡ v
-      reduct-is x e =
-          let f = contraction-here ∙ match-some book (asked .shape) (asked .accepted) (subtermIn ws u) m match-here found in
-          let z : record { number = number; reduct = v } ≡ x = cc in
-          ap (λ y. y .reduct) (sym z)
+    spliced : (x : Contraction) → Contracts book ws n u x → splice (take n ws) p (u .width) v ≡ rewritten s ws n u x
+    unfolding replace
+    spliced x e = rw (append-assoc (take p t) v (drop (p + u .width) t), reduct-is x e, ← asked .wide)
 
-      rewritten-length : (x : Contraction) → Contracts book ws n u x → length (rewritten s ws n u x) ≡ n - u .width + k
-      rewritten-length x e =
-          let z = replace-length g t (x .reduct) p (rw (← asked .wide, represents .words) ends) in
-          let y = ap length (reduct-is x e) ∙ match-length book (asked .shape) (asked .accepted) (subtermIn ws u) m match-here rhs size in
-          omega (arith, asked .wide, represents .words, ends)
-
-      pub too-long : termWords < n - u .width + k → Rewrites book ws n u TooLong ws
-      too-long h x e = long (omega (arith, rewritten-length x e)) refl refl
-
-      module _ (fits : n - u .width + k ≤ termWords) where
-        pub replaceable : Replaceable book ws n u (instanceOf m rhs size) k
-        replaceable = record {
-          room = room k fits;
-          right = right-side;
-          counted = counted;
-          inside = match-within book (asked .shape) (asked .accepted) (subtermIn ws u) m match-here;
-          behind = rw (asked .match) (match-behind s formed (drop p t));
-        }
-
-        spliced : (x : Contraction) → Contracts book ws n u x → splice (take n ws) p (u .width) v ≡ rewritten s ws n u x
-        unfolding replace
-        spliced x e = rw (append-assoc (take p t) v (drop (p + u .width) t), reduct-is x e, ← asked .wide)
-
-        counts : over (drop termWords ws) (u .level) (zeros (u .width)) ≡ pad termWords (outer ++ 0 ∷ [])
-        counts =
-            let z = around in
-            let y = ends in
-            let a = bounded in
-            ap (λ y. over (drop termWords y) (u .level) (zeros (u .width))) (represents .equal)
-            ∙ ap (λ y. over y (u .level) (zeros (u .width))) (area-right t (outer ++ countIn ws (u .level) ∷ []) (represents .valid .bounded))
-            ∙ counts-cleared termWords outer (countIn ws (u .level)) (u .level) (u .width) (represents .levels) width-some (omega arith)
-
-        pub rewrites : (ws′ : List ℕ) → Replaced book ws n u (instanceOf m rhs size) ws′ → Rewrites book ws n u (Done (n - u .width + k)) ws′
-        unfolding area
-        rewrites ws′ q x e =
-            let l = rewritten-length x e in
-            done (omega arith) (ap Done (sym l))
-            (q ∙ ap (λ y. pad termWords y ++ over (drop termWords ws) (u .level) (zeros (u .width))) (spliced x e)
-            ∙ ap (λ y. pad termWords (rewritten s ws n u x) ++ y) counts)
+    pub rewrites : (r : Reduced) (ws′ : List ℕ) → Put side ws n u (stretchesOf m) r ws′ → Rewrites book ws n u r ws′
+    unfolding area
+    rewrites r ws′ (fits l q k) x e =
+        let z = rewritten-length x e in
+        done (omega arith) (q ∙ ap Done (sym z))
+        (k ∙ ap (λ y. pad termWords y ++ over (drop termWords ws) (u .level) (zeros (u .width))) (spliced x e)
+        ∙ ap (λ y. pad termWords (rewritten s ws n u x) ++ y) counts)
+    rewrites r ws′ (exceeds l q k) x e = long (omega (arith, rewritten-length x e)) q k

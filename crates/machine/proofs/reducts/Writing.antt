@@ -5,7 +5,7 @@ use native.Mathlib.Numerals.{add-one}
 use mathlib.Core.Path.{_≡_, refl, sym, ap, _∙_}
 use mathlib.Core.List.{List, [], _∷_, _++_}
 use lib.ListN.{length, getD, take, drop, set, length-append, length-drop, length-set}
-use lib.Seq.{drop-drop, getD-take, getD-drop, length-take-le, length-sets, take-all}
+use lib.Seq.{drop-drop, length-sets, take-all}
 use Rattle.buffers.specs.moves.Parts.{part}
 use Rattle.buffers.specs.Words.{over}
 use Rattle.buffers.proofs.Over.{over-snoc, over-append, part-above}
@@ -16,82 +16,73 @@ use Rattle.matching.specs.rules.Searches.{reductLength}
 use Rattle.matching.proofs.Matched.{instance-nil}
 use Rattle.matching.proofs.Words.{fill-symbol, fill-variable}
 use Rattle.matching.proofs.Reducts.{length-symbol, length-variable, value-length}
-use Rattle.machine.specs.declared.reducts.Instance.{Instance}
-use Rattle.machine.specs.reducts.Reduct.{side, instanceBindings, reduct, Writable}
+use Rattle.machine.specs.declared.reducts.Stretches.{Stretches}
+use Rattle.machine.specs.reducts.Reduct.{stretchBindings, reduct, Writable}
 
 -- the first j words of the right side, filled from ws
-abbrev filled : List ℕ → Instance → List ℕ → ℕ → List ℕ
-filled book c ws j = instance (value ws (instanceBindings c)) (take j (side book c))
+abbrev filled : List ℕ → Stretches → List ℕ → ℕ → List ℕ
+filled side c ws j = instance (value ws (stretchBindings c)) (take j side)
 
 -- they are written, up to the index `to`
-pub record Writing (book ws₀ : List ℕ) (c : Instance) (at base to j : ℕ) (ws : List ℕ) : Type 0 where
-  pub inside : j ≤ c .size
+pub record Writing (side ws₀ : List ℕ) (c : Stretches) (at base to j : ℕ) (ws : List ℕ) : Type 0 where
+  pub inside : j ≤ length side
   pub kept : length ws ≡ length ws₀
-  pub next : to ≡ at + length (filled book c (drop base ws₀) j)
-  pub left : to + reductLength (c .lengths) (drop j (side book c)) ≡ at + reductLength (c .lengths) (side book c)
-  pub equal : ws ≡ over ws₀ at (filled book c (drop base ws₀) j)
+  pub next : to ≡ at + length (filled side c (drop base ws₀) j)
+  pub left : to + reductLength (c .lengths) (drop j side) ≡ at + reductLength (c .lengths) side
+  pub equal : ws ≡ over ws₀ at (filled side c (drop base ws₀) j)
 
-module _ (book ws₀ : List ℕ) (c : Instance) (at base : ℕ) where
-  pub writing-starts : Writing book ws₀ c at base at 0 ws₀
+module _ (side ws₀ : List ℕ) (c : Stretches) (at base : ℕ) where
+  pub writing-starts : Writing side ws₀ c at base at 0 ws₀
   writing-starts = record {
     inside = omega arith;
     kept = refl;
-    next = rw (instance-nil (value (drop base ws₀) (instanceBindings c))) (omega arith);
+    next = rw (instance-nil (value (drop base ws₀) (stretchBindings c))) (omega arith);
     left = refl;
-    equal = rw (instance-nil (value (drop base ws₀) (instanceBindings c)));
+    equal = rw (instance-nil (value (drop base ws₀) (stretchBindings c)));
   }
 
-  side-length : Writable book ws₀ c at base → length (side book c) ≡ c .size
-  side-length asked = length-take-le (c .size) (drop (c .rhs) book) (rw (length-drop (c .rhs) book) (omega (arith, asked .right .fits)))
-
-  pub writing-ends : Writable book ws₀ c at base → (to j : ℕ) (ws : List ℕ) → Writing book ws₀ c at base to j ws → c .size ≤ j →
-      ws ≡ over ws₀ at (reduct book c (drop base ws₀))
+  pub writing-ends : Writable side ws₀ c at base → (to j : ℕ) (ws : List ℕ) → Writing side ws₀ c at base to j ws → length side ≤ j →
+      ws ≡ over ws₀ at (reduct side c (drop base ws₀))
   writing-ends asked to j ws v h =
-      v .equal ∙ ap (λ y. over ws₀ at (instance (value (drop base ws₀) (instanceBindings c)) y)) (take-all j (side book c) (omega (arith, side-length asked)))
+      v .equal ∙ ap (λ y. over ws₀ at (instance (value (drop base ws₀) (stretchBindings c)) y)) (take-all j side h)
 
 -- a round of the loop, in which word j of the right side is written
 pub record Round : Type 0 where
-  pub book : List ℕ
+  pub side : List ℕ
   pub ws₀ : List ℕ
-  pub c : Instance
+  pub c : Stretches
   pub at : ℕ
   pub base : ℕ
-  pub asked : Writable book ws₀ c at base
+  pub asked : Writable side ws₀ c at base
   pub to : ℕ
   pub j : ℕ
   pub ws : List ℕ
-  pub writing : Writing book ws₀ c at base to j ws
-  pub here : j < c .size
+  pub writing : Writing side ws₀ c at base to j ws
+  pub here : j < length side
 
 abbrev pub word : Round → ℕ
-word k = getD (k .book) (k .c .rhs + k .j) 0
+word k = getD (k .side) (k .j) 0
 
 -- after it
 abbrev pub Wrote : Round → ℕ → List ℕ → Type 0
-Wrote k to ws = Writing (k .book) (k .ws₀) (k .c) (k .at) (k .base) to (k .j + 1) ws
+Wrote k to ws = Writing (k .side) (k .ws₀) (k .c) (k .at) (k .base) to (k .j + 1) ws
 
 module _ (k : Round) where
   abbrev ls : List ℕ
-  ls = side (k .book) (k .c)
+  ls = k .side
 
   abbrev σ : ℕ → List ℕ
-  σ = value (drop (k .base) (k .ws₀)) (instanceBindings (k .c))
+  σ = value (drop (k .base) (k .ws₀)) (stretchBindings (k .c))
 
   -- what was written before it
   abbrev before : List ℕ
   before = instance σ (take (k .j) ls)
 
-  more : k .j < length ls
-  more = omega (arith, side-length (k .book) (k .ws₀) (k .c) (k .at) (k .base) (k .asked), k .here)
-
-  word-is : getD ls (k .j) 0 ≡ word k
-  word-is = getD-take (k .c .size) (drop (k .c .rhs) (k .book)) (k .j) 0 (k .here) ∙ getD-drop (k .c .rhs) (k .book) (k .j) 0
-
   -- ---- a symbol
 
   module _ (h : word k < variable) where
     left-symbol : reductLength (k .c .lengths) (drop (k .j) ls) ≡ 1 + reductLength (k .c .lengths) (drop (k .j + 1) ls)
-    left-symbol = length-symbol (k .c .lengths) (k .book) (k .c .rhs) (k .c .size) (k .j) (k .asked .right .fits) (k .here) (word k) refl h
+    left-symbol = length-symbol (k .c .lengths) ls (k .j) (k .here) (word k) refl h
 
     pub symbol-room : k .to < length (k .ws)
     symbol-room =
@@ -100,7 +91,7 @@ module _ (k : Round) where
         omega (arith, left-symbol, v .left, v .kept, q .room, q .based)
 
     filled-symbol : instance σ (take (k .j + 1) ls) ≡ before ++ word k ∷ []
-    filled-symbol = rw (add-one (k .j), ← word-is) (fill-symbol σ ls (k .j) more (rw word-is h))
+    filled-symbol = rw (add-one (k .j)) (fill-symbol σ ls (k .j) (k .here) h)
 
     pub writes-symbol : Wrote k (k .to + 1) (set (k .ws) (k .to) (word k))
     writes-symbol =
@@ -126,7 +117,7 @@ module _ (k : Round) where
     variable-known = omega (arith, k .asked .right .known (k .j) (k .here))
 
     left-variable : reductLength (k .c .lengths) (drop (k .j) ls) ≡ n + reductLength (k .c .lengths) (drop (k .j + 1) ls)
-    left-variable = length-variable (k .c .lengths) (k .book) (k .c .rhs) (k .c .size) (k .j) (k .asked .right .fits) (k .here) w is h
+    left-variable = length-variable (k .c .lengths) ls (k .j) (k .here) w is h
 
     below : k .to + n ≤ k .base
     below = (let v = k .writing in omega (arith, left-variable, v .left, k .asked .room))
@@ -140,7 +131,7 @@ module _ (k : Round) where
         omega (arith, k .writing .kept, k .asked .based)
 
     filled-variable : instance σ (take (k .j + 1) ls) ≡ before ++ σ (w - variable)
-    filled-variable = rw (add-one (k .j)) (fill-variable σ ls (k .j) more (w - variable) (word-is ∙ omega arith))
+    filled-variable = rw (add-one (k .j)) (fill-variable σ ls (k .j) (k .here) (w - variable) (omega arith))
 
     -- the stretch still stands where it stood
     stretch : part (k .base + from) n (k .ws) ≡ σ (w - variable)
@@ -155,7 +146,7 @@ module _ (k : Round) where
     pub writes-variable : (ws′ : List ℕ) → ws′ ≡ over (k .ws) (k .to) (part (k .base + from) n (k .ws)) → Wrote k (k .to + n) ws′
     writes-variable ws′ e =
         let v = k .writing in
-        let z = value-length (drop (k .base) (k .ws₀)) (instanceBindings (k .c)) (k .asked .inside) (w - variable) in
+        let z = value-length (drop (k .base) (k .ws₀)) (stretchBindings (k .c)) (k .asked .inside) (w - variable) in
         record {
           inside = omega (arith, k .here);
           kept = ap length e ∙ length-sets (k .ws) (k .to) (part (k .base + from) n (k .ws)) ∙ v .kept;

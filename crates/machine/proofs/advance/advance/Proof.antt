@@ -8,7 +8,7 @@ use Rattle.machine.proofs.advance.Advancing.{Advancing, advancing-start
 use Rattle.machine.proofs.advance.Arriving.{arrives-end, arrives-deep, arrives-ready}
 use Rattle.machine.specs.advance.Area.{Tracks}
 use Rattle.machine.proofs.advance.advance.Proof.Places.{Inv-loop, μ-loop, within, reading, entered, taken, round, same-area, same-positions}
-use Rattle.machine.proofs.advance.advance.Proof.Places.{trying, tried, none-matches, left, left-bounds, left-down, left-inner}
+use Rattle.machine.proofs.advance.advance.Proof.Places.{trying, tried, none-matches, some-rule, left, left-bounds, left-down, left-inner}
 use Rattle.machine.proofs.advance.advance.Statement.{statement}
 use Rattle.machine.proofs.advance.advance.Tie as tie
 
@@ -75,17 +75,16 @@ loop-again-2 c =
     (none-matches (c .before .before) (c .enum-told3 .given .1) .on, same-area m, same-positions m)
 
 same-length : tie.Need-same-length Inv-loop μ-loop
-same-length c = same-area (tried (c .before .before .before) .before .before)
+same-length c = same-area (tried (c .before .before) .before .before)
 
 same-length-2 : tie.Need-same-length-2 Inv-loop μ-loop
-same-length-2 c = same-positions (tried (c .before .before .before) .before .before)
+same-length-2 c = same-positions (tried (c .before .before) .before .before)
 
 returns : tie.Need-returns Inv-loop μ-loop
 returns c =
-    let x = c .before .before .before in
+    let x = c .before .before in
     let k = x .before .first-rule in
-    let g = c .before .enum-told4 .given in
-    arrives-ready (round (tried x .before .before)) (tried x .enum-told2 .given .1) (k .result) (k .ensures) (g .0 .0) (g .0 .1 .0) (g .0 .1 .1 .0) (g .1)
+    arrives-ready (round (tried x .before .before)) (tried x .enum-told2 .given .1) (k .result) (k .ensures) (some-rule _ (c .before .match2 .keys2))
     (c .ready .result) (c .ready .ensures)
 
 -- ---- an argument is opened
@@ -94,10 +93,10 @@ add-level : tie.Need-add-level Inv-loop μ-loop
 add-level c = let w = round-bounds (round (c .before .before)) in omega arith
 
 loop-less-3 : tie.Need-loop-less-3 Inv-loop μ-loop
-loop-less-3 c = goes-argument (round (c .before .before)) (c .enum-told5 .given .1) .less
+loop-less-3 c = goes-argument (round (c .before .before)) (c .enum-told4 .given .1) .less
 
 loop-again-3 : tie.Need-loop-again-3 Inv-loop μ-loop
-loop-again-3 c = let m = c .before .before in (goes-argument (round m) (c .enum-told5 .given .1) .on, same-area m, same-positions m)
+loop-again-3 c = let m = c .before .before in (goes-argument (round m) (c .enum-told4 .given .1) .on, same-area m, same-positions m)
 
 -- ---- the strategy is at its end
 
@@ -110,7 +109,7 @@ same-length-4 c = same-positions (c .before .before .before .before)
 returns-2 : tie.Need-returns-2 Inv-loop μ-loop
 returns-2 c =
     let x = c .before .before in
-    arrives-end (round (x .before .before)) (x .enum-told6 .given .1) (c .before .if1 .taken) (c .stopped .result) (c .stopped .ensures .0)
+    arrives-end (round (x .before .before)) (x .enum-told5 .given .1) (c .before .if1 .taken) (c .stopped .result) (c .stopped .ensures .0)
 
 add-wide-2 : tie.Need-add-wide-2 Inv-loop μ-loop
 add-wide-2 c = let w = left-bounds (c .before) in omega arith
@@ -144,7 +143,7 @@ same-length-6 c = same-positions (c .before .before .before)
 returns-3 : tie.Need-returns-3 Inv-loop μ-loop
 returns-3 c =
     let k = c .stopped2 in
-    arrives-deep (round (c .before .before .before)) (c .before .enum-told7 .given .1) (k .result) (k .ensures .0) (k .ensures .1)
+    arrives-deep (round (c .before .before .before)) (c .before .enum-told6 .given .1) (k .result) (k .ensures .0) (k .ensures .1)
 
 pub advance-spec : {M : Type 1} → statement M
 advance-spec =
@@ -152,7 +151,7 @@ advance-spec =
     (tie.spec
     Inv-loop μ-loop add-wide mul-wide slice-read-wide (λ c κs. search needs) loop-holds (λ c κs. search needs) take-transition-requires
     (λ c. search needs) loop-less loop-again (λ c. search needs) mul-p slice-read-p mul-first-rule sub-first-rule part-first-rule-start
-    part-first-rule-end (λ c κs. search needs) (λ c. search needs) loop-less-2 loop-again-2 (λ c. search needs) (λ c κs. search needs)
+    part-first-rule-end (λ c κs. search needs) (λ c. search needs) loop-less-2 loop-again-2 (λ c κs. search needs)
     same-length same-length-2 returns (λ c. search needs) add-level loop-less-3 loop-again-3 (λ c. search needs) (λ c κs. search needs)
     same-length-3 same-length-4 returns-2 (λ c. search needs) add-wide-2 mul-wide-2 slice-read-wide-2 (λ c κs. search needs) loop-less-4
     loop-again-4 loop-less-5 loop-again-5 (λ c. search needs) (λ c κs. search needs) same-length-5 same-length-6 returns-3)

@@ -1,5 +1,6 @@
 -- `reducts::write_reduct` meets its contract. The loop's invariant: the words that were passed are written, filled.
 use Prim.Native.Nat.{_-_}
+use lib.ListN.{length}
 use native.Mathlib.Omega.{arith}
 use borrow.Author.Needs.{needs}
 use Rattle.machine.proofs.reducts.Writing.{Writing, writing-starts, writing-ends, Round, symbol-room, writes-symbol, variable-known, variable-room, binding-room, writes-variable}
@@ -7,11 +8,10 @@ use Rattle.machine.proofs.reducts.write_reduct.Statement.{statement}
 use Rattle.machine.proofs.reducts.write_reduct.Tie as tie
 
 abbrev Inv-loop : tie.InvT-loop
-Inv-loop book area₀ at base rhs size starts lengths to₀ j₀ area to j =
-    Writing book area₀ (record { rhs = rhs; size = size; starts = starts; lengths = lengths }) at base to j area
+Inv-loop side area₀ at base starts lengths to₀ j₀ area to j = Writing side area₀ (record { starts = starts; lengths = lengths }) at base to j area
 
 abbrev μ-loop : tie.MeasureT-loop
-μ-loop book area₀ at base rhs size starts lengths to₀ j₀ area to j = size - j
+μ-loop side area₀ at base starts lengths to₀ j₀ area to j = length side - j
 
 -- ---- the places of the code that are behind others: the entry, the loop's head, a variable met
 
@@ -31,7 +31,7 @@ round c =
     let a = x .args in
     let l = head c .loop in
     record {
-      book = a .book .now;
+      side = a .side .now;
       ws₀ = a .area .now;
       c = a .c;
       at = a .at;
@@ -49,7 +49,7 @@ round c =
 loop-holds : tie.Need-loop-holds Inv-loop μ-loop
 loop-holds c =
     let a = c .before .before .before .before .args in
-    writing-starts (a .book .now) (a .area .now) (a .c) (a .at) (a .base)
+    writing-starts (a .side .now) (a .area .now) (a .c) (a .at) (a .base)
 
 slice-write-area : tie.Need-slice-write-area Inv-loop μ-loop
 slice-write-area c = symbol-room (round (c .before)) (omega (arith, c .before .wide .ensures .0, c .if1 .taken))
@@ -92,13 +92,13 @@ returns c =
     let x = entry (c .before) in
     let a = x .args in
     let l = c .before .loop in
-    writing-ends (a .book .now) (a .area .now) (a .c) (a .at) (a .base) (x .pre) (l .to) (l .j) (l .area) (l .inv) (c .loop-test .left)
+    writing-ends (a .side .now) (a .area .now) (a .c) (a .at) (a .base) (x .pre) (l .to) (l .j) (l .area) (l .inv) (c .loop-test .left)
 
 pub write-reduct-spec : {M : Type 1} → statement M
 write-reduct-spec =
     tie.close
     (tie.spec
-    Inv-loop μ-loop loop-holds (λ c. search needs) (λ c. search needs) (λ c. search needs) (λ c κs. search needs) (λ c. search needs)
+    Inv-loop μ-loop loop-holds (λ c. search needs) (λ c. search needs) (λ c κs. search needs) (λ c. search needs)
     (λ c. search needs) slice-write-area (λ c. search needs) (λ c. search needs) loop-again (λ c. search needs) array-read-n
     (λ c. search needs) array-read-move-words add-move-words move-words-requires add-to-2 (λ c. search needs) loop-again-2
     (λ c. search needs) returns)

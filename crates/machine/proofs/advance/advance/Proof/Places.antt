@@ -4,9 +4,15 @@
 use Prim.Native.Nat.{_-_, _<_}
 use native.Mathlib.Omega.{arith}
 use mathlib.Core.Path.{_≡_, _∙_, subst}
+use mathlib.Core.Logic.{inl, inr}
+use mathlib.Core.List.{[], _∷_}
 use lib.ListN.{length}
+use types.Run.{OneOf}
+use denote.Enum.Declared.{tagOf}
 use Rattle.system.specs.Limits.{areaWords}
 use Rattle.system.specs.Book.{systemOf}
+use Rattle.matching.specs.declared.FirstRule.{FirstRule}
+use Rattle.matching.proofs.FirstRule.{the-type}
 use Rattle.matching.specs.declared.FirstRule.the-variants.{Nothing}
 use Rattle.machine.specs.advance.Transition.{Performed}
 use Rattle.machine.proofs.advance.Bounds.{Bounds, bounds}
@@ -89,6 +95,14 @@ none-matches c q =
     let k = c .before .first-rule in
     goes-rules (round (tried c .before .before)) (tried c .enum-told2 .given .1) (k .result) (k .ensures) q
 
+-- one matches, whichever of the two kinds it is
+pub some-rule : (f : FirstRule) → OneOf (1 ∷ 2 ∷ []) (tagOf the-type f) → f ≡ Nothing → ⊥
+some-rule f k q = go (subst (λ y. OneOf (1 ∷ 2 ∷ []) (tagOf the-type y)) q k)
+  where
+    go : OneOf (1 ∷ 2 ∷ []) 0 → ⊥
+    go (inl e) = omega arith
+    go (inr e) = omega arith
+
 -- where a level is left that is not the outermost one
 abbrev pub left : tie.Else1 Inv-loop μ-loop → tie.After-slice-known5 Inv-loop μ-loop
 left c = c .before .before .before
@@ -102,9 +116,9 @@ left-bounds c = let w = round-bounds (round (left c)) in (w .shallow, taken (lef
 pub left-down : (c : tie.After-wide2 Inv-loop μ-loop) → let τ = round (left (c .before .before .before)) in Goes τ (τ .level - 1) (τ .level - 1) (c .wide2 .result)
 left-down c =
     let x = c .before .before .before in
-    goes-down (round (left x)) (x .before .enum-told6 .given .1) (some-around x) (c .wide2 .result) (c .wide2 .ensures .0)
+    goes-down (round (left x)) (x .before .enum-told5 .given .1) (some-around x) (c .wide2 .result) (c .wide2 .ensures .0)
 
 pub left-inner : (c : tie.Else2 Inv-loop μ-loop) → let τ = round (left (c .before)) in Goes τ (τ .level - 1) (τ .floor) (τ .since)
 left-inner c =
     let x = c .before in
-    goes-left (round (left x)) (x .before .enum-told6 .given .1) (some-around x) (let h = c .if2 .left in omega arith)
+    goes-left (round (left x)) (x .before .enum-told5 .given .1) (some-around x) (let h = c .if2 .left in omega arith)
