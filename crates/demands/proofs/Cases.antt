@@ -1,23 +1,34 @@
 -- All starred cases, computed: one fact for the whole table.
 use mathlib.Core.Path.{refl}
 use Rattle.buffers.specs.Words.{zeros}
+use Rattle.system.specs.BuiltIns.{isLiteral, isBuiltIn, isOperator, builtInArity, builtInStrategy, larger, smaller}
 use Rattle.system.specs.Signature.{isSymbol, arity, span, argument, replace}
 use Rattle.system.specs.System.{strategy, instance}
-use Rattle.system.specs.Parser.{read, readSystem, readRules, readEnd, readRule, readSide, readWords, readStrategy, number, word, learn, sideFault, variableFault, outside, each, times}
+use Rattle.system.specs.Parser.{read, readSystem, readRules, readEnd, readRule, readSide, readWords, readStrategy, number, word, learn, sideFault, symbolFault, variableFault, outside, each, times}
 use Rattle.system.specs.TermCheck.{termFault}
 use Rattle.system.specs.Answers.{termAnswer}
 use Rattle.system.specs.Book.{systemOf}
 use Rattle.matching.specs.StrategyTest.{passes, every, closes, idles, idleTest, isVariable, constructs, firstFailing, testAnswer}
 use Rattle.matching.specs.Cases.{strategyCases}
-use Rattle.matching.specs.Matching.{bind, firstMatch, contraction}
+use Rattle.matching.specs.Matching.{bind, firstMatch, operation, applied, computed, contraction}
 use Rattle.system.specs.Cases.{Hold, bookB, readerCases}
 use Rattle.rewriting.specs.Evaluation.{rewrite, follow, atRoot, evaluate, evaluation}
 use Rattle.evaluation.specs.Expansion.{room, earlier, expansion}
-use Rattle.demands.specs.Cases.{expanding, evaluatorCases, starred}
+use Rattle.demands.specs.Cases.{expanding, evaluatorCases, starred, levelCases}
 
 pub starred-cases : Hold starred
 unfolding starred readerCases strategyCases evaluatorCases testAnswer firstFailing passes every closes idles idleTest isVariable constructs
     expanding bookB zeros expansion room earlier evaluation evaluate atRoot follow rewrite systemOf contraction firstMatch bind instance
     span argument replace strategy read readSystem readRules readEnd readRule readSide readWords readStrategy number word learn sideFault
-    variableFault outside each times termFault termAnswer isSymbol arity
+    symbolFault variableFault outside each times termFault termAnswer isSymbol arity isLiteral isBuiltIn isOperator builtInArity builtInStrategy
+    computed applied operation larger smaller
 starred-cases = refl
+
+-- and those of levels
+pub level-cases : Hold levelCases
+unfolding levelCases
+    expanding bookB zeros expansion room earlier evaluation evaluate atRoot follow rewrite systemOf contraction firstMatch bind instance
+    span argument replace strategy read readSystem readRules readEnd readRule readSide readWords readStrategy number word learn sideFault
+    symbolFault variableFault outside each times termFault termAnswer isSymbol arity isLiteral isBuiltIn isOperator builtInArity builtInStrategy
+    computed applied operation larger smaller
+level-cases = refl

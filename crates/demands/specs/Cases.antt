@@ -1,6 +1,7 @@
 -- The starred cases of the evaluator (01: "Rehearsal cues"), which carry on the table of the layers below. What is expected is written from 01.
 use Prim.Native.Nat.{ℕ, zero, suc}
 use mathlib.Core.List.{List, [], _∷_, _++_}
+use lib.ListN.{set}
 use Rattle.buffers.specs.Words.{zeros}
 use Rattle.system.specs.Cases.{Case, numbers, bookB, earlyB, readerCases}
 use Rattle.matching.specs.Cases.{strategyCases}
@@ -36,3 +37,33 @@ evaluatorCases =
 -- all starred cases, C1 to C12
 unfoldable pub starred : List Case
 starred = readerCases ++ (strategyCases ++ evaluatorCases)
+
+-- ---- levels (02, F-2), over book B. What is expected is written from 02; the label is the request's number
+
+-- word 20, the first left side's first word, made another; and word 26, the second one's, with placeholders in the wrong order behind it
+abbrev pub startsWith : ℕ → List ℕ
+startsWith w = set bookB 20 w
+
+abbrev pub alsoStray : List ℕ
+alsoStray = set (set bookB 26 16640) 28 32769
+
+unfoldable pub levelCases : List Case
+levelCases =
+    -- "Word 16640 is 'higher of', 16641 'lower of' .. where both arguments are levels, a step puts the larger or smaller level there"
+    record { label = 2; got = expanding bookB (16640 ∷ 16387 ∷ 16584 ∷ []) 1; expected = 0 ∷ 1 ∷ 1 ∷ 16584 ∷ [] }
+    ∷ record { label = 2; got = expanding bookB (16641 ∷ 16387 ∷ 16584 ∷ []) 1; expected = 0 ∷ 1 ∷ 1 ∷ 16387 ∷ [] }
+    -- "two arguments each, order 1 2 0"
+    ∷ record { label = 2; got = expanding bookB (16640 ∷ 16641 ∷ 16387 ∷ 16584 ∷ 16394 ∷ []) 2; expected = 0 ∷ 1 ∷ 2 ∷ 16394 ∷ [] }
+    ∷ record { label = 2; got = expanding bookB (16640 ∷ 16641 ∷ 16387 ∷ 16584 ∷ 16394 ∷ []) 1; expected = 11 ∷ 0 ∷ 1 ∷ [] }
+    ∷ record { label = 2; got = expanding bookB (16640 ∷ 16387 ∷ 0 ∷ []) 9; expected = 0 ∷ 3 ∷ 0 ∷ 16640 ∷ 16387 ∷ 0 ∷ [] }
+    -- levels as arguments of names: head(then(level 16, chase))
+    ∷ record { label = 2; got = expanding bookB (2 ∷ 1 ∷ 16400 ∷ 4 ∷ []) 9; expected = 0 ∷ 1 ∷ 1 ∷ 16400 ∷ [] }
+    -- "Words 16384 to 16639 stand for levels 0 to 255": what is behind 16641 is no word of a cue, and none of a side
+    ∷ record { label = 2; got = expanding bookB (16642 ∷ []) 9; expected = 9 ∷ 0 ∷ 0 ∷ [] }
+    ∷ record { label = 2; got = expanding bookB (16640 ∷ 16639 ∷ []) 9; expected = 9 ∷ 2 ∷ 0 ∷ [] }
+    ∷ record { label = 2; got = expanding (startsWith 16642) (0 ∷ []) 9; expected = 4 ∷ 20 ∷ 0 ∷ [] }
+    -- "15, place that word's index and 0 steps, where a left side starts with a level or either of these words, checked where 6 is"
+    ∷ record { label = 2; got = expanding (startsWith 16384) (0 ∷ []) 9; expected = 15 ∷ 20 ∷ 0 ∷ [] }
+    ∷ record { label = 2; got = expanding (startsWith 16641) (0 ∷ []) 9; expected = 15 ∷ 20 ∷ 0 ∷ [] }
+    ∷ record { label = 2; got = expanding alsoStray (0 ∷ []) 9; expected = 15 ∷ 26 ∷ 0 ∷ [] }
+    ∷ []
