@@ -1,10 +1,11 @@
 -- What is printed of a book, written out here by hand and computed from the definition: one fact.
 use mathlib.Core.Path.{_≡_, refl}
 use mathlib.Core.List.{[], _∷_}
-use lib.ListN.{replicate}
+use lib.ListN.{replicate, set}
+use Rattle.system.specs.BuiltIns.{isBuiltIn, isOperator, builtInArity, builtInStrategy}
 use Rattle.system.specs.Signature.{isSymbol, arity, span, argument}
 use Rattle.system.specs.System.{strategy}
-use Rattle.system.specs.Parser.{read, readSystem, readRules, readEnd, readRule, readSide, readWords, readStrategy, number, word, learn, sideFault, variableFault, outside, each, times}
+use Rattle.system.specs.Parser.{read, readSystem, readRules, readEnd, readRule, readSide, readWords, readStrategy, number, word, learn, sideFault, symbolFault, variableFault, outside, each, times}
 use Rattle.system.specs.Cases.{bookB, cutB, longB, twiceB, earlyB}
 use Rattle.matching.specs.StrategyTest.{passes, every, closes, idles, idleTest, isVariable, constructs, firstFailing, testAnswer}
 use Rattle.printing.specs.Text.{ascii, decimalIn, decimal}
@@ -26,7 +27,10 @@ pub verdict-cases :
     -- "Without its last word: 1 at 38"; "With one word more: 8 at 39"
     × (bookText cutB ≡ ascii "show.book: short at word 38: a word the book needs is missing\n")
     × (bookText longB ≡ ascii "show.book: surplus at word 39: words after the last rule\n")
+    -- 02, F-2: word 20, the first word of a left side, made level 0
+    × (bookText (set bookB 20 16384) ≡ ascii "show.book: builtin at word 20: a left side starts with a level or a built-in word\n")
 unfolding check wordsOf decimalIn decimal refusalLine takenLine orderLine bookText textOf bookB
     testAnswer firstFailing passes every closes idles idleTest isVariable constructs strategy span argument
-    read readSystem readRules readEnd readRule readSide readWords readStrategy number word learn sideFault variableFault outside each times isSymbol arity
-verdict-cases = (refl, refl, refl, refl, refl, refl, refl, refl)
+    read readSystem readRules readEnd readRule readSide readWords readStrategy number word learn sideFault symbolFault variableFault outside each times isSymbol arity
+    isBuiltIn isOperator builtInArity builtInStrategy
+verdict-cases = (refl, refl, refl, refl, refl, refl, refl, refl, refl)

@@ -3,7 +3,7 @@ use Prim.Native.Nat.{ℕ, zero, suc}
 use Prim.Native.String.{String}
 use mathlib.Core.List.{List, _++_}
 use Rattle.system.specs.declared.Answer.{Answer}
-use Rattle.system.specs.Numbers.{Fault, missing, range, entry, unknown, unbalanced, variableHead, unbound, trailing}
+use Rattle.system.specs.Numbers.{Fault, missing, range, entry, unknown, unbalanced, variableHead, unbound, trailing, builtInHead}
 use Rattle.system.specs.Parser.{ok, fault, read}
 use Rattle.matching.specs.StrategyTest.{testAnswer}
 use Rattle.printing.specs.Text.{ascii, decimal, line}
@@ -23,6 +23,7 @@ row unbalanced = record { word = "ragged"; when = "a side is complete too early,
 row variableHead = record { word = "headless"; when = "a left side starts with a placeholder" }
 row unbound = record { word = "stray"; when = "a left placeholder is not the next one, or a right one is not in the left" }
 row trailing = record { word = "surplus"; when = "words after the last rule" }
+row builtInHead = record { word = "builtin"; when = "a left side starts with a level or a built-in word" }
 
 -- 14, and in place of "the order test failed" what failed: not "its order holds a 0 and every entry after the last 0 is an idle argument"
 abbrev pub unsettledRow : Row
@@ -32,7 +33,7 @@ unsettledRow = record { word = "unsettled"; when = "its order holds no 0, or an 
 unfoldable pub refusalLine : String → Row → String → ℕ → List ℕ
 refusalLine what r kind place = line (ascii what ++ ascii (r .word) ++ ascii kind ++ decimal place ++ ascii ": " ++ ascii (r .when))
 
--- "For 1 to 8 the place is the index of the word being read"
+-- "For 1 to 8" (and 15) "the place is the index of the word being read"
 abbrev pub faultLine : Fault → ℕ → List ℕ
 faultLine f i = refusalLine "show.book: " (row f) " at word " i
 

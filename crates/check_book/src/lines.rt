@@ -9,6 +9,7 @@ use printing::put;
 use printing::put_decimal;
 use printing::put_line;
 use system::Answer;
+use system::numbers::BUILT_IN_HEAD;
 use system::numbers::ENTRY;
 use system::numbers::MISSING;
 use system::numbers::RANGE;
@@ -79,6 +80,12 @@ pub fn put_fault(text: &mut [u8], a: Answer) -> usize
             b"stray",
             at,
             b"a left placeholder is not the next one, or a right one is not in the left",
+        ),
+        BUILT_IN_HEAD => put_row(
+            text,
+            b"builtin",
+            at,
+            b"a left side starts with a level or a built-in word",
         ),
         _ => put_row(text, b"surplus", at, b"words after the last rule"),
     }

@@ -3,7 +3,7 @@ use Rattle.system.specs.declared.Answer.{Answer}
 use Rattle.system.specs.declared.Shape.{Shape}
 use Rattle.system.specs.declared.ArgumentSpan.{ArgumentSpan}
 use Rattle.matching.specs.declared.Match.{Match}
-use Rattle.matching.specs.declared.FirstRule.the-variants.{Nothing, First}
+use Rattle.matching.specs.declared.FirstRule.the-variants.{Nothing, First, Computed}
 use Rattle.cue.specs.declared.CueAnswer.{CueAnswer}
 use Rattle.cue.specs.declared.CueShape.{CueShape}
 use Rattle.cue.specs.declared.CuePart.{CuePart}
@@ -28,6 +28,7 @@ partFor s = record { start = s .start; length = s .length }
 abbrev pub matchFor : Match → CueMatch
 matchFor m =
     elim (m .rule) [
-      | Nothing ↦ record { found = 0; number = 0; rhs = 0; size = 0; starts = m .starts; lengths = m .lengths }
-      | First k at n ↦ record { found = 1; number = k; rhs = at; size = n; starts = m .starts; lengths = m .lengths }
+      | Nothing ↦ record { found = 0; number = 0; rhs = 0; size = 0; starts = m .starts; lengths = m .lengths; word = 0 }
+      | First k at n ↦ record { found = 1; number = k; rhs = at; size = n; starts = m .starts; lengths = m .lengths; word = 0 }
+      | Computed k w ↦ record { found = 1; number = k; rhs = 0; size = 0; starts = m .starts; lengths = m .lengths; word = w }
     ]

@@ -4,8 +4,7 @@ ghost use mathlib.Core.Path.{_≡_};
 ghost use Rattle.system.specs.Answers.{answerOf, shapeOf, termAnswer, argumentSpan, signatureOf};
 ghost use Rattle.system.specs.Parser.{read};
 ghost use Rattle.system.specs.Signature.{span};
-ghost use Rattle.system.specs.Book.{systemOf};
-ghost use Rattle.matching.specs.Bindings.{matchOf};
+ghost use Rattle.matching.specs.Bindings.{matchIn};
 ghost use Rattle.matching.specs.Safety.{Tells};
 ghost use Rattle.matching.specs.StrategyTest.{testAnswer};
 ghost use Rattle.evaluation.specs.Expansion.{result, expansion};
@@ -40,7 +39,8 @@ pub struct CuePart {
 }
 
 // The first rule that matches, if `found` is 1: its number, where in the book its right side's words start and how many they are, and
-// for each variable where its words start in the subterm and how many they are.
+// for each variable where its words start in the subterm and how many they are. A built-in rule has no right side in the book: `word` is
+// what it puts there, and 0 of a listed rule.
 #[repr(C)]
 pub struct CueMatch {
     pub found: u32,
@@ -49,6 +49,7 @@ pub struct CueMatch {
     pub size: usize,
     pub starts: [usize; VARIABLES],
     pub lengths: [usize; VARIABLES],
+    pub word: u16,
 }
 
 // The answers of the strategy test and of the evaluator.
@@ -126,10 +127,10 @@ pub extern "C" fn cue_span(book: &[u16], ws: &[u16]) -> usize
     system::words::span(book, ws)
 }
 
-// The first rule of the book that matches the subterm at the front of ws.
+// The first rule that matches the subterm at the front of ws, listed or built in.
 #[no_mangle]
 pub extern "C" fn cue_first_match(book: &[u16], ws: &[u16]) -> CueMatch
-    ensures { λ r. ⌜ r ≡ matchFor (matchOf (systemOf (now (book .entry))) (now (ws .entry))) ⌝ }
+    ensures { λ r. ⌜ r ≡ matchFor (matchIn (now (book .entry)) (now (ws .entry))) ⌝ }
 {
     let m = matching::first_match(book, ws);
     let starts = m.starts;
@@ -143,6 +144,7 @@ pub extern "C" fn cue_first_match(book: &[u16], ws: &[u16]) -> CueMatch
             size: 0,
             starts: starts,
             lengths: lengths,
+            word: 0,
         },
         FirstRule::First { number, rhs, size } => CueMatch {
             found: 1,
@@ -151,6 +153,16 @@ pub extern "C" fn cue_first_match(book: &[u16], ws: &[u16]) -> CueMatch
             size: size,
             starts: starts,
             lengths: lengths,
+            word: 0,
+        },
+        FirstRule::Computed { number, word } => CueMatch {
+            found: 1,
+            number: number,
+            rhs: 0,
+            size: 0,
+            starts: starts,
+            lengths: lengths,
+            word: word,
         },
     }
 }

@@ -6,8 +6,9 @@ use native.Mathlib.Decide.{decLt, ℕ-discrete}
 use mathlib.Core.Path.{_≡_, refl, sym, _∙_}
 use mathlib.Core.List.{List, [], _∷_, _++_, append-assoc}
 use lib.ListN.{length, List·getD-eq-default}
+use borrow.Author.Tests.{ne-eqb}
 use Rattle.system.specs.declared.Answer.{Answer}
-use Rattle.system.specs.Numbers.{Fault, missing, range, entry, unknown, unbalanced, variableHead, unbound, trailing, faultNumber}
+use Rattle.system.specs.Numbers.{Fault, missing, range, entry, unknown, unbalanced, variableHead, unbound, trailing, builtInHead, faultNumber}
 use Rattle.printing.specs.Text.{ascii, decimal, line, Written}
 use Rattle.printing.proofs.Decimals.{decimal-length}
 use Rattle.check_book.specs.Verdict.{Row, row, refusalLine, faultLine, unsettledRow, orderLine}
@@ -29,6 +30,7 @@ fault-of unbalanced = refl
 fault-of variableHead = refl
 fault-of unbound = refl
 fault-of trailing = refl
+fault-of builtInHead = refl
 
 -- n is none of the numbers 1 to k, as the arms of a `match` leave it to the last
 abbrev Left : ℕ → ℕ → Type 0
@@ -39,13 +41,13 @@ left-zero : (n k : ℕ) → Left n k → n ≤ k → n ≡ 0
 left-zero n zero l h = omega arith
 left-zero n (suc k) l h = elim (ℕ-discrete n (suc k)) [ yes e ↦ absurd (l .1 e) | no d ↦ left-zero n k (l .0) (omega arith) ]
 
-pub fault-last : (n : ℕ) → Left n 7 → faultOf n ≡ trailing
+pub fault-last : (n : ℕ) → Left n 7 × (n ≡ 15 → ⊥) → faultOf n ≡ trailing
 unfolding faultOf
-fault-last n l =
-    elim (decLt n 8) [
-      | yes h ↦ rw (left-zero n 7 l (omega arith))
-      | no h ↦ List·getD-eq-default faults trailing {n = n} (omega arith)
-    ]
+fault-last n l = rw (ne-eqb n 15 (l .1)) (
+  elim (decLt n 8) [
+    | yes h ↦ rw (left-zero n 7 (l .0) (omega arith))
+    | no h ↦ List·getD-eq-default faults trailing {n = n} (omega arith)
+  ])
 
 -- ---- a refusal's line: what and its word, then the place
 

@@ -1,7 +1,7 @@
 -- `put_fault` meets its contract.
 use mathlib.Core.Path.{ap}
 use borrow.Author.Needs.{needs}
-use Rattle.system.specs.Numbers.{missing, range, entry, unknown, unbalanced, variableHead, unbound, trailing}
+use Rattle.system.specs.Numbers.{missing, range, entry, unknown, unbalanced, variableHead, unbound, trailing, builtInHead}
 use Rattle.check_book.specs.lines.Rows.{faultOf}
 use Rattle.check_book.proofs.lines.Rows.{fault-last, row-told}
 use Rattle.check_book.proofs.lines.put_fault.Statement.{statement}
@@ -64,11 +64,19 @@ returns-7 c =
     row-told unbound (a .number) (a .place) (ap faultOf (m .match .keys7)) (w .put-row7 .ensures)
 
 returns-8 : tie.Need-returns-8
+unfolding faultOf
 returns-8 c =
     let w = c .before .before in
     let m = w .before .before .before .before in
     let a = m .before .before .args .a in
-    row-told trailing (a .number) (a .place) (fault-last (a .number) (m .match .rest)) (w .put-row8 .ensures)
+    row-told builtInHead (a .number) (a .place) (ap faultOf (m .match .keys8)) (w .put-row8 .ensures)
+
+returns-9 : tie.Need-returns-9
+returns-9 c =
+    let w = c .before .before in
+    let m = w .before .before .before .before in
+    let a = m .before .before .args .a in
+    row-told trailing (a .number) (a .place) (fault-last (a .number) (m .match .rest)) (w .put-row9 .ensures)
 
 pub put-fault-spec : {M : Type 1} → statement M
 put-fault-spec =
@@ -78,5 +86,7 @@ put-fault-spec =
     (λ c. search needs) (λ c. search needs) (λ c κs. search needs) (λ c. search needs) (λ c. search needs) (λ c κs. search needs)
     (λ c. search needs) (λ c. search needs) (λ c κs. search needs) (λ c. search needs) (λ c. search needs) (λ c κs. search needs)
     (λ c. search needs) (λ c. search needs) (λ c κs. search needs) (λ c. search needs) (λ c. search needs) (λ c κs. search needs)
+    (λ c. search needs) (λ c. search needs) (λ c κs. search needs)
     (λ c. search needs) returns (λ c. search needs) returns-2 (λ c. search needs) returns-3 (λ c. search needs) returns-4
-    (λ c. search needs) returns-5 (λ c. search needs) returns-6 (λ c. search needs) returns-7 (λ c. search needs) returns-8)
+    (λ c. search needs) returns-5 (λ c. search needs) returns-6 (λ c. search needs) returns-7 (λ c. search needs) returns-8
+    (λ c. search needs) returns-9)
