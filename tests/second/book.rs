@@ -1,4 +1,4 @@
-//! Show books and cues, read into trees, straight from the paper's text (01, "The show book" and "The table of numbers").
+//! Show books and cues, read into trees, straight from the paper's text (01, "The show book" and "The table of numbers"; 02, F-1 and F-2).
 
 use std::cell::Cell;
 use std::rc::Rc;
@@ -8,6 +8,28 @@ pub type Fault = (u32, usize);
 
 pub const HOLE: u16 = 32768;
 pub const LONGEST: usize = 4096;
+
+/// "Words 16384 to 16639 stand for levels 0 to 255" (02, F-2): level n is the word LEVEL + n.
+pub const LEVEL: u16 = 16384;
+/// "Word 16640 is "higher of", 16641 "lower of"."
+pub const HIGHER: u16 = 16640;
+pub const LOWER: u16 = 16641;
+/// "These act as rules 128 and 129."
+pub const HIGHER_RULE: usize = 128;
+pub const LOWER_RULE: usize = 129;
+
+pub fn is_level(w: u16) -> bool {
+    (LEVEL..HIGHER).contains(&w)
+}
+
+/// The words that no book lists: a level "with no arguments", and the other two with "two arguments each, order 1 2 0". The argument count
+/// of such a word, and its order.
+pub fn built_in(w: u16) -> Option<(usize, &'static [usize])> {
+    match w {
+        HIGHER | LOWER => Some((2, &[1, 2, 0])),
+        _ => is_level(w).then_some((0, &[])),
+    }
+}
 
 /// A side of a rule.
 #[derive(Clone, Debug, PartialEq)]
@@ -74,11 +96,11 @@ impl Pages<'_> {
         Ok(w)
     }
 
-    fn side(&mut self, names: &[usize], left: bool, holes: usize) -> Result<(Side, Vec<u16>, usize, usize), Fault> {
+    fn side(&mut self, book: &Book, left: bool, holes: usize) -> Result<(Side, Vec<u16>, usize, usize), Fault> {
         let length = self.between(1, 64, 2)?;
         let start = self.at;
         let mut r = Reading { left, first: true, end: start + length, holes };
-        let side = self.tree(names, &mut r)?;
+        let side = self.tree(book, &mut r)?;
         if self.at < r.end {
             // complete too early: 1 is checked before 5
             let at = self.at;
@@ -88,35 +110,39 @@ impl Pages<'_> {
         Ok((side, self.words[start..self.at].to_vec(), start, r.holes))
     }
 
-    fn tree(&mut self, names: &[usize], r: &mut Reading) -> Result<Side, Fault> {
+    /// At one word the checks run 1, 5 (a side that is complete too early: above), 4, then 6 or 15, then 7.
+    fn tree(&mut self, book: &Book, r: &mut Reading) -> Result<Side, Fault> {
         if self.at == r.end {
             return Err((5, self.at));
         }
         let at = self.at;
         let w = self.word()?;
-        let first = std::mem::replace(&mut r.first, false);
-        if (w as usize) < names.len() {
+        let count = book.arguments(w);
+        if count.is_none() && !(HOLE..HOLE + 16).contains(&w) {
+            return Err((4, at));
+        }
+        if std::mem::replace(&mut r.first, false) && r.left {
+            if w >= HOLE {
+                return Err((6, at));
+            }
+            // "15, place that word's index and 0 steps, where a left side starts with a level or either of these words, checked where 6 is"
+            if built_in(w).is_some() {
+                return Err((15, at));
+            }
+        }
+        if let Some(n) = count {
             let mut arguments = vec![];
-            for _ in 0..names[w as usize] {
-                arguments.push(self.tree(names, r)?);
+            for _ in 0..n {
+                arguments.push(self.tree(book, r)?);
             }
             return Ok(Side::Named(w, arguments));
         }
-        if !(HOLE..HOLE + 16).contains(&w) {
-            return Err((4, at));
-        }
         let k = (w - HOLE) as usize;
-        if r.left {
-            if first {
-                return Err((6, at));
-            }
-            if k != r.holes {
-                return Err((7, at));
-            }
-            r.holes += 1;
-        } else if k >= r.holes {
+        let stray = if r.left { k != r.holes } else { k >= r.holes };
+        if stray {
             return Err((7, at));
         }
+        r.holes += r.left as usize;
         Ok(Side::Hole(k))
     }
 
@@ -138,17 +164,16 @@ impl Pages<'_> {
             names.push(Name { arguments, order });
         }
         let n = self.between(0, 128, 2)?;
-        let rules_at = self.at;
-        let mut rules = vec![];
+        let mut book = Book { names, rules: vec![], orders_at, rules_at: self.at };
         for _ in 0..n {
-            let (left, left_words, _, holes) = self.side(&counts, true, 0)?;
-            let (right, right_words, right_at, _) = self.side(&counts, false, holes)?;
-            rules.push(Rule { left, right, left_words, right_words, right_at });
+            let (left, left_words, _, holes) = self.side(&book, true, 0)?;
+            let (right, right_words, right_at, _) = self.side(&book, false, holes)?;
+            book.rules.push(Rule { left, right, left_words, right_words, right_at });
         }
         if self.at < self.words.len() {
             return Err((8, self.at));
         }
-        Ok(Book { names, rules, orders_at, rules_at })
+        Ok(book)
     }
 }
 
@@ -198,15 +223,27 @@ impl Cue {
 }
 
 impl Book {
+    /// How many arguments a word has that may stand in a cue.
+    pub fn arguments(&self, w: u16) -> Option<usize> {
+        let listed = || self.names.get(w as usize).map(|n| n.arguments);
+        built_in(w).map(|b| b.0).or_else(listed)
+    }
+
+    /// The order of a word of a cue.
+    pub fn order(&self, w: u16) -> &[usize] {
+        built_in(w).map_or_else(|| &self.names[w as usize].order[..], |b| b.1)
+    }
+
     fn part(&self, words: &[u16], at: &mut usize) -> Result<Rc<Cue>, usize> {
-        // it ends early; no word can stand at index 4,096; the word is no name
-        if *at == words.len() || *at == LONGEST || words[*at] as usize >= self.names.len() {
+        // it ends early; no word can stand at index 4,096; the word can't stand in a cue
+        if *at == words.len() || *at == LONGEST {
             return Err(*at);
         }
         let name = words[*at];
+        let count = self.arguments(name).ok_or(*at)?;
         *at += 1;
         let mut arguments = vec![];
-        for _ in 0..self.names[name as usize].arguments {
+        for _ in 0..count {
             arguments.push(self.part(words, at)?);
         }
         Ok(Cue::new(name, arguments))
@@ -236,7 +273,8 @@ impl Book {
         Some((1 + before, &cue.arguments[i - 1]))
     }
 
-    /// The names that fail the order test, from the lowest-numbered on.
+    /// The names that fail the order test, from the lowest-numbered on. "Order test and evaluation cover them as if their 131,072 instances
+    /// stood in the book" (02, F-2): left sides then start with the two built-in words too, but these pass, as their order ends with its 0.
     pub fn failing(&self, plant: Plant) -> Vec<usize> {
         (0..self.names.len()).filter(|&f| !self.passes(f, plant)).collect()
     }
@@ -286,4 +324,8 @@ pub enum Plant {
     Evaluated,
     /// the order test tells the highest-numbered name that fails
     LastFailing,
+    /// "lower of" puts the larger level there
+    Larger,
+    /// "higher of" and "lower of" take a step where only one argument is a level
+    OneLevel,
 }

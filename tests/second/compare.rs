@@ -1,8 +1,8 @@
 //! One case: every operation of the product against what the paper's text gives, whole answers and whole buffers.
 
-use crate::book::{self, Book, Cue, Plant};
+use crate::book::{self, is_level, Book, Cue, Plant, HIGHER, HIGHER_RULE, LOWER, LOWER_RULE};
 use crate::demand3;
-use crate::evaluate::{evaluate, evaluate_plainly, first_fit, End, Outcome};
+use crate::evaluate::{evaluate, evaluate_plainly, first_fit, End, Fit, Outcome, Step};
 use crate::product::{self, Answer, Match, Part, Shape, VARIABLES};
 use crate::random::{Case, PATIENCE};
 use std::cell::RefCell;
@@ -12,14 +12,27 @@ use std::rc::Rc;
 /// Words before and after each lent buffer, which nobody may touch.
 const MARGIN: usize = 64;
 
+/// The numbers of the table: 0 to 15.
+pub const NUMBERS: usize = 16;
+
+/// What is counted of levels and built-in words (02, F-2), in cases whose cue was handed back.
+pub const LEVELS: [&str; 6] = [
+    "steps by higher of",
+    "steps by lower of",
+    "steps by a rule with a level on its left",
+    "steps by a rule with a built-in word on its left",
+    "answers with levels",
+    "answers with built-in words",
+];
+
 /// What was met, for the statistics.
 #[derive(Clone, Default)]
 pub struct Counts {
     pub cases: u64,
-    pub read: [u64; 15],
-    pub check: [u64; 15],
-    pub test: [u64; 15],
-    pub expand: [u64; 15],
+    pub read: [u64; NUMBERS],
+    pub check: [u64; NUMBERS],
+    pub test: [u64; NUMBERS],
+    pub expand: [u64; NUMBERS],
     /// answers 0 by steps: 0, 1 to 9, 10 to 99, 100 to 999, more
     pub steps: [u64; 5],
     pub most_steps: u32,
@@ -28,6 +41,7 @@ pub struct Counts {
     pub one_short: u64,
     /// books in which several names fail the order test
     pub several: u64,
+    pub levels: [u64; LEVELS.len()],
     pub arguments: u64,
     pub matches: u64,
     pub listed: u64,
@@ -41,15 +55,15 @@ pub struct Counts {
 impl Counts {
     pub fn add(&mut self, o: &Counts) {
         self.cases += o.cases;
-        for i in 0..15 {
-            self.read[i] += o.read[i];
-            self.check[i] += o.check[i];
-            self.test[i] += o.test[i];
-            self.expand[i] += o.expand[i];
+        fn all(to: &mut [u64], from: &[u64]) {
+            to.iter_mut().zip(from).for_each(|(t, f)| *t += f);
         }
-        for i in 0..5 {
-            self.steps[i] += o.steps[i];
-        }
+        all(&mut self.read, &o.read);
+        all(&mut self.check, &o.check);
+        all(&mut self.test, &o.test);
+        all(&mut self.expand, &o.expand);
+        all(&mut self.steps, &o.steps);
+        all(&mut self.levels, &o.levels);
         self.most_steps = self.most_steps.max(o.most_steps);
         self.exact += o.exact;
         self.one_short += o.one_short;
@@ -119,18 +133,17 @@ impl Lent {
     }
 }
 
-/// By the argument counts that the words of any book list.
+/// By the argument counts that the words of any book list, and those of the built-in words.
 fn span(book: &[u16], ws: &[u16]) -> usize {
     let listed = book.get(0).map_or(0, |&s| (s as usize).min(book.len() - 1));
     fn part(counts: &[u16], ws: &[u16], at: usize) -> usize {
         let mut end = at + 1;
-        if let Some(&n) = counts.get(ws[at] as usize) {
-            for _ in 0..n {
-                if end == ws.len() {
-                    break;
-                }
-                end = part(counts, ws, end);
+        let listed = || counts.get(ws[at] as usize).map_or(0, |&n| n as usize);
+        for _ in 0..book::built_in(ws[at]).map_or_else(listed, |b| b.0) {
+            if end == ws.len() {
+                break;
             }
+            end = part(counts, ws, end);
         }
         end
     }
@@ -140,13 +153,17 @@ fn span(book: &[u16], ws: &[u16]) -> usize {
     part(&book[1.min(book.len())..][..listed], ws, 0)
 }
 
+const NO_MATCH: Match = Match { found: 0, number: 0, rhs: 0, size: 0, starts: [0; VARIABLES], lengths: [0; VARIABLES], word: 0 };
+
 fn matched(b: &Book, part: &Rc<Cue>) -> Match {
-    let mut m = Match { found: 0, number: 0, rhs: 0, size: 0, starts: [0; VARIABLES], lengths: [0; VARIABLES] };
-    let Some((number, filling)) = first_fit(b, part) else {
-        return m;
+    let (number, filling) = match first_fit(b, part, Plant::Nothing) {
+        None => return NO_MATCH,
+        // no right side in the book, but the word that a step puts there
+        Some(Fit::BuiltIn(number, word)) => return Match { found: 1, number, word, ..NO_MATCH },
+        Some(Fit::Listed(number, filling)) => (number, filling),
     };
     let rule = &b.rules[number];
-    m = Match { found: 1, number, rhs: rule.right_at, size: rule.right_words.len(), ..m };
+    let mut m = Match { found: 1, number, rhs: rule.right_at, size: rule.right_words.len(), ..NO_MATCH };
     // where the placeholders' arguments start: each after the words before it
     let mut at = 0;
     for &w in &rule.left_words {
@@ -239,8 +256,7 @@ fn refused_book(case: &Case, fault: book::Fault, n: &mut Counts) -> Checked {
     for i in 0..4 {
         same("an argument over a refused book", Part { start: 0, length: 0 }, product::argument(words, ws, i))?;
     }
-    let none = Match { found: 0, number: 0, rhs: 0, size: 0, starts: [0; VARIABLES], lengths: [0; VARIABLES] };
-    same("matching over a refused book", none, product::first_match(words, ws))
+    same("matching over a refused book", NO_MATCH, product::first_match(words, ws))
 }
 
 /// Runs the product's expander and holds its answer and both buffers to what is expected: on 0 the words, and where the work buffer is
@@ -340,35 +356,54 @@ fn expansion(case: &Case, plant: Plant, read: &Result<Book, book::Fault>, cue: &
             }
             expanded(case, &case.cue, case.limit, answer(number, 0, o.steps), None)
         }
-        End::Cue(last) => {
-            n.expand[0] += 1;
-            n.steps[match o.steps {
-                0 => 0,
-                1..=9 => 1,
-                10..=99 => 2,
-                100..=999 => 3,
-                _ => 4,
-            }] += 1;
-            n.most_steps = n.most_steps.max(o.steps);
-            if o.steps == case.limit {
-                n.exact += 1;
-            }
-            let words = last.to_words();
-            expanded(case, &case.cue, case.limit, answer(0, words.len(), o.steps), Some(&words))?;
-            // demand 3: the list of steps, for every book
-            if o.steps as usize * words.len().max(case.cue.len()) < 400_000 {
-                n.listed += 1;
-                demand3::check_steps(b, &case.cue, &o.trace, &words).map_err(|e| format!("demand 3: {e}"))?;
-            }
-            // demand 3: over a passed book no active place fits, and the cue expands to itself
-            if product::test_strategies(&case.book).number == 0 {
-                n.settled += 1;
-                demand3::check_settled(b, &words).map_err(|e| format!("demand 3: {e}"))?;
-                expanded(case, &words, 0, answer(0, words.len(), 0), Some(&words)).map_err(|e| format!("demand 3, the answer again: {e}"))?;
-            }
-            Ok(())
-        }
+        End::Cue(ref last) => handed_back(case, b, &o, &last.to_words(), n),
     }
+}
+
+/// A cue that was handed back: the product's answer, and demand 3.
+fn handed_back(case: &Case, b: &Book, o: &Outcome, words: &[u16], n: &mut Counts) -> Checked {
+    n.expand[0] += 1;
+    n.steps[match o.steps {
+        0 => 0,
+        1..=9 => 1,
+        10..=99 => 2,
+        100..=999 => 3,
+        _ => 4,
+    }] += 1;
+    n.most_steps = n.most_steps.max(o.steps);
+    n.exact += (o.steps == case.limit) as u64;
+    for (count, met) in n.levels.iter_mut().zip(levels(b, &o.trace, words)) {
+        *count += met as u64;
+    }
+    expanded(case, &case.cue, case.limit, answer(0, words.len(), o.steps), Some(words))?;
+    // demand 3: the list of steps, for every book
+    if o.steps as usize * words.len().max(case.cue.len()) < 400_000 {
+        n.listed += 1;
+        demand3::check_steps(b, &case.cue, &o.trace, words).map_err(|e| format!("demand 3: {e}"))?;
+    }
+    // demand 3: over a passed book no active place fits, and the cue expands to itself
+    if product::test_strategies(&case.book).number == 0 {
+        n.settled += 1;
+        demand3::check_settled(b, words).map_err(|e| format!("demand 3: {e}"))?;
+        expanded(case, words, 0, answer(0, words.len(), 0), Some(words)).map_err(|e| format!("demand 3, the answer again: {e}"))?;
+    }
+    Ok(())
+}
+
+/// What of LEVELS is met by the steps and in the answer.
+fn levels(b: &Book, trace: &[Step], answer: &[u16]) -> [bool; LEVELS.len()] {
+    let by = |rule: usize| trace.iter().any(|s| s.rule == rule);
+    let lefts = || trace.iter().filter_map(|s| b.rules.get(s.rule)).flat_map(|r| &r.left_words);
+    let level = |w: &u16| is_level(*w);
+    let operator = |w: &u16| [HIGHER, LOWER].contains(w);
+    [
+        by(HIGHER_RULE),
+        by(LOWER_RULE),
+        lefts().any(level),
+        lefts().any(operator),
+        answer.iter().any(level),
+        answer.iter().any(operator),
+    ]
 }
 
 /// The second evaluator's memory changes no outcome, wherever the evaluation without it ends.

@@ -1,26 +1,26 @@
 //! The words of demand 3 (01), from their own definitions and on words alone: place, part, active, fits, step. Nothing here knows how a
 //! cue is evaluated; a list of steps is only checked.
 
-use crate::book::{Book, HOLE, LONGEST};
+use crate::book::{is_level, Book, HIGHER, HIGHER_RULE, HOLE, LONGEST, LOWER, LOWER_RULE};
 use crate::evaluate::Step;
+
+fn count(book: &Book, w: u16) -> usize {
+    book.arguments(w).expect("a word that can't stand in a cue")
+}
 
 /// One index after the part at a place: that word with all its arguments.
 fn part_end(book: &Book, cue: &[u16], place: usize) -> usize {
-    let mut end = place + 1;
-    for _ in 0..book.names[cue[place] as usize].arguments {
-        end = part_end(book, cue, end);
-    }
-    end
+    (0..count(book, cue[place])).fold(place + 1, |end, _| part_end(book, cue, end))
 }
 
 /// "A place is active if every argument on the way to it stands in the order of the name holding it; index 0 always is."
 fn active_places(book: &Book, cue: &[u16]) -> Vec<bool> {
     fn walk(book: &Book, cue: &[u16], place: usize, active: bool, all: &mut [bool]) -> usize {
         all[place] = active;
-        let name = &book.names[cue[place] as usize];
+        let order = book.order(cue[place]);
         let mut at = place + 1;
-        for i in 1..=name.arguments {
-            at = walk(book, cue, at, active && name.order.contains(&i), all);
+        for i in 1..=count(book, cue[place]) {
+            at = walk(book, cue, at, active && order.contains(&i), all);
         }
         at
     }
@@ -63,13 +63,25 @@ fn filling<'a>(book: &Book, left: &[u16], part: &'a [u16]) -> Option<Vec<&'a [u1
     (instance(left, &found) == part).then_some(found)
 }
 
-fn fitting<'a>(book: &Book, part: &'a [u16]) -> Option<(usize, Vec<&'a [u16]>)> {
-    book.rules.iter().enumerate().find_map(|(k, r)| {
+/// The first rule that fits a part, and the same filling's instance of its right side.
+fn fitting(book: &Book, part: &[u16]) -> Option<(usize, Vec<u16>)> {
+    let listed = book.rules.iter().enumerate().find_map(|(k, r)| {
         if r.left_words[0] != part[0] {
             return None;
         }
-        filling(book, &r.left_words, part).map(|f| (k, f))
-    })
+        filling(book, &r.left_words, part).map(|f| (k, instance(&r.right_words, &f)))
+    });
+    listed.or_else(|| built_in_instance(part))
+}
+
+/// "As if their 131,072 instances stood in the book" (02, F-2): the one whose left side the part is. The levels' words stand in the levels'
+/// order.
+fn built_in_instance(part: &[u16]) -> Option<(usize, Vec<u16>)> {
+    match *part {
+        [HIGHER, a, b] if is_level(a) && is_level(b) => Some((HIGHER_RULE, vec![a.max(b)])),
+        [LOWER, a, b] if is_level(a) && is_level(b) => Some((LOWER_RULE, vec![a.min(b)])),
+        _ => None,
+    }
 }
 
 /// "That the list of steps leads from the cue handed in to the cue handed back": each step at an active place, with the first rule that
@@ -79,8 +91,7 @@ pub fn check_steps(book: &Book, first: &[u16], steps: &[Step], last: &[u16]) -> 
     for (n, step) in steps.iter().enumerate() {
         let mut place = 0;
         for &i in &step.way {
-            let name = &book.names[cue[place] as usize];
-            if !name.order.contains(&(i as usize + 1)) {
+            if !book.order(cue[place]).contains(&(i as usize + 1)) {
                 return Err(format!("step {n} is not at an active place"));
             }
             place += 1;
@@ -90,13 +101,7 @@ pub fn check_steps(book: &Book, first: &[u16], steps: &[Step], last: &[u16]) -> 
         }
         let end = part_end(book, &cue, place);
         match fitting(book, &cue[place..end]) {
-            Some((rule, f)) if rule == step.rule => {
-                let new = instance(&book.rules[rule].right_words, &f);
-                let mut next = cue[..place].to_vec();
-                next.extend(new);
-                next.extend_from_slice(&cue[end..]);
-                cue = next;
-            }
+            Some((rule, new)) if rule == step.rule => cue = [&cue[..place], &new, &cue[end..]].concat(),
             other => return Err(format!("step {n} took rule {}, but the first that fits at {place} is {:?}", step.rule, other.map(|o| o.0))),
         }
         if cue.len() > LONGEST || part_end(book, &cue, 0) != cue.len() {

@@ -1,10 +1,10 @@
-//! Evaluation on trees, recursive, straight from the paper's text (01, "Evaluation").
+//! Evaluation on trees, recursive, straight from the paper's text (01, "Evaluation"; 02, F-2).
 //!
 //! Orders may repeat an argument, and nested repeats multiply. So a tree remembers the levels at which its evaluation took no step: what fits
 //! in it, and whether an argument is opened from level 64, depends on nothing but the tree and the level, so it takes none there again. The
 //! evaluation without this memory is at hand too, and the random cases hold one to the other wherever the plain one ends.
 
-use crate::book::{Book, Cue, Plant, Side, LONGEST};
+use crate::book::{is_level, Book, Cue, Plant, Side, HIGHER, HIGHER_RULE, LONGEST, LOWER, LOWER_RULE};
 use std::rc::Rc;
 
 /// A step that was taken: the arguments on the way to its place (from 0), and the rule.
@@ -66,12 +66,35 @@ fn fill(side: &Side, filling: &[Rc<Cue>]) -> Rc<Cue> {
     }
 }
 
-/// The lowest-numbered rule that fits here, with its filling.
-pub fn first_fit(book: &Book, cue: &Rc<Cue>) -> Option<(usize, Vec<Rc<Cue>>)> {
-    book.rules.iter().enumerate().find_map(|(number, rule)| {
+/// A rule that fits: its number, and a listed one's filling or the level that a built-in one puts there.
+pub enum Fit {
+    Listed(usize, Vec<Rc<Cue>>),
+    BuiltIn(usize, u16),
+}
+
+/// The lowest-numbered rule that fits here.
+pub fn first_fit(book: &Book, cue: &Rc<Cue>, plant: Plant) -> Option<Fit> {
+    let listed = book.rules.iter().enumerate().find_map(|(number, rule)| {
         let mut filling = vec![];
-        fits(&rule.left, cue, &mut filling).then_some((number, filling))
-    })
+        fits(&rule.left, cue, &mut filling).then_some(Fit::Listed(number, filling))
+    });
+    listed.or_else(|| built_in_fit(cue, plant))
+}
+
+/// "Where both arguments are levels, a step puts the larger or smaller level there" (02, F-2).
+fn built_in_fit(cue: &Cue, plant: Plant) -> Option<Fit> {
+    let [a, b] = &cue.arguments[..] else { return None };
+    let (x, y) = match (is_level(a.name), is_level(b.name)) {
+        (true, true) => (a.name, b.name),
+        (true, false) if plant == Plant::OneLevel => (a.name, a.name),
+        (false, true) if plant == Plant::OneLevel => (b.name, b.name),
+        _ => return None,
+    };
+    match cue.name {
+        HIGHER => Some(Fit::BuiltIn(HIGHER_RULE, x.max(y))),
+        LOWER => Some(Fit::BuiltIn(LOWER_RULE, if plant == Plant::Larger { x.max(y) } else { x.min(y) })),
+        _ => None,
+    }
 }
 
 impl Evaluator<'_> {
@@ -82,8 +105,7 @@ impl Evaluator<'_> {
         let before = self.steps;
         let mut cue = cue.clone();
         'anew: loop {
-            let order = &self.book.names[cue.name as usize].order;
-            for &entry in order {
+            for &entry in self.book.order(cue.name) {
                 let tried = if entry == 0 { self.book.rules.len() } else { 0 };
                 let cost = (1 + self.whole / 32 + tried / 4) as u64;
                 if self.patience < cost {
@@ -125,10 +147,11 @@ impl Evaluator<'_> {
 
     /// Tries the rules: what the cue becomes by a step, if one fits.
     fn step(&mut self, cue: &Rc<Cue>) -> Result<Option<Rc<Cue>>, Stop> {
-        let Some((rule, filling)) = first_fit(self.book, cue) else {
-            return Ok(None);
+        let (rule, new) = match first_fit(self.book, cue, self.plant) {
+            None => return Ok(None),
+            Some(Fit::Listed(rule, filling)) => (rule, fill(&self.book.rules[rule].right, &filling)),
+            Some(Fit::BuiltIn(rule, level)) => (rule, Cue::new(level, vec![])),
         };
-        let new = fill(&self.book.rules[rule].right, &filling);
         let whole = self.whole - cue.words + new.words;
         let spent = self.steps == self.allowance;
         let overlong = whole > LONGEST;

@@ -2,7 +2,7 @@
 //!
 //!     second [CASES] [--seed N] [--threads N] [--plant N] [--plain]
 //!
-//! CASES cases (100,000 if not said), from seed 0 (or --seed) on; one thread for each processor, if not said. --plant 1 to 5 plants a fault
+//! CASES cases (100,000 if not said), from seed 0 (or --seed) on; one thread for each processor, if not said. --plant 1 to 7 plants a fault
 //! in the second evaluator, which the run must then find. --plain leaves out what takes too long if nothing is remembered of arguments that
 //! took no step: for a product that remembers nothing. Exit status: 0 no difference; 1 a difference, printed with its seed and cut down; 2 a
 //! number of the table, or a nest of repeats, came too seldom, or bad usage.
@@ -17,7 +17,7 @@ mod random;
 mod shrink;
 
 use book::Plant;
-use compare::{compare, Counts};
+use compare::{compare, Counts, LEVELS, NUMBERS};
 use random::Case;
 use std::sync::atomic::{AtomicU64, Ordering};
 use std::time::Instant;
@@ -54,6 +54,8 @@ fn options() -> Option<Options> {
                     "3" => Plant::OverlongFirst,
                     "4" => Plant::Evaluated,
                     "5" => Plant::LastFailing,
+                    "6" => Plant::Larger,
+                    "7" => Plant::OneLevel,
                     _ => return None,
                 }
             }
@@ -100,13 +102,13 @@ fn report(seed: u64, plant: Plant) {
     print_case(&small);
 }
 
-fn row(label: &str, counts: &[u64; 15]) {
+fn row(label: &str, counts: &[u64; NUMBERS]) {
     let all: Vec<String> = counts.iter().map(|c| format!("{c:>7}")).collect();
     println!("  {label:<12}{}", all.join(""));
 }
 
 fn statistics(n: &Counts) {
-    let numbers: Vec<String> = (0..15).map(|i| format!("{i:>7}")).collect();
+    let numbers: Vec<String> = (0..NUMBERS).map(|i| format!("{i:>7}")).collect();
     println!("  {:<12}{}", "number", numbers.join(""));
     row("reader", &n.read);
     row("cue check", &n.check);
@@ -118,25 +120,29 @@ fn statistics(n: &Counts) {
     );
     println!("  allowance just enough {}, one short {}; arguments taken out {}, fits {}", n.exact, n.one_short, n.arguments, n.matches);
     println!("  books in which several names fail the order test {}", n.several);
+    println!("  cases with {}", LEVELS.iter().zip(n.levels).map(|(what, c)| format!("{what} {c}")).collect::<Vec<_>>().join(", "));
     println!("  demand 3: lists of steps checked {}, settled cues checked and expanded again {}", n.listed, n.settled);
     println!("  the same without memory {}, too long without it {}; left out as too long {}", n.plain, n.repeats, n.too_long);
 }
 
-/// Every number of the table is to come often, and so are nested repeats: at least once in 500 cases.
+/// Every number of the table is to come often, and so are nested repeats, and levels of each kind: at least once in 500 cases.
 fn seldom(n: &Counts, plain: bool) -> Vec<String> {
     let least = n.cases / 500;
     let mut all = vec![];
     if !plain && n.repeats < least {
         all.push(format!("nested repeats came only {} times", n.repeats));
     }
-    for i in 0..15 {
+    for i in 0..NUMBERS {
         let (name, c) = if i == 14 { ("the order test", n.test[14]) } else { ("the expander", n.expand[i]) };
         if c < least {
             all.push(format!("{i} of {name} came only {c} times"));
         }
-        if i <= 8 && n.read[i] < least {
+        if (i <= 8 || i == 15) && n.read[i] < least {
             all.push(format!("{i} of the reader came only {} times", n.read[i]));
         }
+    }
+    for (what, c) in LEVELS.iter().zip(n.levels).filter(|(_, c)| *c < least) {
+        all.push(format!("{what} came only {c} times"));
     }
     if n.test[0] < least || n.several < least || n.exact < least || n.one_short < least || n.steps[4] == 0 {
         all.push("passed books, several failing names, allowances met by one, or thousands of steps came too seldom".into());
@@ -179,7 +185,7 @@ fn run(o: &Options) -> (Counts, Option<u64>) {
 
 fn all() -> i32 {
     let Some(o) = options() else {
-        eprintln!("second [CASES] [--seed N] [--threads N] [--plant 1|2|3|4|5] [--plain]");
+        eprintln!("second [CASES] [--seed N] [--threads N] [--plant 1|2|3|4|5|6|7] [--plain]");
         return 2;
     };
     if o.plant == Plant::Nothing {

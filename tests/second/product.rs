@@ -35,6 +35,7 @@ pub struct Match {
     pub size: usize,
     pub starts: [usize; VARIABLES],
     pub lengths: [usize; VARIABLES],
+    pub word: u16,
 }
 
 #[repr(C)]

@@ -1,6 +1,6 @@
 //! Random books and cues. Each case comes from its own seed alone, so that it can be made again.
 
-use crate::book::{self, Book, Plant, HOLE};
+use crate::book::{self, Book, Plant, HIGHER, HOLE, LEVEL, LOWER};
 use crate::evaluate::{evaluate, End};
 
 /// A small generator of random numbers (xorshift64*), so that the cases are the same on every machine.
@@ -46,6 +46,8 @@ pub struct Draft {
     pub counts: Vec<usize>,
     pub orders: Vec<Vec<usize>>,
     pub rules: Vec<(Vec<u16>, Vec<u16>)>,
+    /// in a tree made over it, so many of 100 parts start with a built-in word, and twice as many of its leaves are levels
+    levels: usize,
 }
 
 impl Draft {
@@ -54,7 +56,14 @@ impl Draft {
             counts: book.names.iter().map(|n| n.arguments).collect(),
             orders: book.names.iter().map(|n| n.order.clone()).collect(),
             rules: book.rules.iter().map(|r| (r.left_words.clone(), r.right_words.clone())).collect(),
+            levels: 0,
         }
+    }
+
+    /// How many arguments a word of a side or of a cue has.
+    pub fn arguments(&self, w: u16) -> usize {
+        let listed = || self.counts.get(w as usize).copied().unwrap_or(0);
+        book::built_in(w).map_or_else(listed, |b| b.0)
     }
 
     pub fn write(&self) -> Vec<u16> {
@@ -175,11 +184,21 @@ fn order(r: &mut Random, n: usize) -> Vec<usize> {
 
 // ---- trees
 
-/// A tree of about `room` words over the names of the draft; its leaves are names without arguments, or placeholders below `holes`.
-fn tree(r: &mut Random, d: &Draft, room: usize, holes: usize, out: &mut Vec<u16>) {
-    if holes > 0 && (room <= 1 || r.percent(35)) && r.percent(70) {
-        out.push(HOLE + r.below(holes) as u16);
-        return;
+/// A level's word: one of a few, so that they meet again, or any.
+fn level(r: &mut Random) -> u16 {
+    LEVEL + if r.percent(60) { *r.pick(&[0, 0, 0, 1, 2, 127, 128, 200, 254, 255, 255]) } else { r.below(256) as u16 }
+}
+
+fn operator(r: &mut Random) -> u16 {
+    *r.pick(&[HIGHER, LOWER])
+}
+
+/// A word to start a tree of about `room` words with.
+fn first_word(r: &mut Random, d: &Draft, room: usize) -> u16 {
+    match room {
+        0..=1 if r.percent(2 * d.levels) => return level(r),
+        3.. if r.percent(d.levels) => return operator(r),
+        _ => {}
     }
     let fits = |n: usize| (n == 0) == (room <= 1) && n < room.max(1);
     let mut name = r.below(d.counts.len());
@@ -189,12 +208,19 @@ fn tree(r: &mut Random, d: &Draft, room: usize, holes: usize, out: &mut Vec<u16>
         }
         name = r.below(d.counts.len());
     }
-    if !fits(d.counts[name]) {
-        // name 0 never has arguments
-        name = 0;
+    // name 0 never has arguments
+    if fits(d.counts[name]) { name as u16 } else { 0 }
+}
+
+/// A tree of about `room` words over the names of the draft; its leaves are names without arguments, levels, or placeholders below `holes`.
+fn tree(r: &mut Random, d: &Draft, room: usize, holes: usize, out: &mut Vec<u16>) {
+    if holes > 0 && (room <= 1 || r.percent(35)) && r.percent(70) {
+        out.push(HOLE + r.below(holes) as u16);
+        return;
     }
-    out.push(name as u16);
-    let n = d.counts[name];
+    let word = first_word(r, d, room);
+    out.push(word);
+    let n = d.arguments(word);
     if n == 0 {
         return;
     }
@@ -203,31 +229,42 @@ fn tree(r: &mut Random, d: &Draft, room: usize, holes: usize, out: &mut Vec<u16>
         let others = n - i - 1;
         let mine = if others == 0 { left } else { 1 + r.below((left - others).max(1)) };
         let mine = mine.min(left - others).max(1);
-        tree(r, d, mine, holes, out);
+        if word >= HIGHER && r.percent(50) {
+            out.push(level(r));
+        } else {
+            tree(r, d, mine, holes, out);
+        }
         left = left.saturating_sub(mine).max(others);
     }
 }
 
-/// A left side: holes numbered in reading order.
+/// A left side: holes numbered in reading order. It starts with a name.
 fn left(r: &mut Random, d: &Draft, out: &mut Vec<u16>) -> usize {
-    fn arguments(r: &mut Random, d: &Draft, name: usize, depth: usize, holes: &mut usize, out: &mut Vec<u16>) {
-        for _ in 0..d.counts[name] {
+    fn inner(r: &mut Random, d: &Draft) -> u16 {
+        match r.percent(d.levels) {
+            true if r.percent(70) => level(r),
+            true => operator(r),
+            false => r.below(d.counts.len()) as u16,
+        }
+    }
+    fn arguments(r: &mut Random, d: &Draft, word: u16, depth: usize, holes: &mut usize, out: &mut Vec<u16>) {
+        for _ in 0..d.arguments(word) {
             if *holes < 16 && (depth >= 3 || out.len() > 40 || r.percent(60)) {
                 out.push(HOLE + *holes as u16);
                 *holes += 1;
                 continue;
             }
-            let mut g = r.below(d.counts.len());
+            let mut g = inner(r, d);
             if out.len() > 30 || depth >= 4 {
                 g = 0;
             }
-            out.push(g as u16);
+            out.push(g);
             arguments(r, d, g, depth + 1, holes, out);
         }
     }
-    let name = r.below(d.counts.len());
+    let name = r.below(d.counts.len()) as u16;
     let mut holes = 0;
-    out.push(name as u16);
+    out.push(name);
     arguments(r, d, name, 1, &mut holes, out);
     holes
 }
@@ -253,8 +290,13 @@ fn rule(r: &mut Random, d: &Draft) -> (Vec<u16>, Vec<u16>) {
 
 // ---- books
 
+/// No levels at all, few or many.
+fn empty_draft(r: &mut Random) -> Draft {
+    Draft { levels: *r.pick(&[0, 0, 0, 15, 30, 45]), ..Draft::default() }
+}
+
 fn any_book(r: &mut Random) -> Draft {
-    let mut d = Draft::default();
+    let mut d = empty_draft(r);
     let many = r.percent(3);
     let s = if many { r.from(20, 256) } else { r.from(1, 7) };
     for k in 0..s {
@@ -280,7 +322,7 @@ fn any_book(r: &mut Random) -> Draft {
 /// Small rules, and orders that try the rules early and evaluate an argument again: an argument that was evaluated once may have more to do
 /// the second time, and one that was held back may be opened later.
 fn again(r: &mut Random) -> (Draft, Vec<u16>) {
-    let mut d = Draft::default();
+    let mut d = empty_draft(r);
     if r.percent(50) {
         let z = d.name(0, &[]);
         let q = d.name(1, *r.pick(&[&[][..], &[1]]));
@@ -348,9 +390,10 @@ pub fn largest(r: &mut Random) -> Draft {
         while l.len() < 63 {
             l.push(1);
         }
-        l.push(if r.percent(50) { 0 } else { HOLE + holes });
+        let end = level(r);
+        l.push(*r.pick(&[0, HOLE + holes, end]));
         let mut rt = vec![1; 63];
-        rt.push(0);
+        rt.push(*r.pick(&[0, end]));
         d.rule(&l, &rt);
     }
     d
@@ -546,6 +589,66 @@ fn lists(r: &mut Random, scale: Scale) -> (Draft, Vec<u16>) {
     (d, cue)
 }
 
+/// A group of dimmers: a level from either scene, the higher of the two, the grand master's cap, and fades from one level to the next. Rules
+/// look at levels and at built-in words that are not evaluated yet, or can't be.
+fn dimmers(r: &mut Random, scale: Scale) -> (Draft, Vec<u16>) {
+    let mut d = Draft { levels: r.from(20, 50), ..Draft::default() };
+    let dark = d.name(0, &[]);
+    let group = d.name(2, *r.pick(&[&[1, 2][..], &[1, 2, 0], &[0, 2, 1], &[1], &[]]));
+    let mix = d.name(2, *r.pick(&[&[1, 2, 0][..], &[0], &[2, 0], &[0, 1, 2]]));
+    let cap = d.name(2, *r.pick(&[&[1, 2, 0][..], &[2, 0], &[1, 0], &[0]]));
+    let lamp = d.name(1, *r.pick(&[&[1, 0][..], &[0], &[0, 1], &[0, 1, 0], &[]]));
+    let fade = d.name(1, *r.pick(&[&[1, 0][..], &[0]]));
+    let some = level(r);
+    let rules: [(&[u16], &[u16]); 12] = [
+        (&[mix, LEVEL, A], &[A]),
+        (&[mix, A, B], &[HIGHER, A, B]),
+        (&[cap, LEVEL + 255, A], &[A]),
+        (&[cap, A, group, B, C], &[group, cap, A, B, cap, A, C]),
+        (&[cap, A, HIGHER, B, C], &[HIGHER, LOWER, A, B, LOWER, A, C]),
+        (&[cap, A, B], &[LOWER, A, B]),
+        (&[lamp, LEVEL], &[dark]),
+        (&[lamp, some], &[lamp, HIGHER, dark, LOWER, some, LEVEL + 1]),
+        (&[lamp, LOWER, LEVEL, A], &[LEVEL]),
+        (&[lamp, HIGHER, A, LOWER, B, C], &[group, lamp, A, lamp, C]),
+        (&[group, some, dark], &[some]),
+        (&[group, A, lamp, B], &[cap, A, HIGHER, mix, A, B, B]),
+    ];
+    for (left, right) in rules {
+        if r.percent(70) {
+            d.rule(left, right);
+        }
+    }
+    for k in LEVEL..LEVEL + r.below(scale.of(8, 40, 110)) as u16 {
+        let next = k + 1;
+        d.rule(&[fade, k], *r.pick(&[&[fade, next][..], &[HIGHER, k, fade, next], &[LOWER, fade, next, k], &[group, k, fade, next]]));
+    }
+    let mut cue = vec![];
+    let room = r.from(1, scale.of(25, 150, 1500));
+    tree(r, &d, room, 0, &mut cue);
+    (d, cue)
+}
+
+/// Names that no left side starts with, made into levels or a built-in word, by their argument counts, in rules and cue: mostly the same level
+/// for one name, so that rules still fit.
+fn lighten(r: &mut Random, d: &mut Draft, cue: &mut [u16]) {
+    d.levels = d.levels.max(r.from(5, 40));
+    for f in 0..d.counts.len() as u16 {
+        if r.percent(40) || d.rules.iter().any(|(l, _)| l[0] == f) {
+            continue;
+        }
+        let word = match d.counts[f as usize] {
+            0 => level(r),
+            2 => operator(r),
+            _ => continue,
+        };
+        let sides = d.rules.iter_mut().flat_map(|(l, rt)| l.iter_mut().chain(rt.iter_mut()));
+        for w in sides.chain(cue.iter_mut()).filter(|w| **w == f) {
+            *w = if book::is_level(word) && r.percent(10) { level(r) } else { word };
+        }
+    }
+}
+
 /// Orders that name an argument again and again, nested: a chain of names with one or two arguments, changed here and there.
 fn repeats(r: &mut Random) -> (Draft, Vec<u16>) {
     fn often(r: &mut Random, n: usize, zeros: usize) -> Vec<usize> {
@@ -621,7 +724,7 @@ fn renumber(r: &mut Random, d: &Draft, cue: &mut [u16]) -> Draft {
     for i in (2..n).rev() {
         to.swap(i, r.from(1, i));
     }
-    let word = |w: u16| if w < HOLE { to[w as usize] as u16 } else { w };
+    let word = |w: u16| to.get(w as usize).map_or(w, |&t| t as u16);
     let mut e = d.clone();
     for i in 0..n {
         e.counts[to[i]] = d.counts[i];
@@ -657,18 +760,22 @@ fn vary(r: &mut Random, d: &mut Draft) {
 
 // ---- faults
 
+/// Words on either side of where levels and built-in words begin and end.
+const EDGES: [u16; 7] = [LEVEL - 1, LEVEL, LEVEL + 255, HIGHER, LOWER, LOWER + 1, HOLE - 1];
+
 fn odd_word(r: &mut Random, near: u16) -> u16 {
-    match r.below(10) {
+    match r.below(12) {
         0 => near.wrapping_add(1),
         1 => near.wrapping_sub(1),
         2 => 0,
         3 => HOLE + r.below(17) as u16,
         4 => *r.pick(&[9, 17, 65, 129, 257, 256, 64, 16, 8, 128]),
         5 => 65535,
-        6 => HOLE - 1,
+        6 => level(r),
         7 => HOLE,
         8 => r.below(12) as u16,
-        _ => r.below(65536) as u16,
+        9 => r.below(65536) as u16,
+        _ => *r.pick(&EDGES),
     }
 }
 
@@ -703,8 +810,7 @@ fn damage(r: &mut Random, book: &mut Vec<u16>) {
 fn planned_damage(r: &mut Random, d: &Draft) -> Vec<u16> {
     let mut d = d.clone();
     let k = r.below(d.counts.len());
-    let some_rule = if d.rules.is_empty() { None } else { Some(r.below(d.rules.len())) };
-    match r.below(10) {
+    match r.below(12) {
         0 => d.counts[k] = r.from(9, 12),
         1 => d.orders[k] = vec![0; r.from(17, 19)],
         2 => {
@@ -713,37 +819,64 @@ fn planned_damage(r: &mut Random, d: &Draft) -> Vec<u16> {
             d.orders[k].insert(at, e);
             d.orders[k].truncate(16);
         }
-        _ => {
-            if let Some(i) = some_rule {
-                let s = d.counts.len() as u16;
-                let (l, rt) = &mut d.rules[i];
-                let side = if r.percent(50) { &mut *l } else { &mut *rt };
-                let at = r.below(side.len());
-                match r.below(7) {
-                    0 => side[at] = s,
-                    1 => side[at] = *r.pick(&[HOLE - 1, HOLE + 16, 65535]),
-                    2 => side.push(0),
-                    3 => side.truncate(side.len() - 1),
-                    4 => l[0] = HOLE,
-                    5 => {
-                        let holes = l.iter().filter(|&&w| w >= HOLE).count() as u16;
-                        let end = rt.len() - 1;
-                        rt[end] = HOLE + holes.min(15);
-                    }
-                    _ => {
-                        if let Some(w) = l.iter_mut().skip(1).find(|w| **w >= HOLE) {
-                            *w = HOLE + r.from(1, 15) as u16;
-                        }
-                    }
-                }
+        _ if d.rules.is_empty() => {}
+        which => {
+            let s = d.counts.len() as u16;
+            let i = r.below(d.rules.len());
+            let (l, rt) = &mut d.rules[i];
+            if which < 5 {
+                start_damage(r, l);
+            } else {
+                side_damage(r, s, l, rt);
             }
         }
     }
     d.write()
 }
 
-fn break_cue(r: &mut Random, d: &Draft, cue: &mut Vec<u16>) {
+/// Damage in a rule of a book of `s` names.
+fn side_damage(r: &mut Random, s: u16, l: &mut Vec<u16>, rt: &mut Vec<u16>) {
+    let side = if r.percent(50) { &mut *l } else { &mut *rt };
+    let at = r.below(side.len());
     match r.below(7) {
+        0 => side[at] = s,
+        1 => side[at] = *r.pick(&[LEVEL - 1, LOWER + 1, HOLE - 1, HOLE + 16, 65535]),
+        2 => side.push(0),
+        3 => side.truncate(side.len() - 1),
+        4 => l[0] = HOLE,
+        5 => {
+            let holes = l.iter().filter(|&&w| w >= HOLE).count() as u16;
+            let end = rt.len() - 1;
+            rt[end] = HOLE + holes.min(15);
+        }
+        _ => {
+            if let Some(w) = l.iter_mut().skip(1).find(|w| **w >= HOLE) {
+                *w = HOLE + r.from(1, 15) as u16;
+            }
+        }
+    }
+}
+
+/// A left side that starts with a level, with a built-in word, or with a word next to these: 15, or 4, whatever is wrong behind it.
+fn start_damage(r: &mut Random, l: &mut Vec<u16>) {
+    l[0] = if r.percent(30) { level(r) } else { *r.pick(&EDGES) };
+    let last = l.len() - 1;
+    match r.below(6) {
+        0 => l.push(odd_word(r, HOLE)),
+        1 => l.truncate(1),
+        2 if last > 0 => l[last] = HOLE + r.from(1, 15) as u16,
+        3 if last > 0 => l[last] = LOWER + 1,
+        4 => {
+            let with: &[u16] = *r.pick(&[&[A, B][..], &[B, A], &[LEVEL, A], &[LEVEL, LEVEL + 9], &[HIGHER, A, B, C]]);
+            l.truncate(1);
+            l.extend(with);
+        }
+        _ => {}
+    }
+}
+
+fn break_cue(r: &mut Random, d: &Draft, cue: &mut Vec<u16>) {
+    match r.below(8) {
         0 => cue.truncate(r.below(cue.len() + 1)),
         1 => cue.push(r.below(d.counts.len()) as u16),
         2 => {
@@ -758,6 +891,10 @@ fn break_cue(r: &mut Random, d: &Draft, cue: &mut Vec<u16>) {
         5 => {
             let at = r.below(cue.len());
             cue.remove(at);
+        }
+        6 => {
+            let at = r.below(cue.len());
+            cue[at] = *r.pick(&EDGES);
         }
         _ => {
             // too long, or just not
@@ -787,10 +924,9 @@ fn plain(r: &mut Random) -> (Draft, Vec<u16>) {
     (d, cue)
 }
 
-pub fn case(seed: u64) -> Case {
-    let r = &mut Random::new(seed);
-    let scale = Scale::any(r);
-    let (mut d, mut cue) = match r.below(106) {
+/// A book and a cue without damage.
+fn draft(r: &mut Random, scale: Scale) -> (Draft, Vec<u16>) {
+    let (mut d, mut cue) = match r.below(122) {
         0..=26 => plain(r),
         27..=44 => again(r),
         45..=56 => arithmetic(r, scale),
@@ -799,8 +935,12 @@ pub fn case(seed: u64) -> Case {
         76..=82 => deep(r),
         83..=90 => wide(r, scale),
         91..=99 => lists(r, scale),
-        _ => repeats(r),
+        100..=105 => repeats(r),
+        _ => dimmers(r, scale),
     };
+    if r.percent(25) {
+        lighten(r, &mut d, &mut cue);
+    }
     if r.percent(50) {
         vary(r, &mut d);
     }
@@ -813,6 +953,29 @@ pub fn case(seed: u64) -> Case {
         let room = r.from(1, 30);
         tree(r, &d, room, 0, &mut cue);
     }
+    (d, cue)
+}
+
+/// The lengths of answer buffer and work buffer: mostly the least.
+fn buffers(r: &mut Random) -> (usize, usize) {
+    let (mut out_words, mut work_words) = (4096, 8192);
+    if r.percent(25) {
+        out_words = *r.pick(&[4095, 4095, 4096, 4097, 0, 1, 5000]);
+        work_words = *r.pick(&[8191, 8191, 8192, 8193, 0, 4096, 12288]);
+        if r.percent(40) {
+            out_words = out_words.max(4096);
+        }
+        if r.percent(40) {
+            work_words = work_words.max(8192);
+        }
+    }
+    (out_words, work_words)
+}
+
+pub fn case(seed: u64) -> Case {
+    let r = &mut Random::new(seed);
+    let scale = Scale::any(r);
+    let (d, mut cue) = draft(r, scale);
     let mut book = d.write();
     match r.below(100) {
         0..=16 => book = planned_damage(r, &d),
@@ -827,17 +990,7 @@ pub fn case(seed: u64) -> Case {
         27..=38 => break_cue(r, &d, &mut cue),
         _ => {}
     }
-    let (mut out_words, mut work_words) = (4096, 8192);
-    if r.percent(25) {
-        out_words = *r.pick(&[4095, 4095, 4096, 4097, 0, 1, 5000]);
-        work_words = *r.pick(&[8191, 8191, 8192, 8193, 0, 4096, 12288]);
-        if r.percent(40) {
-            out_words = out_words.max(4096);
-        }
-        if r.percent(40) {
-            work_words = work_words.max(8192);
-        }
-    }
+    let (out_words, work_words) = buffers(r);
     let dirt = *r.pick(&[0, 1, 1, 0xAAAA, 65535]);
     let limit = limit(r, scale, &book, &cue);
     Case { book, cue, limit, out_words, work_words, dirt }

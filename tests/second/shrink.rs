@@ -74,7 +74,7 @@ fn smaller(case: &Case) -> Vec<Case> {
         }
         // parts of right sides
         for k in 0..d.rules.len() {
-            for w in parts(&d.counts, &d.rules[k].1) {
+            for w in parts(&d, &d.rules[k].1) {
                 let mut e = d.clone();
                 e.rules[k].1 = w;
                 put(&|c| c.book = e.write());
@@ -82,7 +82,7 @@ fn smaller(case: &Case) -> Vec<Case> {
         }
         // parts of the cue
         if b.cue(&case.cue).is_ok() && case.cue.len() < 600 {
-            for w in parts(&d.counts, &case.cue) {
+            for w in parts(&d, &case.cue) {
                 put(&|c| c.cue = w.clone());
             }
         }
@@ -110,21 +110,20 @@ fn smaller(case: &Case) -> Vec<Case> {
 }
 
 /// The words with one part replaced by one of its arguments, or by name 0 if that has none.
-fn parts(counts: &[usize], words: &[u16]) -> Vec<Vec<u16>> {
-    fn end(counts: &[usize], words: &[u16], at: usize) -> usize {
-        let n = counts.get(words[at] as usize).copied().unwrap_or(0);
-        (0..n).fold(at + 1, |e, _| end(counts, words, e))
+fn parts(d: &Draft, words: &[u16]) -> Vec<Vec<u16>> {
+    fn end(d: &Draft, words: &[u16], at: usize) -> usize {
+        (0..d.arguments(words[at])).fold(at + 1, |e, _| end(d, words, e))
     }
     let mut all = vec![];
     for at in 0..words.len() {
-        let stop = end(counts, words, at);
+        let stop = end(d, words, at);
         let put = |with: &[u16]| [&words[..at], with, &words[stop..]].concat();
-        if counts[0] == 0 && words[at..stop] != [0] {
+        if d.counts[0] == 0 && words[at..stop] != [0] {
             all.push(put(&[0]));
         }
         let mut q = at + 1;
         while q < stop {
-            let e = end(counts, words, q);
+            let e = end(d, words, q);
             all.push(put(&words[q..e]));
             q = e;
         }
