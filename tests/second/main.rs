@@ -190,6 +190,7 @@ fn all() -> i32 {
     };
     if o.plant == Plant::Nothing {
         let mut faults = paper::paper();
+        faults.extend(paper::levels());
         if !o.plain {
             faults.extend(paper::repeats());
         }
@@ -199,7 +200,7 @@ fn all() -> i32 {
         if !faults.is_empty() {
             return 1;
         }
-        println!("second: the paper's cases C1 to C15{} hold for both", if o.plain { "" } else { ", and nested repeats," });
+        println!("second: the paper's cases C1 to C15 and F-2's{} hold for both", if o.plain { "" } else { ", and nested repeats," });
     }
     let start = Instant::now();
     let (n, found) = run(&o);
