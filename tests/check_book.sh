@@ -1,6 +1,6 @@
 #!/usr/bin/env bash
 # What the program `check_book` prints for show.book: a file missing, long or odd, each number of the reader with its place and sentence
-# (01, "The table of numbers"), and the order test, passed and failed.
+# (01, "The table of numbers"; 02, F-2), and the order test, passed and failed.
 #     tests/check_book.sh PROGRAM
 set -euo pipefail
 . "$(dirname "$0")/files.sh"
@@ -25,7 +25,7 @@ long_and_odd_books
 zeros 1 > show.book
 prints 'a book of one byte' odd
 
-# 1 to 8
+# 1 to 8, and 15
 short='a word the book needs is missing'
 refused 'C5, an empty book' short 0 "$short"
 refused 'C2, book B without its last word' short 38 "$short" ${book_b% *}
@@ -40,7 +40,8 @@ refused 'two names and one order' count 3 "$count" 2 0 0 1
 zeros 42502 > show.book
 prints 'a book as long as it may be' "show.book: count at word 0: $count"
 refused 'an order that asks for an argument that is not there' entry 4 'an order entry above the argument count' 1 0 1 1 1 0
-refused 'a left side of a name that is not there' stranger 6 "a side's word is neither name nor placeholder" 1 0 1 0 1 1 1 1 0
+stranger="a side's word is neither name nor placeholder"
+refused 'a left side of a name that is not there' stranger 6 "$stranger" 1 0 1 0 1 1 1 1 0
 ragged='a side is complete too early, or not at its last word'
 refused 'a left side of two cues' ragged 7 "$ragged" 1 0 1 0 1 2 0 0 1 0
 refused 'a left side without its argument: the word after it' ragged 7 "$ragged" 1 1 1 0 1 1 0
@@ -49,6 +50,18 @@ stray='a left placeholder is not the next one, or a right one is not in the left
 refused 'C4, word 29 of book B made 32768' stray 29 "$stray" "${b[@]:0:29}" 32768 "${b[@]:30}"
 refused 'placeholder 1 before 0' stray 7 "$stray" 1 1 1 0 1 2 0 32769 1 0
 refused 'a placeholder on the right alone' stray 8 "$stray" 1 0 1 0 1 1 0 1 32768
+# 02, F-2: 15, checked where 6 is; 4 for the words next to levels and built-in words
+builtin='a left side starts with a level or a built-in word'
+refused 'a left side that is level 0' builtin 6 "$builtin" 1 0 1 0 1 1 16384 1 0
+refused 'a left side that is level 255' builtin 6 "$builtin" 1 0 1 0 1 1 16639 1 0
+refused 'a left side that starts with higher of' builtin 6 "$builtin" 1 0 1 0 1 3 16640 32768 32769 1 32768
+refused 'a left side that starts with lower of' builtin 6 "$builtin" 1 0 1 0 1 3 16641 16384 16385 1 16384
+refused 'higher of before placeholder 1, which comes before 0' builtin 6 "$builtin" 1 0 1 0 1 3 16640 32769 32768 1 0
+refused 'lower of without its arguments' builtin 6 "$builtin" 1 0 1 0 1 1 16641 1 0
+refused 'a level at the start of the second rule' builtin 10 "$builtin" 1 0 1 0 2 1 0 1 0 1 16384 1 0
+refused 'the word before level 0' stranger 6 "$stranger" 1 0 1 0 1 1 16383 1 0
+refused 'the word after lower of' stranger 6 "$stranger" 1 0 1 0 1 1 16642 1 0
+refused 'the word after lower of, on the right' stranger 8 "$stranger" 1 0 1 0 1 1 0 1 16642
 surplus='words after the last rule'
 refused 'C3, book B with one word more' surplus 39 "$surplus" $book_b 0
 refused 'a word after no rules' surplus 5 "$surplus" 1 0 1 0 0 7
@@ -68,5 +81,10 @@ mend 'the second of them mended' 43 "$(fails 2)" 2 0 1 2 1 0
 mend 'both mended' 43 "$passes" 2 1 0 2 1 0
 taken 'C10, and the order of rest 0 1 too' 39 "$(fails 2)" "${b[@]:0:11}" 0 1 2 0 1 "${b[@]:16}"
 taken 'one that is not idle' 14 "$(fails 1)" 2 0 1 2 0 2 0 1 1 2 1 0 1 0
+# 02, F-2: levels and built-in words on both sides; neither is a placeholder, so an argument that has to be one is not idle
+taken 'dim(level 3) to level 200' 14 "$passes" 2 0 1 2 0 2 1 0 1 2 1 16387 1 16584
+taken 'the same, evaluated after the last 0' 14 "$(fails 1)" 2 0 1 2 0 2 0 1 1 2 1 16387 1 16584
+taken 'dim(higher of(a, b)) to lower of(a, b)' 18 "$passes" 2 0 1 2 0 2 1 0 1 4 1 16640 32768 32769 3 16641 32768 32769
+taken 'the same, evaluated after the last 0' 18 "$(fails 1)" 2 0 1 2 0 2 0 1 1 4 1 16640 32768 32769 3 16641 32768 32769
 
 all_print "01's words"

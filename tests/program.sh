@@ -1,6 +1,6 @@
 #!/usr/bin/env bash
-# What the program `expand` prints for its two files (01, "The program"): each file missing, long, odd or short, on either side of its limits, the
-# book before the cue file, and some answers of every kind.
+# What the program `expand` prints for its two files (01, "The program"; 02, F-2): each file missing, long, odd or short, on either side of its
+# limits, the book before the cue file, and some answers of every kind.
 #     tests/program.sh PROGRAM
 set -euo pipefail
 . "$(dirname "$0")/files.sh"
@@ -85,6 +85,38 @@ book 0
 answers 'C3' '8 39 0'
 words 0 > show.book
 answers 'C6' '2 0 0'
+
+# 02, F-2: levels 3 and 200 are the words 16387 and 16584
+book; cue 10 16640 16387 16584
+answers 'higher of' '0 1 1' 16584
+cue 10 16641 16387 16584
+answers 'lower of' '0 1 1' 16387
+cue 0 16640 16387 16584
+answers 'higher of with no allowance' '11 0 0'
+cue 10 16640 16387 0
+answers 'higher of a level and flash' '0 3 0' 16640 16387 0
+cue 10 1 0 16640 16387 16584
+answers 'higher of, held back' '0 5 0' 1 0 16640 16387 16584
+cue 10 2 1 16641 16640 16387 16584 16639 4
+answers 'the head of a chase that starts with a level' '0 1 3' 16584
+cue 0 16639
+answers 'a level' '0 1 0' 16639
+cue 9 16642
+answers 'the word after lower of' '9 0 0'
+cue 9 16640 16384 16383
+answers 'the word before level 0' '9 2 0'
+cue 9 16640 16384
+answers 'higher of without its second argument' '9 2 0'
+cue 9 16384 16384
+answers 'a word after a level' '9 1 0'
+words 1 0 1 0 1 3 16641 32769 32768 1 0 > show.book
+answers 'a left side that starts with lower of' '15 6 0'
+# dim(level 0) to dark, dim(a) to higher of(a, level 3)
+words 2 0 1 2 0 2 1 0 2 2 1 16384 1 0 2 1 32768 3 16640 32768 16387 > show.book
+cue 9 1 1 16384
+answers 'a level on the left, and no level' '0 3 2' 16640 0 16387
+cue 9 1 1 16584
+answers 'levels on the right' '0 1 4' 16584
 
 # both bytes of a word
 book; cue 256 0
