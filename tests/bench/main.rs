@@ -19,7 +19,7 @@ mod archives;
 mod maude;
 
 use archives::{Archive, OTHER, PRODUCT};
-use book::{Book, Plant, HOLE};
+use book::{Book, Plant, HIGHER, HOLE, LEVEL, LOWER};
 use evaluate::{evaluate, End};
 use std::time::Instant;
 
@@ -33,10 +33,12 @@ struct Work {
     cue: Vec<u16>,
     /// it would not end in an archive that remembers nothing of arguments that took no step: the other one is left out
     deep: bool,
+    /// it has levels (02, F-2): another archive that answers 9 is older, and left out; so is maude
+    levels: bool,
 }
 
 fn work(label: &str, book: Vec<u16>, cue: Vec<u16>) -> Work {
-    Work { label: label.into(), book, cue, deep: false }
+    Work { label: label.into(), book, cue, deep: false, levels: false }
 }
 
 type Names<'a> = &'a [(usize, &'a [usize])];
@@ -123,7 +125,25 @@ fn doubling() -> Work {
 /// A name whose order has its argument sixteen times, nested.
 fn repeats(times: usize) -> Work {
     let book = write(&[(0, &[]), (1, &[1; 16])], &[]);
-    Work { label: format!("repeats, {times} deep"), book, cue: nest(1, times, &[0]), deep: times > 4 }
+    let deep = times > 4;
+    Work { deep, ..work(&format!("repeats, {times} deep"), book, nest(1, times, &[0])) }
+}
+
+/// A balanced tree of so many built-in words, of the given ones in turn, over levels.
+fn group(label: &str, words: &[u16], times: usize) -> Work {
+    fn spread(words: &[u16], times: usize, leaves: &mut u16, out: &mut Vec<u16>) {
+        if times == 0 {
+            *leaves += 1;
+            out.push(LEVEL + *leaves * 37 % 256);
+            return;
+        }
+        out.push(words[times % words.len()]);
+        spread(words, (times - 1) / 2, leaves, out);
+        spread(words, times / 2, leaves, out);
+    }
+    let mut cue = vec![];
+    spread(words, times, &mut 0, &mut cue);
+    Work { levels: true, ..work(label, write(&[(0, &[])], &[]), cue) }
 }
 
 /// The largest book, 21,251 words, made so that the order test passes it and has to look at everything: 128 names with a rule each, whose
@@ -218,7 +238,7 @@ fn expansion(w: &Work, least: f64, agree: &mut bool) {
             std::hint::black_box(c.to_words());
         }
     })];
-    for archive in [Some(PRODUCT), OTHER.filter(|_| !w.deep)].into_iter().flatten() {
+    for archive in [Some(PRODUCT), OTHER.filter(|o| takes_part(o, w))].into_iter().flatten() {
         let (mut out, mut work) = (vec![0; 4096], vec![0; 8192]);
         let a = archive.expand(&w.book, &w.cue, &mut out, &mut work);
         if (a.number, a.place, a.steps) != (0, words.len(), o.steps) || out[..a.place] != words[..] {
@@ -231,7 +251,15 @@ fn expansion(w: &Work, least: f64, agree: &mut bool) {
         }));
     }
     line(&w.label, w.cue.len().max(words.len()), o.steps, &measure(least, calls));
-    in_maude(w, &b, &words, agree);
+    if !w.levels {
+        in_maude(w, &b, &words, agree);
+    }
+}
+
+/// Whether the other archive is measured.
+fn takes_part(other: &Archive, w: &Work) -> bool {
+    let older = || other.expand(&w.book, &w.cue, &mut [0; 4096], &mut [0; 8192]).number == 9;
+    !w.deep && !(w.levels && older())
 }
 
 fn in_maude(w: &Work, b: &Book, words: &[u16], agree: &mut bool) {
@@ -270,13 +298,15 @@ fn all() -> i32 {
     let mut agree = true;
     heading();
     let (few, many) = (small("small cue", 0, 40), small("small cue, 254 names", 250, 40));
-    for w in [counting(1500), few, many, chase(400), wide(10), doubling(), repeats(4), repeats(62)] {
+    let (higher, both) = (group("group, higher of", &[HIGHER], 1000), group("group, both in turn", &[HIGHER, LOWER], 1000));
+    for w in [counting(1500), few, many, chase(400), wide(10), doubling(), repeats(4), repeats(62), higher, both] {
         expansion(&w, least, &mut agree);
     }
     agree &= largest_book("reading, largest book", least, Archive::read, |b| book::read(b).is_ok(), largest().len());
     agree &= largest_book("order test, largest book", least, Archive::test, |b| book::read(b).unwrap().test(Plant::Nothing) == (0, 0), 0);
     println!("(ratio: the product's time by the second evaluator's, which works on shared trees with a heap; both from words to words.");
-    println!(" With another archive: the product's time by the other's. A nest of repeats that it would not end is left out there.)");
+    println!(" With another archive: the product's time by the other's. A nest of repeats that it would not end is left out there, and so is a");
+    println!(" group of levels that it does not know.)");
     if !maude::present() {
         println!("(maude is not installed: its runs are skipped)");
     }
