@@ -135,6 +135,8 @@ pub fn levels() -> Vec<String> {
     let deep = |n: usize| [vec![higher; n], vec![16385; n + 1]].concat();
     t.expands("F-2, 63 deep", &B, &deep(63), 99, (0, 1, 63), Some(&[16385]));
     t.expands("F-2, 64 deep", &B, &deep(64), 99, (13, 0, 0), None);
+    // chase takes a step, and 63 heads at level 2 are one too deep
+    t.expands("F-2, argument 1 before 2", &B, &[&[higher, 4][..], &nested(2, 63, 0)].concat(), 9, (13, 0, 1), None);
     for (label, cue, place) in [
         ("16383", &[16383][..], 0),
         ("16642", &[16642], 0),
