@@ -29,8 +29,8 @@ extern "C" {
 #endif
 
 /* The version: a change of what a function takes or answers raises the first number, anything new the second. */
-#define CUE_VERSION_MAJOR 1
-#define CUE_VERSION_MINOR 1
+#define CUE_VERSION_MAJOR 2
+#define CUE_VERSION_MINOR 0
 
 /* Sizes, in words. */
 #define CUE_TERM_WORDS 4096 /* the most words of a cue, and the least of an answer buffer */
@@ -46,6 +46,16 @@ extern "C" {
 #define CUE_VARIABLES 16 /* the most placeholders of a rule */
 #define CUE_VARIABLE 32768 /* placeholder k is the word 32768 + k */
 #define CUE_LEVELS 64 /* the deepest level at which an argument is evaluated; the whole cue is level 1 */
+
+/*
+ * Dimmer levels, and the built-in words for them. They may stand in cues and on both sides of rules, but a left side does not start with
+ * one. Where both arguments of a built-in word are levels, a step puts one of them there; its order is 1 2 0.
+ */
+#define CUE_LEVEL 16384 /* dimmer level n, from 0 to 255, is the word 16384 + n */
+#define CUE_HIGHER_OF 16640 /* two arguments: the larger level */
+#define CUE_LOWER_OF 16641 /* two arguments: the smaller level */
+#define CUE_HIGHER_RULE 128 /* the number of the rule by which "higher of" takes a step */
+#define CUE_LOWER_RULE 129 /* and of that of "lower of" */
 
 /* The numbers of an answer. */
 enum {
@@ -63,14 +73,16 @@ enum {
   CUE_SPENT = 11,    /* one more step would pass the allowance */
   CUE_OVERLONG = 12, /* the step would leave the whole cue above 4,096 words */
   CUE_NESTED = 13,   /* an argument would be opened from level 64 */
-  CUE_UNSETTLED = 14 /* the order test failed */
+  CUE_UNSETTLED = 14, /* the order test failed */
+  CUE_BUILTIN = 15   /* a left side starts with a level or a built-in word */
 };
 
 #if defined(__cplusplus) || (defined(__STDC_VERSION__) && __STDC_VERSION__ >= 199901L)
 /* The word of a number in the table above, for a message; "?" for a number that is not in it. */
 static inline const char *cue_word(uint32_t number) {
   static const char *const words[] = {"taken",   "short",      "count",   "entry", "stranger", "ragged", "headless", "stray",
-                                      "surplus", "broken cue", "cramped", "spent", "overlong", "nested", "unsettled"};
+                                      "surplus", "broken cue", "cramped", "spent", "overlong", "nested", "unsettled",
+                                      "builtin"};
   return number < sizeof words / sizeof words[0] ? words[number] : "?";
 }
 #endif
@@ -99,8 +111,9 @@ typedef struct cue_part {
 /*
  * A rule that fits, if found is 1: its number (from 0), the index in the book of its right side's first word, how many words the right
  * side has, and for each placeholder of the left side the index of the first word, and the number of words, of the argument that it
- * stands for. Placeholders that the left side does not have are 0 and 0. If found is 0, all is 0. (`number` is a rule's here, and no
- * number of the table.)
+ * stands for. Placeholders that the left side does not have are 0 and 0. A built-in rule has number 128 or 129 and no right side in the
+ * book (rhs and size are 0): word is the level that a step puts there, as a word of a cue; of any other rule it is 0. If found is 0, all
+ * is 0. (`number` is a rule's here, and no number of the table.)
  */
 typedef struct cue_match {
   uint32_t found;
@@ -109,10 +122,11 @@ typedef struct cue_match {
   size_t size;
   size_t starts[CUE_VARIABLES];
   size_t lengths[CUE_VARIABLES];
+  uint16_t word;
 } cue_match;
 
 /*
- * Reads a book. 0: accepted, place is its length. 1 to 8: refused, place is the index of the word that was being read when the first
+ * Reads a book. 0: accepted, place is its length. 1 to 8, or 15: refused, place is the index of the word that was being read when the first
  * fault was met. For 1 that is the book's length. For 5 it is the first word too many or, where a side's words are used up and it is
  * still not complete, the word behind its last one.
  */
@@ -122,7 +136,7 @@ cue_answer cue_read(const uint16_t *book, size_t book_words);
 cue_shape cue_shape_of(const uint16_t *book, size_t book_words);
 
 /*
- * Checks a cue against a book. 0: whole, place is its length. 1 to 8: the book is refused, as cue_read says. 9: place is the index of
+ * Checks a cue against a book. 0: whole, place is its length. 1 to 8, or 15: the book is refused, as cue_read says. 9: place is the index of
  * the first word that can't stand there, or the cue's length if it ends early; no word can stand at index 4,096.
  */
 cue_answer cue_check_term(const uint16_t *book, size_t book_words, const uint16_t *term, size_t term_words);
@@ -135,19 +149,20 @@ cue_part cue_argument(const uint16_t *book, size_t book_words, const uint16_t *t
 
 /*
  * How many words the part at the front of ws takes: its first word with all its arguments. Where ws ends before that, all its words. The
- * argument counts are those that the book's words list, whether or not the book is accepted; a word that is no name has none.
+ * argument counts are those that the book's words list, whether or not the book is accepted; of the words that it does not list the two
+ * built-in ones have two arguments, all others none.
  */
 size_t cue_span(const uint16_t *book, size_t book_words, const uint16_t *ws, size_t ws_words);
 
 /*
- * The lowest-numbered rule of the book that fits the part at the front of ws; words after that part do not count. Nothing is found in a
- * refused book.
+ * The lowest-numbered rule that fits the part at the front of ws, of the book or built in; words after that part do not count. Nothing is
+ * found over a refused book.
  */
 cue_match cue_first_match(const uint16_t *book, size_t book_words, const uint16_t *ws, size_t ws_words);
 
 /*
- * The order test. 0: every name passes, so a cue that cue_expand hands back with 0 has no active place at which a rule fits. 1 to 8: the
- * book is refused, as cue_read says. 14: place is the lowest-numbered name that fails; every name before it passes, so orders can be mended
+ * The order test. 0: every name passes, so a cue that cue_expand hands back with 0 has no active place at which a rule fits. 1 to 8, or
+ * 15: the book is refused, as cue_read says. 14: place is the lowest-numbered name that fails; every name before it passes, so orders can be mended
  * from the top of the book.
  */
 cue_answer cue_test_strategies(const uint16_t *book, size_t book_words);
@@ -159,7 +174,8 @@ cue_answer cue_test_strategies(const uint16_t *book, size_t book_words);
  *   0         the answer's length, words   taken            the answer in its first words,          the first 8,192 words are
  *                                                           the rest unchanged                      zero, the rest unchanged
  *   10        0                            0                unchanged                               unchanged
- *   1 to 8    as cue_read                  0                unchanged                               unchanged
+ *   1 to 8,   as cue_read                  0                unchanged                               unchanged
+ *   or 15
  *   9         as cue_check_term            0                unchanged                               unchanged
  *   11 to 13  0                            completed        unchanged                               the first 8,192 words are
  *                                                                                                   zero, the rest unchanged
