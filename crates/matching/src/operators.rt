@@ -1,12 +1,15 @@
 // The built-in rules: three words tell whether one matches, and no rule of the book is looked at.
 ghost use mathlib.Core.Path.{_≡_};
-ghost use Rattle.system.specs.System.{System};
+ghost use lib.Dec.{leb};
+ghost use Rattle.system.specs.BuiltIns.{literal};
+ghost use Rattle.system.specs.System.{System, head};
 ghost use Rattle.matching.specs.declared.FirstRule.the-variants.{Computed};
 ghost use Rattle.matching.specs.Bindings.{noBindings, noMatch};
 ghost use Rattle.matching.specs.rules.Searches.{searchComputed};
 use crate::FirstRule;
 use crate::Match;
 use crate::rules::Search;
+use system::built_ins::LITERAL;
 use system::built_ins::MAXIMUM;
 use system::built_ins::MAXIMUM_RULE;
 use system::built_ins::MINIMUM;
@@ -16,6 +19,16 @@ use system::built_ins::larger;
 use system::built_ins::smaller;
 use system::limits::VARIABLES;
 use system::words::wide;
+
+// Whether the first word is not below the literals: no listed rule matches then.
+pub fn starts_built_in(ws: &[u16]) -> bool
+    ensures { λ r. ⌜ r ≡ leb literal (head (now (ws .entry))) ⌝ }
+{
+    if ws.len() == 0 {
+        return false;
+    }
+    LITERAL <= wide(ws[0])
+}
 
 fn nothing() -> Search
     ensures { λ r. ⌜ r ≡ record { matched = noMatch; width = 0 } ⌝ }

@@ -5,12 +5,12 @@ ghost use lib.ListN.{length, getD};
 ghost use Rattle.system.specs.Answers.{signatureOf};
 ghost use Rattle.system.specs.Book.{systemOf, Accepted};
 ghost use Rattle.matching.specs.Bindings.{consumed};
-ghost use Rattle.matching.specs.rules.Searches.{searchListed, searchOf, RightSide, reductLength};
+ghost use Rattle.matching.specs.rules.Searches.{searchOf, RightSide, reductLength};
 use crate::FirstRule;
 use crate::Match;
 use crate::operators::computed;
+use crate::operators::starts_built_in;
 use system::Shape;
-use system::built_ins::LITERAL;
 use system::layout::rules::rule_at;
 use system::limits::VARIABLE;
 use system::limits::VARIABLES;
@@ -39,12 +39,16 @@ fn consumed(book: &[u16], l: u16, ws: &[u16]) -> usize
     1
 }
 
-// The first listed rule that matches the subterm at the front of ws; what follows the subterm does not count. Most rules start with
+// The first rule that matches the subterm at the front of ws; what follows the subterm does not count. A listed left side starts below the
+// literals, a built-in one above them, so that one look at the first word tells which rules there may be. Most listed rules start with
 // another symbol: they are given up before the stretches are cleared.
-fn first_listed(book: &[u16], shape: Shape, ws: &[u16]) -> Search
+pub fn first_rule(book: &[u16], shape: Shape, ws: &[u16]) -> Search
     requires { ⌜ Accepted (now book) shape ⌝ }
-    ensures { λ r. ⌜ r ≡ searchListed (systemOf (now (book .entry))) (now (ws .entry)) ⌝ }
+    ensures { λ r. ⌜ r ≡ searchOf (systemOf (now (book .entry))) (now (ws .entry)) ⌝ }
 {
+    if starts_built_in(ws) {
+        return computed(ws);
+    }
     let mut found = FirstRule::Nothing;
     let mut starts = [0usize; VARIABLES];
     let mut lengths = [0usize; VARIABLES];
@@ -97,21 +101,6 @@ fn first_listed(book: &[u16], shape: Shape, ws: &[u16]) -> Search
         },
         width: end,
     }
-}
-
-// The first rule that matches the subterm at the front of ws. Its first word tells which rules there may be: a listed left side starts
-// below the literals, a built-in one above them.
-pub fn first_rule(book: &[u16], shape: Shape, ws: &[u16]) -> Search
-    requires { ⌜ Accepted (now book) shape ⌝ }
-    ensures { λ r. ⌜ r ≡ searchOf (systemOf (now (book .entry))) (now (ws .entry)) ⌝ }
-{
-    if ws.len() == 0 {
-        return first_listed(book, shape, ws);
-    }
-    if LITERAL <= wide(ws[0]) {
-        return computed(ws);
-    }
-    first_listed(book, shape, ws)
 }
 
 // How many words the reduct has: the right side's, with the variables' terms of these lengths in their places.

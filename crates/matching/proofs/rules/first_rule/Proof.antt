@@ -1,49 +1,150 @@
--- `rules::first_rule` meets its contract: one look at the first word tells where to search.
-use native.Mathlib.Omega.{arith}
+-- `rules::first_rule` meets its contract.
 use mathlib.Core.Path.{_≡_, sym, _∙_}
-use lib.ListN.{getD, List·getD-eq-default}
+use mathlib.Core.Logic.{⊎-elim}
+use lib.ListN.{getD}
+use borrow.Author.Tests.{leb-true, leb-false}
+use Rattle.system.specs.BuiltIns.{literal}
 use Rattle.system.specs.Book.{systemOf}
+use Rattle.matching.specs.rules.Searches.{searchListed, searchOf}
 use Rattle.matching.proofs.Sources.{match-low, match-high}
 use Rattle.matching.proofs.rules.Widths.{listed-search, computed-search}
+use Rattle.matching.proofs.rules.Searches.{Searched, Walked, search-starts, search-ends, root-differs, walk-starts, matches-here, word-differs, symbol-matched, variable-matched}
+use Rattle.system.proofs.layout.Books.{Turn, room, turn-of}
+use native.Mathlib.Omega.{arith}
+use Prim.Native.Nat.{_-_}
+use Rattle.matching.specs.Bindings.{noBindings}
 use borrow.Author.Needs.{needs}
 use Rattle.matching.proofs.rules.first_rule.Statement.{statement}
 use Rattle.matching.proofs.rules.first_rule.Tie as tie
 
--- ---- the places of the code that are behind others: the entry, the first word
+abbrev Inv-words : tie.InvT-words
+Inv-words book shape ws found starts lengths end k at this r lhs width s₀ l₀ j₀ q₀ s l j q = Walked book ws this width j q s l
 
-abbrev entry : tie.After-shared-slice-known2 → tie.Start
-entry c = c .before .before
+abbrev μ-words : tie.MeasureT-words
+μ-words book shape ws found starts lengths end k at this r lhs width s₀ l₀ j₀ q₀ s l j q = width - j
 
-abbrev first : tie.After-wide → tie.Start
-first c = entry (c .before .before .before)
+abbrev Inv-rules : tie.InvT-rules
+Inv-rules book shape ws found₀ starts₀ lengths₀ end₀ k₀ at₀ found starts lengths end k at = Searched book shape ws found starts lengths end k at
+
+abbrev μ-rules : tie.MeasureT-rules
+μ-rules book shape ws found₀ starts₀ lengths₀ end₀ k₀ at₀ found starts lengths end k at = shape .rules - k
+
+-- ---- the places of the code that are behind others: the first word looked at, the entry, the head of the rules' loop, the rule read, the word met
+
+abbrev start : tie.After-starts-built-in Inv-words μ-words Inv-rules μ-rules → tie.Start Inv-words μ-words Inv-rules μ-rules
+start c = c .before .before .before
+
+abbrev entry : tie.At-rules Inv-words μ-words Inv-rules μ-rules → tie.Start Inv-words μ-words Inv-rules μ-rules
+entry c = start (c .before .before)
+
+abbrev head : tie.After-rule-at Inv-words μ-words Inv-rules μ-rules → tie.At-rules Inv-words μ-words Inv-rules μ-rules
+head c = c .before .before .before
+
+abbrev read : tie.At-words Inv-words μ-words Inv-rules μ-rules → tie.After-rule-at Inv-words μ-words Inv-rules μ-rules
+read c = c .before .before .before .before
+
+abbrev met : tie.After-consumed2 Inv-words μ-words Inv-rules μ-rules → tie.In-words Inv-words μ-words Inv-rules μ-rules
+met c = c .before .before .before
+
+-- the rule of this turn
+turn : (c : tie.After-rule-at Inv-words μ-words Inv-rules μ-rules) →
+    let h = head c in
+    let a = entry h .args in Turn (a .book .now) (a .shape) (h .rules .k) (h .rules .at) (c .rule-at .result)
+turn c = let h = head c in turn-of (entry h .pre) (c .before .if2 .taken) (h .rules .inv .rest) (c .rule-at .ensures)
+
+-- only listed rules can match, so what is found among them is what is found
+all-listed : (c : tie.At-rules Inv-words μ-words Inv-rules μ-rules) →
+    let a = entry c .args in searchListed (systemOf (a .book .now)) (a .ws .now) ≡ searchOf (systemOf (a .book .now)) (a .ws .now)
+all-listed c =
+    let e = c .before in
+    let a = entry c .args in
+    let low = leb-false literal (getD (a .ws .now) 0 0) (sym (e .before .starts-built-in .ensures) ∙ e .if1 .left) in
+    listed-search (systemOf (a .book .now)) (a .ws .now) (match-low (a .book .now) (a .shape) (entry c .pre) (a .ws .now) low)
 
 -- ---- the needs
 
-returns : tie.Need-returns
+returns : tie.Need-returns Inv-words μ-words Inv-rules μ-rules
 returns c =
-    let s = entry (c .before .before) in
+    let b = c .before .before in
+    let s = start b in
     let a = s .args in
-    let none : getD (a .ws .now) 0 0 ≡ 0 = List·getD-eq-default (a .ws .now) 0 (let z = c .before .if1 .taken in omega arith) in
-    c .first-listed .ensures ∙ listed-search (systemOf (a .book .now)) (a .ws .now) (match-low (a .book .now) (a .shape) (s .pre) (a .ws .now) (omega arith))
-
-returns-2 : tie.Need-returns-2
-returns-2 c =
-    let s = first (c .before .before) in
-    let a = s .args in
-    let w = c .before .before .wide .ensures .0 in
+    let high = leb-true literal (getD (a .ws .now) 0 0) (sym (b .starts-built-in .ensures) ∙ c .before .if1 .taken) in
     c .computed .ensures (systemOf (a .book .now))
-    ∙ computed-search (systemOf (a .book .now)) (a .ws .now) (match-high (a .book .now) (a .shape) (s .pre) (a .ws .now) (let l = c .before .if2 .taken in omega arith))
+    ∙ computed-search (systemOf (a .book .now)) (a .ws .now) (match-high (a .book .now) (a .shape) (s .pre) (a .ws .now) high)
 
-returns-3 : tie.Need-returns-3
+rules-holds : tie.Need-rules-holds Inv-words μ-words Inv-rules μ-rules
+unfolding noBindings
+rules-holds c = let s = c .before .before .before .before in search-starts (s .pre) (s .args .ws .now)
+
+rule-at-requires : tie.Need-rule-at-requires Inv-words μ-words Inv-rules μ-rules
+rule-at-requires c κs = let h = c .before .before in room (entry h .pre) (c .if2 .taken) (h .rules .inv .rest)
+
+mul-consumed : tie.Need-mul-consumed Inv-words μ-words Inv-rules μ-rules
+mul-consumed c = let w = turn c .here in omega arith
+
+shared-slice-read-consumed : tie.Need-shared-slice-read-consumed Inv-words μ-words Inv-rules μ-rules
+shared-slice-read-consumed c = let w = turn (c .before) .here in omega arith
+
+rules-again : tie.Need-rules-again Inv-words μ-words Inv-rules μ-rules
+rules-again c = let r = c .before .before .before in root-differs (turn r) (head r .rules .inv) (c .before .consumed .ensures .0) (c .if3 .taken)
+
+words-holds : tie.Need-words-holds Inv-words μ-words Inv-rules μ-rules
+unfolding noBindings
+words-holds c = let r = c .before .before .before in walk-starts (turn r) (entry (head r) .args .ws .now)
+
+add-w : tie.Need-add-w Inv-words μ-words Inv-rules μ-rules
+add-w c = let w = turn (read (c .before)) .here in omega arith
+
+mul-w : tie.Need-mul-w Inv-words μ-words Inv-rules μ-rules
+mul-w c = let w = turn (read (c .before)) .here in omega arith
+
+shared-slice-read-w : tie.Need-shared-slice-read-w Inv-words μ-words Inv-rules μ-rules
+shared-slice-read-w c = let w = turn (read (c .before .before)) .here in omega arith
+
+rules-again-2 : tie.Need-rules-again-2 Inv-words μ-words Inv-rules μ-rules
+rules-again-2 c =
+    let m = met (c .before) in
+    let r = read (m .before) in
+    word-differs (turn r) (head r .rules .inv) (m .before .words .inv) (m .words-test .taken) (c .before .consumed2 .ensures .0) (c .if4 .taken)
+
+array-write-s : tie.Need-array-write-s Inv-words μ-words Inv-rules μ-rules
+array-write-s c =
+    let m = met (c .before .before .before) in
+    let w = turn (read (m .before)) .here in omega (arith, w .low (m .before .words .j) (m .words-test .taken))
+
+array-write-l : tie.Need-array-write-l Inv-words μ-words Inv-rules μ-rules
+array-write-l c =
+    let m = met (c .before .before .before) in
+    let w = turn (read (m .before)) .here in omega (arith, w .low (m .before .words .j) (m .words-test .taken))
+
+words-again : tie.Need-words-again Inv-words μ-words Inv-rules μ-rules
+words-again c =
+    let k = c .before .before .before in
+    let m = met k in
+    let t = turn (read (m .before)) in
+    let wo = m .before .words .inv in
+    let here = m .words-test .taken in
+    let n = k .consumed2 in
+    let v = c .before .wide in
+    ⊎-elim
+    (λ e. variable-matched t wo here (n .ensures) (c .before .before .if4 .left) (v .ensures .0) (e .0 .taken) (e .1) (e .2))
+    (λ e. symbol-matched t wo here (n .ensures) (c .before .before .if4 .left) (v .ensures .0) (e .0 .left) (e .1) (e .2))
+    (c .if5 .came)
+
+returns-2 : tie.Need-returns-2 Inv-words μ-words Inv-rules μ-rules
+returns-2 c = let h = c .before .before in search-ends (entry h .pre) (h .rules .inv) (c .if2 .left) ∙ all-listed h
+
+returns-3 : tie.Need-returns-3 Inv-words μ-words Inv-rules μ-rules
 returns-3 c =
-    let s = first (c .before .before) in
-    let a = s .args in
-    let w = c .before .before .wide .ensures .0 in
-    c .first-listed2 .ensures
-    ∙ listed-search (systemOf (a .book .now)) (a .ws .now) (match-low (a .book .now) (a .shape) (s .pre) (a .ws .now) (let l = c .before .if2 .left in omega arith))
+    let r = read (c .before) in
+    matches-here (turn r) (head r .rules .inv) (c .before .words .inv) (c .words-test .left) ∙ all-listed (head r)
 
 pub first-rule-spec : {M : Type 1} → statement M
 first-rule-spec =
     tie.close
-    (tie.spec (λ c κs. entry (c .before) .pre) returns (λ c. search needs) (λ c κs. search needs) (λ c κs. search needs) returns-2
-    (λ c κs. first (c .before) .pre) returns-3)
+    (tie.spec
+    Inv-words μ-words Inv-rules μ-rules (λ c κs. search needs) (λ c κs. search needs) returns rules-holds rule-at-requires (λ c. search needs) mul-consumed shared-slice-read-consumed
+    (λ c κs. search needs) (λ c. search needs) rules-again words-holds add-w mul-w shared-slice-read-w (λ c. search needs)
+    (λ c. search needs) (λ c. search needs) (λ c. search needs) (λ c κs. search needs) (λ c. search needs) rules-again-2
+    (λ c κs. search needs) (λ c. search needs) array-write-s (λ c. search needs) array-write-l (λ c. search needs) (λ c. search needs)
+    (λ c. search needs) words-again returns-2 returns-3)
