@@ -4,16 +4,16 @@ ghost use mathlib.Core.List.{_++_};
 ghost use lib.ListN.{length};
 ghost use Rattle.printing.specs.Text.{ascii, Written};
 ghost use Rattle.check_book.specs.Verdict.{textBytes, faultLine, takenLine, orderLine};
-ghost use Rattle.check_book.specs.lines.Rows.{faultOf, placed};
+ghost use Rattle.check_book.specs.lines.Rows.{faultOf, OfSide, placed};
 use printing::put;
 use printing::put_decimal;
 use printing::put_line;
 use system::Answer;
-use system::numbers::BUILT_IN_HEAD;
 use system::numbers::ENTRY;
 use system::numbers::MISSING;
 use system::numbers::RANGE;
 use system::numbers::TAKEN;
+use system::numbers::TRAILING;
 use system::numbers::UNBALANCED;
 use system::numbers::UNBOUND;
 use system::numbers::UNKNOWN;
@@ -41,22 +41,12 @@ fn put_row(text: &mut [u8], word: &[u8], place: usize, when: &[u8]) -> usize
     put_place(text, at, b" at word ", place, when)
 }
 
-// The line for a book that the reader refuses.
-pub fn put_fault(text: &mut [u8], a: Answer) -> usize
-    requires { ⌜ textBytes ≤ length (now text) ⌝ }
-    ensures { λ r. ⌜ Written (now (text .entry)) 0 (faultLine (faultOf (a .number)) (a .place)) r (now (text .exit)) ⌝ }
+// The line for a fault of a side: 4 to 7, or 15.
+fn put_side_fault(text: &mut [u8], n: u32, at: usize) -> usize
+    requires { ⌜ (textBytes ≤ length (now text)) × OfSide n ⌝ }
+    ensures { λ r. ⌜ Written (now (text .entry)) 0 (faultLine (faultOf n) at) r (now (text .exit)) ⌝ }
 {
-    let n = a.number;
-    let at = a.place;
     match n {
-        MISSING => put_row(text, b"short", at, b"a word the book needs is missing"),
-        RANGE => put_row(text, b"count", at, b"a count or length outside its range"),
-        ENTRY => put_row(
-            text,
-            b"entry",
-            at,
-            b"an order entry above the argument count",
-        ),
         UNKNOWN => put_row(
             text,
             b"stranger",
@@ -81,13 +71,33 @@ pub fn put_fault(text: &mut [u8], a: Answer) -> usize
             at,
             b"a left placeholder is not the next one, or a right one is not in the left",
         ),
-        BUILT_IN_HEAD => put_row(
+        _ => put_row(
             text,
             b"builtin",
             at,
             b"a left side starts with a level or a built-in word",
         ),
-        _ => put_row(text, b"surplus", at, b"words after the last rule"),
+    }
+}
+
+// The line for a book that the reader refuses.
+pub fn put_fault(text: &mut [u8], a: Answer) -> usize
+    requires { ⌜ textBytes ≤ length (now text) ⌝ }
+    ensures { λ r. ⌜ Written (now (text .entry)) 0 (faultLine (faultOf (a .number)) (a .place)) r (now (text .exit)) ⌝ }
+{
+    let n = a.number;
+    let at = a.place;
+    match n {
+        MISSING => put_row(text, b"short", at, b"a word the book needs is missing"),
+        RANGE => put_row(text, b"count", at, b"a count or length outside its range"),
+        ENTRY => put_row(
+            text,
+            b"entry",
+            at,
+            b"an order entry above the argument count",
+        ),
+        TRAILING => put_row(text, b"surplus", at, b"words after the last rule"),
+        _ => put_side_fault(text, n, at),
     }
 }
 

@@ -16,7 +16,7 @@ use Rattle.system.specs.Terms.{Numbered, end, symbol, next, WellFormedRule}
 use Rattle.system.specs.Format.{encodeRules}
 use Rattle.system.proofs.Accepts.{forest-some}
 use Rattle.system.proofs.Members.{member-getD, numbered-le}
-use Rattle.system.proofs.Located.{RuleAt, rule-listed}
+use Rattle.system.proofs.Located.{RuleAt, rule-encoded}
 use Rattle.system.proofs.words.SpanSteps.{span-le}
 use Rattle.matching.specs.Matching.{bind, Contraction, firstMatch}
 use Rattle.matching.specs.declared.Match.{Match}
@@ -237,7 +237,7 @@ module _ (b ws : List ℕ) where
     answers (r ∷ rs) k at e law = go (rule-agree ws g l) refl refl (answers rs (suc k) (at + 1 + length (r .lhs) + 1 + length (r .rhs)) (stands .rests) (λ j h. law (suc j) (omega arith)))
       where
         stands : RuleAt b at r rs
-        stands = rule-listed b at r rs e
+        stands = rule-encoded b at r rs e
 
         l : WellFormedRule g r
         l = law 0 (omega arith)

@@ -17,7 +17,8 @@ use Rattle.system.specs.Signature.{Signature, Symbol, arity, span}
 use Rattle.system.specs.System.{Rule}
 use Rattle.system.specs.Rules.{BuiltIn, max, min, maximumRule, minimumRule}
 use Rattle.system.specs.Terms.{Forest, empty, more, Whole}
-use Rattle.system.proofs.BuiltIns.{literal-is, is-literal, number-of, operator-arity, plain-arity, literal-operator, operator-cases, maximum-operator, minimum-operator, larger-words, smaller-words, larger-below, smaller-below}
+use Rattle.system.proofs.BuiltIns.{literal-is, is-literal, number-of, literal-operator, operator-cases, maximum-operator, minimum-operator}
+use Rattle.system.proofs.BuiltIns.{operator-arity, plain-arity, larger-words, smaller-words, larger-below, smaller-below}
 use Rattle.system.proofs.Signatures.{arity-unlisted}
 use Rattle.matching.specs.Matching.{Computation, operation, applied, computed}
 

@@ -46,7 +46,9 @@ fn nothing() -> Search
 // A built-in rule that matches, in the place of three words.
 fn puts(number: usize, word: u16) -> Search
     ensures { λ r. ⌜ r ≡ record {
-        matched = record { rule = Computed number word; starts = noBindings .starts; lengths = noBindings .lengths }; width = 3 } ⌝ }
+      matched = record { rule = Computed number word; starts = noBindings .starts; lengths = noBindings .lengths };
+      width = 3;
+    } ⌝ }
 {
     Search {
         matched: Match {

@@ -1,4 +1,5 @@
-// Runs the cases of 01 that are not starred (C13, C14, C15), and orders that repeat an argument, nested; prints the three numbers of each.
+// Runs the cases of 01 that are not starred (C13, C14, C15), orders that repeat an argument, nested, and nests of levels (02, F-2); prints
+// the three numbers of each.
 ghost use Prim.Native.Nat.{_≤_};
 ghost use lib.ListN.{length};
 use libc::STDOUT_FILENO;
@@ -158,6 +159,18 @@ fn comb() {
     rehearse(b"comb that grows", &book, &small, 1000);
 }
 
+// "Higher of" in the first argument of each other, over levels: the innermost level of 63 is opened at level 64, each takes one step, and
+// one level is left. Of 64 the innermost argument would be opened from level 64.
+fn nested_levels() {
+    let mut cue = [16384u16; 127];
+    buffers::copy_in(&mut cue, 0, &[16640u16; 63]);
+    over_b(b"F-2 63 higher of", &[1u16, 1], &cue, 63);
+    over_b(b"F-2 63 higher of, allowance 62", &[1u16, 1], &cue, 62);
+    let mut deeper = [16384u16; 129];
+    buffers::copy_in(&mut deeper, 0, &[16640u16; 64]);
+    over_b(b"F-2 64 higher of", &[1u16, 1], &deeper, 63);
+}
+
 fn main() {
     print_heading();
     endless_chase();
@@ -168,4 +181,5 @@ fn main() {
     changes_between();
     changes_by_repeats();
     comb();
+    nested_levels();
 }

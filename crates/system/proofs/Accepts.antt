@@ -2,54 +2,31 @@
 -- the encoding of s.
 use Prim.Native.Nat.{ℕ, suc, _≤_, zero-le}
 use native.Mathlib.Omega.{arith}
-use native.Mathlib.Decide.{decLt}
 use mathlib.Core.Path.{_≡_, refl, sym, ap, _∙_}
 use mathlib.Core.Logic.{_↔_}
 use mathlib.Core.Bool.{Bool, true, false}
 use mathlib.Core.List.{List, [], _∷_, _++_, append-assoc, append-nil}
-use lib.ListN.{length, getD, drop-of-length-le, List·getD-eq-default}
+use lib.ListN.{length, getD, drop-of-length-le}
 use lib.Seq.{drop-length}
 use lib.Dec.{ltb}
 use borrow.Author.Tests.{le-ltb, ltb-false}
-use Rattle.system.specs.Limits.{variable, maxArity, maxEntries, maxRules, maxSymbols, sideWords}
-use Rattle.system.specs.BuiltIns.{builtInStrategy}
-use Rattle.system.specs.Signature.{Signature, Listed, arity}
-use Rattle.system.specs.System.{System, Rule, noRule, strategy}
-use Rattle.system.specs.Terms.{Forest, more, Member, WellFormedRule, WellFormed}
+use Rattle.system.specs.Limits.{variable, maxArity, maxRules, maxSymbols, sideWords}
+use Rattle.system.specs.Signature.{Signature, Listed}
+use Rattle.system.specs.System.{System, Rule, noRule}
+use Rattle.system.specs.Terms.{Forest, more, WellFormedRule, WellFormed}
 use Rattle.system.specs.Format.{encodeList, encodeStrategies, encodeRules, encode}
 use Rattle.system.specs.declared.reader.sides.SideRole.{SideRole}
 use Rattle.system.specs.declared.reader.sides.SideRole.the-variants.{Left, Right}
-use Rattle.system.specs.Numbers.{range, entry}
+use Rattle.system.specs.Numbers.{range}
 use Rattle.system.specs.Answers.{answerOf}
 use Rattle.system.specs.Parser.{Parsed, ok, fault, times, each, number, Reading, readWords, readStrategy, readSide, readRule, readRules, readEnd, readSystem, read}
-use Rattle.system.proofs.BuiltIns.{builtin-narrow, builtin-strategy}
-use Rattle.system.proofs.Signatures.{symbol-lt, getD-within, arity-listed, arity-unlisted}
-use Rattle.system.proofs.Members.{member-getD, member-index}
+use Rattle.system.proofs.Signatures.{symbol-lt, arity-listed}
+use Rattle.system.proofs.Strategies.{Strategy, reads-strategies, narrow-every, strategy-every, every-strategy}
 use Rattle.system.proofs.Parsed.{ok-value, ok-place, not-fault, then-ok, Between, between-join, between-split, between-ok}
-use Rattle.system.proofs.Parses.{Reads, reads-iff, one, reads-number}
-use Rattle.system.proofs.ParsesMany.{Every, Pairwise, reads-numbers, reads-times, reads-each, reads-counted}
+use Rattle.system.proofs.Parses.{Reads, one, reads-number}
+use Rattle.system.proofs.ParsesMany.{Every, reads-numbers, reads-times, reads-counted}
 use Rattle.system.proofs.FaultNumbers.{number-positive}
 use Rattle.system.proofs.Sides.{Taken, reads-words, taken-forest, taken-numbered, taken-few, taken-headed, taken-known, left-taken, right-taken}
-
--- ---- strategies
-
--- a strategy of a symbol that has arity a
-abbrev pub Strategy : ℕ → List ℕ → Type 0
-Strategy a es = (length es ≤ maxEntries) × ((e : ℕ) → Member e es → e ≤ a)
-
-module _ (ws : List ℕ) where
-  pub reads-strategy : (a : ℕ) → Reads ws (readStrategy ws a) encodeList (Strategy a)
-  unfolding readStrategy encodeList
-  reads-strategy a =
-      reads-iff
-      (λ es h. (h .1, member-index (λ e. e ≤ a) es (λ k l. h .2 k l .1)))
-      (λ es h. (zero-le, h .0, λ k l. (zero-le, h .1 (getD es k 0) (member-getD es k l))))
-      (reads-counted length (λ n. times n (number ws entry 0 a)) (λ n. reads-numbers ws entry 0 a n) range 0 maxEntries)
-
-  pub reads-strategies : (g : Signature) →
-      Reads ws (each (readStrategy ws) g) encodeStrategies (λ ess. (length ess ≡ length g) × Pairwise 0 [] Strategy g ess)
-  unfolding encodeStrategies
-  reads-strategies g = reads-each reads-strategy encodeStrategies refl (λ es ess. refl) 0 [] g
 
 -- ---- rules
 
@@ -183,26 +160,6 @@ pub record ReadAs (ws : List ℕ) (j : ℕ) (s : System) : Type 0 where
   pub ends : length ws ≤ j
 
 -- the arities and strategies by index, as the lists are read
-pub narrow-every : (g : Signature) → Every 0 (λ w. (0 ≤ w) × (w ≤ maxArity)) g → (f : ℕ) → arity g f ≤ maxArity
-narrow-every g h f = elim (decLt f (length g)) [
-  | yes l ↦ rw (arity-listed g f l) (h f l .1)
-  | no l ↦ rw (arity-unlisted g f (omega arith)) (let b = builtin-narrow f in omega arith)
-]
-
-pub strategy-every : (s : System) → length (s .strategies) ≡ length (s .arities) → Pairwise 0 [] Strategy (s .arities) (s .strategies) →
-    (f : ℕ) → Strategy (arity (s .arities) f) (strategy s f)
-unfolding strategy
-strategy-every s e h f = elim (decLt f (length (s .arities))) [
-  | yes l ↦ rw (arity-listed (s .arities) f l, getD-within (s .strategies) (builtInStrategy f) [] f (omega arith)) (h f l)
-  | no l ↦ rw (arity-unlisted (s .arities) f (omega arith), List·getD-eq-default (s .strategies) (builtInStrategy f) {n = f} (omega arith)) (builtin-strategy f)
-]
-
-pub every-strategy : (s : System) → WellFormed s → Pairwise 0 [] Strategy (s .arities) (s .strategies)
-unfolding strategy
-every-strategy s w k l =
-    let e = getD-within (s .strategies) (builtInStrategy k) [] k (let o = w .strategyCount in omega arith) in
-    (rw e at (w .strategyBound k), rw (arity-listed (s .arities) k l, e) at (w .entryBound k))
-
 module _ (ws : List ℕ) where
   joined : {n a b m c d j : ℕ} {g : Signature} {ess : List (List ℕ)} {rs : List Rule} → number ws range 1 maxSymbols 0 ≡ ok n a → times n (number ws range 0 maxArity) a ≡ ok g b →
       number ws range n n b ≡ ok m c → each (readStrategy ws) g c ≡ ok ess d → readRules ws g d ≡ ok rs j → ReadAs ws j (record { arities = g; strategies = ess; rules = rs })

@@ -159,14 +159,13 @@ pub larger-first : (m n : ℕ) → n ≤ m → larger m n ≡ m
 unfolding larger
 larger-first m n h = rw (le-ltb m n h)
 
-pub smaller-first : (m n : ℕ) → m < n → smaller m n ≡ m
+pub smaller-first : (m n : ℕ) → m ≤ n → smaller m n ≡ m
 unfolding smaller
-smaller-first m n h = rw (lt-ltb m n h)
+smaller-first m n h = elim (decLt m n) [ yes l ↦ rw (lt-ltb m n l) | no l ↦ rw (le-ltb m n (omega arith)) (omega arith) ]
 
-pub smaller-second : (m n : ℕ) → n ≤ m → smaller m n ≡ n
+pub smaller-second : (m n : ℕ) → n < m → smaller m n ≡ n
 unfolding smaller
-smaller-second m n h = rw (le-ltb m n h)
-
+smaller-second m n h = rw (le-ltb m n (omega arith))
 
 pub larger-below : (m n c : ℕ) → m < c → n < c → larger m n < c
 unfolding larger

@@ -2,11 +2,13 @@
 use mathlib.Core.Path.{refl}
 use Rattle.system.specs.BuiltIns.{isBuiltIn, isOperator, builtInArity}
 use Rattle.system.specs.Signature.{isSymbol, arity}
-use Rattle.system.specs.Parser.{read, readSystem, readRules, readEnd, readRule, readSide, readWords, readStrategy, number, word, learn, sideFault, symbolFault, variableFault, outside, each, times}
+use Rattle.system.specs.Parser.{read, readSystem, readRules, readEnd, readRule, readSide, readWords, readStrategy, number, word}
+use Rattle.system.specs.Parser.{learn, sideFault, symbolFault, variableFault, outside, each, times}
 use Rattle.system.specs.TermCheck.{termFault}
 use Rattle.system.specs.Answers.{termAnswer}
 use Rattle.system.specs.Cases.{Hold, bookB, readerCases}
 
 pub reader-cases : Hold readerCases
-unfolding readerCases bookB read readSystem readRules readEnd readRule readSide readWords readStrategy number word learn sideFault symbolFault variableFault outside each times termFault termAnswer isSymbol arity isBuiltIn isOperator builtInArity
+unfolding readerCases bookB read readSystem readRules readEnd readRule readSide readWords readStrategy number word learn sideFault
+    symbolFault variableFault outside each times termFault termAnswer isSymbol arity isBuiltIn isOperator builtInArity
 reader-cases = refl

@@ -13,6 +13,7 @@ pub mod Parses
 pub mod ParsesMany
 pub mod SideWords
 pub mod Sides
+pub mod Strategies
 pub mod Accepts
 pub mod Located
 -- One argument of a term

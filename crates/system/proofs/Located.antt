@@ -14,7 +14,8 @@ use Rattle.system.specs.Parser.{ok, times, each, number, readStrategy, r
 use Rattle.system.specs.Answers.{signatureOf}
 use Rattle.system.proofs.Parsed.{drop-head, drop-front}
 use Rattle.system.proofs.ParsesMany.{reads-numbers}
-use Rattle.system.proofs.Accepts.{reads-strategies, read-sound}
+use Rattle.system.proofs.Strategies.{reads-strategies}
+use Rattle.system.proofs.Accepts.{read-sound}
 
 -- ---- the signature
 
@@ -78,31 +79,31 @@ located ws {s} e = located-encode ws s (read-sound ws e .1)
 -- ---- one step through a section
 
 -- a list after its length, at an index of ws
-pub record Listed (ws : List ℕ) (at : ℕ) (es rest : List ℕ) : Type 0 where
+pub record Encoded (ws : List ℕ) (at : ℕ) (es rest : List ℕ) : Type 0 where
   pub counted : getD ws at 0 ≡ length es
   pub words : take (length es) (drop (at + 1) ws) ≡ es
   pub rests : drop (at + 1 + length es) ws ≡ rest
   -- it is all there
   pub fits : at + 1 + length es ≤ length ws
 
-pub listed : (ws : List ℕ) (at : ℕ) (es rest : List ℕ) → drop at ws ≡ encodeList es ++ rest → Listed ws at es rest
+pub encoded : (ws : List ℕ) (at : ℕ) (es rest : List ℕ) → drop at ws ≡ encodeList es ++ rest → Encoded ws at es rest
 unfolding encodeList
-listed ws at es rest e =
+encoded ws at es rest e =
     let d = drop-head ws at (length es) (es ++ rest) e in
     let e′ : drop (at + 1) ws ≡ es ++ rest = rw (add-one at) (d .2) in
     let l : length ws - (at + 1) ≡ length es + length rest = sym (length-drop (at + 1) ws) ∙ ap length e′ ∙ length-append es rest in
     let b = d .0 in
     record { counted = d .1; words = rw e′ (take-append-seam es rest); rests = drop-front ws (at + 1) es rest e′; fits = omega arith }
 
-pub strategy-listed : (ws : List ℕ) (at : ℕ) (es : List ℕ) (ess : List (List ℕ)) (rest : List ℕ) → drop at ws ≡ encodeStrategies (es ∷ ess) ++ rest →
-    Listed ws at es (encodeStrategies ess ++ rest)
+pub strategy-encoded : (ws : List ℕ) (at : ℕ) (es : List ℕ) (ess : List (List ℕ)) (rest : List ℕ) → drop at ws ≡ encodeStrategies (es ∷ ess) ++ rest →
+    Encoded ws at es (encodeStrategies ess ++ rest)
 unfolding encodeStrategies
-strategy-listed ws at es ess rest e = listed ws at es (encodeStrategies ess ++ rest) (e ∙ append-assoc (encodeList es) (encodeStrategies ess) rest)
+strategy-encoded ws at es ess rest e = encoded ws at es (encodeStrategies ess ++ rest) (e ∙ append-assoc (encodeList es) (encodeStrategies ess) rest)
 
 -- strategy k of a list of them, and the index of the next
 pub strategy-at : (ws : List ℕ) (at k : ℕ) (ess : List (List ℕ)) (rest : List ℕ) → k < length ess → drop at ws ≡ encodeStrategies (drop k ess) ++ rest →
-    Listed ws at (getD ess k []) (encodeStrategies (drop (k + 1) ess) ++ rest)
-strategy-at ws at k ess rest l e = rw (add-one k) (strategy-listed ws at (getD ess k []) (drop (suc k) ess) rest (rw (drop-cons ess k [] l) at e))
+    Encoded ws at (getD ess k []) (encodeStrategies (drop (k + 1) ess) ++ rest)
+strategy-at ws at k ess rest l e = rw (add-one k) (strategy-encoded ws at (getD ess k []) (drop (suc k) ess) rest (rw (drop-cons ess k [] l) at e))
 
 -- a rule at an index of ws, and the rules after it
 pub record RuleAt (ws : List ℕ) (at : ℕ) (r : Rule) (rs : List Rule) : Type 0 where
@@ -113,13 +114,13 @@ pub record RuleAt (ws : List ℕ) (at : ℕ) (r : Rule) (rs : List Rule) : Type 
   pub rests : drop (at + 1 + length (r .lhs) + 1 + length (r .rhs)) ws ≡ encodeRules rs
   pub fits : at + 1 + length (r .lhs) + 1 + length (r .rhs) ≤ length ws
 
-pub rule-listed : (ws : List ℕ) (at : ℕ) (r : Rule) (rs : List Rule) → drop at ws ≡ encodeRules (r ∷ rs) → RuleAt ws at r rs
+pub rule-encoded : (ws : List ℕ) (at : ℕ) (r : Rule) (rs : List Rule) → drop at ws ≡ encodeRules (r ∷ rs) → RuleAt ws at r rs
 unfolding encodeRules
-rule-listed ws at r rs e =
-    let l = listed ws at (r .lhs) (encodeList (r .rhs) ++ encodeRules rs) e in
-    let m = listed ws (at + 1 + length (r .lhs)) (r .rhs) (encodeRules rs) (l .rests) in
+rule-encoded ws at r rs e =
+    let l = encoded ws at (r .lhs) (encodeList (r .rhs) ++ encodeRules rs) e in
+    let m = encoded ws (at + 1 + length (r .lhs)) (r .rhs) (encodeRules rs) (l .rests) in
     record { left-length = l .counted; left-words = l .words; right-length = m .counted; right-words = m .words; rests = m .rests; fits = m .fits }
 
 -- rule k of a list of them, and the index of the next
 pub rule-at : (ws : List ℕ) (at k : ℕ) (rs : List Rule) → k < length rs → drop at ws ≡ encodeRules (drop k rs) → RuleAt ws at (getD rs k noRule) (drop (k + 1) rs)
-rule-at ws at k rs l e = rw (add-one k) (rule-listed ws at (getD rs k noRule) (drop (suc k) rs) (rw (drop-cons rs k noRule l) at e))
+rule-at ws at k rs l e = rw (add-one k) (rule-encoded ws at (getD rs k noRule) (drop (suc k) rs) (rw (drop-cons rs k noRule l) at e))

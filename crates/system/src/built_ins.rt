@@ -69,8 +69,8 @@ pub fn larger(m: u16, n: u16) -> u16
 pub fn smaller(m: u16, n: u16) -> u16
     ensures { λ r. ⌜ r ≡ smaller m n ⌝ }
 {
-    if m < n {
-        return m;
+    if n < m {
+        return n;
     }
-    n
+    m
 }

@@ -6,13 +6,12 @@ use native.Mathlib.Decide.{decLt, ℕ-discrete}
 use mathlib.Core.Path.{_≡_, refl, sym, _∙_}
 use mathlib.Core.List.{List, [], _∷_, _++_, append-assoc}
 use lib.ListN.{length, List·getD-eq-default}
-use borrow.Author.Tests.{ne-eqb}
 use Rattle.system.specs.declared.Answer.{Answer}
 use Rattle.system.specs.Numbers.{Fault, missing, range, entry, unknown, unbalanced, variableHead, unbound, trailing, builtInHead, faultNumber}
 use Rattle.printing.specs.Text.{ascii, decimal, line, Written}
 use Rattle.printing.proofs.Decimals.{decimal-length}
 use Rattle.check_book.specs.Verdict.{Row, row, refusalLine, faultLine, unsettledRow, orderLine}
-use Rattle.check_book.specs.lines.Rows.{faults, faultOf, placed}
+use Rattle.check_book.specs.lines.Rows.{faults, faultOf, Left, placed}
 
 -- a place has at most 20 digits
 pub twenty : (n : ℕ) → n < 18446744073709551616 → length (decimal n) ≤ 20
@@ -32,22 +31,18 @@ fault-of unbound = refl
 fault-of trailing = refl
 fault-of builtInHead = refl
 
--- n is none of the numbers 1 to k, as the arms of a `match` leave it to the last
-abbrev Left : ℕ → ℕ → Type 0
-Left n zero = Unit {0}
-Left n (suc k) = Left n k × (n ≡ suc k → ⊥)
-
+-- what the arms of a `match` leave to the last
 left-zero : (n k : ℕ) → Left n k → n ≤ k → n ≡ 0
 left-zero n zero l h = omega arith
 left-zero n (suc k) l h = elim (ℕ-discrete n (suc k)) [ yes e ↦ absurd (l .1 e) | no d ↦ left-zero n k (l .0) (omega arith) ]
 
-pub fault-last : (n : ℕ) → Left n 7 × (n ≡ 15 → ⊥) → faultOf n ≡ trailing
+pub fault-last : (n : ℕ) → Left n 8 → faultOf n ≡ builtInHead
 unfolding faultOf
-fault-last n l = rw (ne-eqb n 15 (l .1)) (
-  elim (decLt n 8) [
-    | yes h ↦ rw (left-zero n 7 (l .0) (omega arith))
-    | no h ↦ List·getD-eq-default faults trailing {n = n} (omega arith)
-  ])
+fault-last n l =
+    elim (decLt n 9) [
+      | yes h ↦ rw (left-zero n 8 l (omega arith))
+      | no h ↦ List·getD-eq-default faults builtInHead {n = n} (omega arith)
+    ]
 
 -- ---- a refusal's line: what and its word, then the place
 
@@ -61,10 +56,10 @@ refusal-line what r kind place = pieces (ascii what) (ascii (r .word)) (ascii ki
 
 -- a fault that was found by its number
 module _ {t t′ : List ℕ} {e : ℕ} (f : Fault) where
-  pub row-told : (n place : ℕ) → faultOf n ≡ f →
+  pub row-told : (g : Fault) (place : ℕ) → g ≡ f →
       Written t 0 (ascii "show.book: " ++ ascii (row f .word) ++ placed (ascii " at word ") place (ascii (row f .when))) e t′ →
-      Written t 0 (faultLine (faultOf n) place) e t′
-  row-told n place h w = rw h (rw (refusal-line "show.book: " (row f) " at word " place) at w)
+      Written t 0 (faultLine g place) e t′
+  row-told g place h w = rw h (rw (refusal-line "show.book: " (row f) " at word " place) at w)
 
 -- the order test
 module _ {t t′ : List ℕ} {at e : ℕ} (r : Answer) where

@@ -9,7 +9,7 @@ use Rattle.system.specs.declared.Shape.{Shape}
 use Rattle.system.specs.System.{System, strategy}
 use Rattle.system.specs.Answers.{signatureOf}
 use Rattle.system.proofs.Rules.{strategy-listed}
-use Rattle.system.proofs.Located.{Listed, strategy-at}
+use Rattle.system.proofs.Located.{Encoded, strategy-at}
 use Rattle.system.specs.Book.{systemOf, Accepted}
 use Rattle.system.specs.layout.Accepted.{StrategyAt, suffixFrom, SuffixAt}
 use Rattle.system.proofs.layout.Books.{well, sections, signature, symbol-count, strategy-index}
@@ -26,19 +26,19 @@ module _ (b : List ℕ) (sh : Shape) (acc : Accepted b sh) where
   pub symbols-few : sh .symbols ≤ maxSymbols
   symbols-few = let w = well b sh acc in let few = w .symbolBound in let same = w .strategyCount in omega (arith, strategy-count)
 
-  listed : (k at : ℕ) → k < sh .symbols → SuffixAt b k at → Listed b at (strategy s k) (suffixFrom s (k + 1))
-  listed k at more so =
+  encoded : (k at : ℕ) → k < sh .symbols → SuffixAt b k at → Encoded b at (strategy s k) (suffixFrom s (k + 1))
+  encoded k at more so =
       let within : k < length (s .strategies) = omega (arith, strategy-count) in
-      subst (λ es. Listed b at es (suffixFrom s (k + 1))) (sym (strategy-listed s k within)) (strategy-at b at k (s .strategies) _ within (so .words))
+      subst (λ es. Encoded b at es (suffixFrom s (k + 1))) (sym (strategy-listed s k within)) (strategy-at b at k (s .strategies) _ within (so .words))
 
   -- the words there are its own
   pub suffix-strategy : (k at : ℕ) → k < sh .symbols → SuffixAt b k at → StrategyAt b k at
   suffix-strategy k at more so =
-      let h = listed k at more so in
+      let h = encoded k at more so in
       record { fits = (let z = h .fits in omega (arith, h .counted)); entries = rw (h .counted) (h .words) }
 
   pub suffix-start : SuffixAt b 0 (sh .strategies)
   suffix-start = record { words = rw (strategy-index b sh acc) (sections b sh acc .strategies) }
 
   pub suffix-next : (k at n : ℕ) → k < sh .symbols → SuffixAt b k at → n ≡ getD b at 0 → SuffixAt b (k + 1) (at + 1 + n)
-  suffix-next k at n more so q = let h = listed k at more so in record { words = rw (q, h .counted) (h .rests) }
+  suffix-next k at n more so q = let h = encoded k at more so in record { words = rw (q, h .counted) (h .rests) }

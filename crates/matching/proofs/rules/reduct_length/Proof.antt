@@ -50,7 +50,7 @@ add-total-2 c = let w = c .before .wide in omega (arith, entry (head (c .before)
 loop-again-2 : tie.Need-loop-again-2 Inv-loop μ-loop
 loop-again-2 c =
     let h = head (c .before) in
-    let a = entry h .args in let l = h .loop in let w = c .before .wide in 
+    let a = entry h .args in let l = h .loop in let w = c .before .wide in
     let u = entry h .pre .1 (w .result - variable) in (
       omega arith,
       omega arith,
