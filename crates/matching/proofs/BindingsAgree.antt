@@ -21,8 +21,8 @@ use Rattle.system.proofs.words.SpanSteps.{span-le}
 use Rattle.matching.specs.Matching.{bind, Contraction, firstMatch}
 use Rattle.matching.specs.declared.Match.{Match}
 use Rattle.matching.specs.declared.FirstRule.the-variants.{Nothing, First, Computed}
-use Rattle.matching.specs.Bindings.{Bindings, noBindings, bindings, noMatch, matchFrom, value, bindingsOf}
-use Rattle.matching.specs.rules.Searches.{contractionOf, RightSideAt, Within}
+use Rattle.matching.specs.Bindings.{Bindings, noBindings, bindings, noMatch, matchFrom, value, bindingsOf, contractionOf}
+use Rattle.matching.specs.rules.Searches.{RightSideAt, Within}
 use Rattle.matching.proofs.Matched.{bind-nil, instance-cong}
 use Rattle.matching.proofs.Firsts.{first-here, first-next, first-nil}
 use Rattle.matching.proofs.Words.{match-end, match-symbol, match-differ, match-variable}

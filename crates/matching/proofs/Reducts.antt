@@ -24,8 +24,8 @@ use Rattle.matching.specs.declared.FirstRule.{FirstRule}
 use Rattle.matching.specs.declared.FirstRule.the-variants.{Nothing, First, Computed}
 use Rattle.system.specs.Book.{systemOf, Accepted}
 use Rattle.matching.specs.Matching.{FirstMatch, Matches, bind, Contraction, contraction}
-use Rattle.matching.specs.Bindings.{Bindings, noBindings, matchListed, matchComputed, matchOf, value, bindingsOf}
-use Rattle.matching.specs.rules.Searches.{lhsEnd, contractionOf, reductLength, RightSideAt, Within}
+use Rattle.matching.specs.Bindings.{Bindings, noBindings, matchListed, matchComputed, matchOf, value, bindingsOf, contractionOf}
+use Rattle.matching.specs.rules.Searches.{lhsEnd, reductLength, RightSideAt, Within}
 use Rattle.matching.proofs.Matched.{instance-nil, instance-symbol, instance-variable, instance-cong, bind-sound}
 use Rattle.matching.proofs.Computed.{computed-built, computed-rest, computed-value, built-length}
 use Rattle.matching.proofs.Firsts.{contraction-rest, fired, unfired}

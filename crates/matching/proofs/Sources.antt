@@ -20,8 +20,8 @@ use Rattle.matching.specs.declared.Match.{Match}
 use Rattle.matching.specs.declared.FirstRule.{FirstRule}
 use Rattle.matching.specs.declared.FirstRule.the-variants.{Nothing, First, Computed}
 use Rattle.matching.specs.Matching.{firstMatch, Computation, computed, computedContraction, contraction}
-use Rattle.matching.specs.Bindings.{noBindings, noMatch, matchListed, computedRule, matchComputed, orElse, matchOf, matchIn, value, bindingsOf}
-use Rattle.matching.specs.rules.Searches.{contractionOf, Within}
+use Rattle.matching.specs.Bindings.{noBindings, noMatch, matchListed, computedRule, matchComputed, orElse, matchOf, matchIn, value, bindingsOf, contractionOf}
+use Rattle.matching.specs.rules.Searches.{Within}
 use Rattle.matching.proofs.Computed.{computed-low}
 use Rattle.matching.proofs.Firsts.{contraction-listed, contraction-computed, first-high}
 use Rattle.matching.proofs.BindingsAgree.{Answers, answers, reads-none}

@@ -7,13 +7,13 @@ use lib.ListN.{length, getD, take, drop, set, replicate}
 use lib.Dec.{ltb, eqb}
 use Rattle.system.specs.Limits.{variable, variables}
 use Rattle.system.specs.Signature.{Signature, span}
-use Rattle.system.specs.System.{System, Rule}
+use Rattle.system.specs.System.{System, Rule, instance}
 use Rattle.system.specs.Format.{encodeStrategies}
 use Rattle.system.specs.Parser.{ok, fault, read}
 use Rattle.matching.specs.declared.Match.{Match}
 use Rattle.matching.specs.declared.FirstRule.{FirstRule}
 use Rattle.matching.specs.declared.FirstRule.the-variants.{Nothing, First, Computed}
-use Rattle.matching.specs.Matching.{Computation, computed}
+use Rattle.matching.specs.Matching.{Contraction, Computation, computed}
 
 -- for each variable the index of the first word of its stretch of the subterm, and the number of its words; 0 and 0 where it has none
 pub record Bindings : Type 0 where
@@ -87,3 +87,12 @@ value ws a v = take (getD (a .lengths) v 0) (drop (getD (a .starts) v 0) ws)
 
 abbrev pub bindingsOf : Match → Bindings
 bindingsOf m = record { starts = m .starts; lengths = m .lengths }
+
+-- what a match tells over the words of a book: the rule's number, and its reduct, "the right side, so filled"
+unfoldable pub contractionOf : List ℕ → List ℕ → Match → Option Contraction
+contractionOf book ws m =
+    elim (m .rule) [
+      | Nothing ↦ none
+      | First k rhs size ↦ some (record { number = k; reduct = instance (value ws (bindingsOf m)) (take size (drop rhs book)) })
+      | Computed k w ↦ some (record { number = k; reduct = w ∷ [] })
+    ]

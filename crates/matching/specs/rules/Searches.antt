@@ -3,18 +3,16 @@ use Prim.Native.Nat.{ℕ, _+_, _-_, _≤_, _<_}
 use mathlib.Core.Path.{_≡_}
 use mathlib.Core.List.{List, [], _∷_}
 use mathlib.Core.Bool.{cond}
-use mathlib.Core.Option.{Option, none, some}
 use lib.ListN.{length, getD, take, drop}
 use lib.Dec.{ltb}
 use Rattle.system.specs.Limits.{sideWords, variable, variables}
 use Rattle.system.specs.Signature.{Signature}
-use Rattle.system.specs.System.{System, rule, instance}
+use Rattle.system.specs.System.{System, rule}
 use Rattle.matching.specs.declared.Match.{Match}
 use Rattle.matching.specs.declared.rules.Search.{Search}
 use Rattle.matching.specs.declared.FirstRule.{FirstRule}
 use Rattle.matching.specs.declared.FirstRule.the-variants.{Nothing, First, Computed}
-use Rattle.matching.specs.Matching.{Contraction}
-use Rattle.matching.specs.Bindings.{value, bindingsOf, Bindings, consumed, matchListed, matchComputed, matchOf}
+use Rattle.matching.specs.Bindings.{consumed, matchListed, matchComputed, matchOf}
 
 -- where a left side ends among the words, of which the first q come before ws
 unfoldable pub lhsEnd : Signature → List ℕ → List ℕ → ℕ → ℕ
@@ -42,15 +40,6 @@ unfoldable pub searchOf : System → List ℕ → Search
 searchOf s ws = searchFor s ws (matchOf s ws)
 
 -- ---- the reduct
-
--- the rule that was found, by its number, and its reduct: "the right side, so filled"
-unfoldable pub contractionOf : List ℕ → List ℕ → Match → Option Contraction
-contractionOf book ws m =
-    elim (m .rule) [
-      | Nothing ↦ none
-      | First k rhs size ↦ some (record { number = k; reduct = instance (value ws (bindingsOf m)) (take size (drop rhs book)) })
-      | Computed k w ↦ some (record { number = k; reduct = w ∷ [] })
-    ]
 
 -- how many words the instance of a side has, where the variables' terms have these lengths
 unfoldable pub reductLength : List ℕ → List ℕ → ℕ
