@@ -8,7 +8,7 @@ use mathlib.Core.Path.{_≡_, refl, sym, ap, _∙_, subst, subst₂}
 use mathlib.Core.Option.{Option, none, some}
 use mathlib.Core.List.{List, [], _∷_, _++_}
 use lib.ListN.{length, getD, take, drop, set, replicate, length-append, length-drop, length-set, length-replicate, getD-replicate, List·getD-eq-default, List·getD-append}
-use lib.Seq.{getD-take, getD-drop, getD-at, getD-set-same, getD-set-other, drop-cons}
+use lib.Seq.{getD-at, getD-set-same, getD-set-other, drop-cons}
 use Rattle.system.specs.Limits.{variable, variables}
 use Rattle.system.specs.Signature.{Signature, span, subterm}
 use Rattle.system.specs.System.{Rule, noRule, instance}

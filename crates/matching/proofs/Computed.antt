@@ -2,7 +2,6 @@
 use Prim.Native.Nat.{ℕ, zero, suc, _+_, _-_, _≤_, _<_}
 use native.Mathlib.Nat.{add-sub-cancel-left}
 use native.Mathlib.Omega.{arith}
-use native.Mathlib.Decide.{ℕ-discrete}
 use mathlib.Core.Path.{_≡_, refl, sym, ap, _∙_, subst}
 use mathlib.Core.Logic.{_⊎_, inl, inr}
 use mathlib.Core.Bool.{Bool, true, false, cond, _&&_, _||_}
@@ -10,10 +9,9 @@ use mathlib.Core.Option.{Option, none, some}
 use mathlib.Core.List.{List, [], _∷_, _++_}
 use lib.ListN.{length, getD}
 use lib.Dec.{eqb}
-use borrow.Author.Tests.{eq-eqb, ne-eqb, eqb-true}
 use Rattle.system.specs.Limits.{variable}
 use Rattle.system.specs.BuiltIns.{literal, literals, maximum, minimum, isLiteral, isOperator, larger, smaller}
-use Rattle.system.specs.Signature.{Signature, Symbol, arity, span}
+use Rattle.system.specs.Signature.{Signature, Symbol, arity}
 use Rattle.system.specs.System.{Rule}
 use Rattle.system.specs.Rules.{BuiltIn, max, min, maximumRule, minimumRule}
 use Rattle.system.specs.Terms.{Forest, empty, more, Whole}

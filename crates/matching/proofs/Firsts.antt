@@ -3,7 +3,6 @@ use Prim.Native.Nat.{ℕ, zero, suc, _+_, _≤_, _<_}
 use native.Mathlib.Nat.{add-zero, le-of-suc-le-suc, not-suc-le-zero}
 use native.Mathlib.Omega.{arith}
 use mathlib.Core.Path.{_≡_, refl, sym, ap, _∙_, subst}
-use mathlib.Core.Logic.{_⊎_, inl, inr}
 use mathlib.Core.Option.{Option, none, some}
 use mathlib.Core.List.{List, [], _∷_, _++_, append-nil}
 use lib.ListN.{length, getD, drop}
@@ -19,7 +18,7 @@ use Rattle.system.proofs.Signatures.{few-symbols, few-listed}
 use Rattle.system.proofs.Rules.{built-number, built-ground, built-plain, built-formed, listed-head}
 use Rattle.system.proofs.Places.{at-subterm}
 use Rattle.matching.proofs.Matched.{matched, unmatched, bind-append, bind-nil, bind-differ, chain, instance-forest, instance-ground}
-use Rattle.matching.proofs.Computed.{computed-left, left-computed, computed-built, computed-rest, computed-empty, computed-low}
+use Rattle.matching.proofs.Computed.{computed-left, left-computed, computed-built, computed-rest, computed-empty}
 
 module _ (g : Signature) where
   pub first-here : (r : Rule) (rs : List Rule) (k : ℕ) (ws : List ℕ) (σ : List (List ℕ)) → bind g (r .lhs) ws [] ≡ some σ →

@@ -24,7 +24,7 @@ use Rattle.matching.specs.declared.FirstRule.{FirstRule}
 use Rattle.matching.specs.declared.FirstRule.the-variants.{Nothing, First, Computed}
 use Rattle.system.specs.Book.{systemOf, Accepted}
 use Rattle.matching.specs.Matching.{FirstMatch, Matches, bind, Contraction, contraction}
-use Rattle.matching.specs.Bindings.{Bindings, noBindings, matchListed, matchComputed, matchOf, value, bindingsOf, contractionOf}
+use Rattle.matching.specs.Bindings.{Bindings, matchListed, matchOf, value, bindingsOf, contractionOf}
 use Rattle.matching.specs.rules.Searches.{lhsEnd, reductLength, RightSideAt, Within}
 use Rattle.matching.proofs.Matched.{instance-nil, instance-symbol, instance-variable, instance-cong, bind-sound}
 use Rattle.matching.proofs.Computed.{computed-built, computed-rest, computed-value, built-length}
@@ -120,17 +120,9 @@ module _ (b : List ℕ) (sh : Shape) (acc : Accepted b sh) where
     unfolding contractionOf
     match-word f = sym match-redex ∙ rw (f, contractionOf)
 
-    -- what a built-in rule puts there is a literal; it binds nothing
+    -- what a built-in rule puts there is a literal
     pub match-value : {k w : ℕ} → m .rule ≡ Computed k w → w < variable
     match-value f = computed-value ws (match-computed b sh acc ws (ap (λ y. y .rule) (sym e) ∙ f) .1)
-
-    pub match-unbound : {k w : ℕ} → m .rule ≡ Computed k w → (m .starts ≡ noBindings .starts) × (m .lengths ≡ noBindings .lengths)
-    unfolding matchComputed
-    match-unbound f = let q = e ∙ match-computed b sh acc ws (ap (λ y. y .rule) (sym e) ∙ f) .0 in (ap (λ y. y .starts) q, ap (λ y. y .lengths) q)
-
-    -- the reduct's length, from the lengths that were found
-    pub match-length : (side : List ℕ) → length (instance (value ws (bindingsOf m)) side) ≡ reductLength (m .lengths) side
-    match-length side = reduct-length ws (bindingsOf m) match-within side
 
   -- ---- over a whole subterm u, wherever it stands: a ++ (u ++ d), and ws the words from it on
 

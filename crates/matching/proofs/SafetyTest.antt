@@ -4,19 +4,19 @@ use native.Mathlib.Nat.{le-of-suc-le-suc, not-suc-le-zero}
 use native.Mathlib.Omega.{arith}
 use native.Mathlib.Decide.{ℕ-discrete}
 use mathlib.Core.Path.{_≡_, refl, ap, _∙_}
-use mathlib.Core.Logic.{_⊎_, inl, inr}
+use mathlib.Core.Logic.{inl, inr}
 use mathlib.Core.List.{List, [], _∷_, _++_}
 use mathlib.Core.Bool.{Bool, true, false, not, _&&_, _||_, or-true}
 use lib.ListN.{length, getD}
 use lib.Dec.{eqb}
 use borrow.Author.Tests.{leb-true, le-leb, eq-eqb, ne-eqb}
 use Rattle.system.specs.Limits.{variable}
-use Rattle.system.specs.BuiltIns.{maximum, minimum, isOperator}
+use Rattle.system.specs.BuiltIns.{isOperator}
 use Rattle.system.specs.Signature.{Listed}
 use Rattle.system.specs.System.{System, Rule, strategy, rule, noRule, head}
 use Rattle.system.specs.Rules.{BuiltIn, listed, builtIn}
 use Rattle.system.specs.Terms.{Member, first, later, WellFormed}
-use Rattle.system.proofs.BuiltIns.{Supplied, operator-cases, operator-strategy, literal-operator, maximum-operator, minimum-operator}
+use Rattle.system.proofs.BuiltIns.{Supplied, operator-strategy, literal-operator}
 use Rattle.system.proofs.Rules.{built-head, listed-head, strategy-unlisted}
 use Rattle.matching.specs.Safety.{Idle, IdleEntry, idle, Guarded, Constructor, Passes}
 use Rattle.matching.specs.StrategyTest.{every, isVariable, idleTest, idles, closes, constructs, passes}

@@ -21,7 +21,7 @@ use Rattle.system.specs.Numbers.{range}
 use Rattle.system.specs.Answers.{answerOf}
 use Rattle.system.specs.Parser.{Parsed, ok, fault, times, each, number, Reading, readWords, readStrategy, readSide, readRule, readRules, readEnd, readSystem, read}
 use Rattle.system.proofs.Signatures.{symbol-lt, arity-listed}
-use Rattle.system.proofs.Strategies.{Strategy, reads-strategies, narrow-every, strategy-every, every-strategy}
+use Rattle.system.proofs.Strategies.{reads-strategies, narrow-every, strategy-every, every-strategy}
 use Rattle.system.proofs.Parsed.{ok-value, ok-place, not-fault, then-ok, Between, between-join, between-split, between-ok}
 use Rattle.system.proofs.Parses.{Reads, one, reads-number}
 use Rattle.system.proofs.ParsesMany.{Every, reads-numbers, reads-times, reads-counted}

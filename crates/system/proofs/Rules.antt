@@ -1,5 +1,5 @@
 -- The rules of a system, listed and built-in ones, and the strategies of both kinds of symbols: what is cited of BuiltIn, RuleOf and `strategy`.
-use Prim.Native.Nat.{ℕ, zero, suc, _+_, _≤_, _<_}
+use Prim.Native.Nat.{ℕ, suc, _+_, _≤_, _<_}
 use native.Mathlib.Omega.{arith}
 use mathlib.Core.Path.{_≡_, _∙_, subst}
 use mathlib.Core.Logic.{inl}
@@ -8,7 +8,7 @@ use mathlib.Core.List.{List, [], _∷_}
 use lib.ListN.{length, getD, List·getD-eq-default}
 use Rattle.system.specs.Limits.{variable}
 use Rattle.system.specs.BuiltIns.{literal, literals, maximum, minimum, isOperator, builtInStrategy}
-use Rattle.system.specs.Signature.{Signature, Symbol, Listed, arity}
+use Rattle.system.specs.Signature.{Signature, Listed}
 use Rattle.system.specs.System.{System, Rule, rule, head, strategy}
 use Rattle.system.specs.Rules.{BuiltIn, max, min, RuleOf, listed, builtIn, maximumRule, minimumRule}
 use Rattle.system.specs.Terms.{Forest, empty, more, Side, Word, Member, first, later, Numbered, end, symbol, WellFormedRule, WellFormed}
@@ -96,11 +96,6 @@ module _ (s : System) (wf : WellFormed s) where
   pub rule-formed : {k : ℕ} {r : Rule} → RuleOf s k r → WellFormedRule (s .arities) r
   rule-formed (listed h) = wf .wellFormedRules _ h
   rule-formed (builtIn b) = built-formed (s .arities) (few-listed s wf) b
-
-  -- the listed rules' numbers come before those of the built-in ones
-  pub rule-number : {k : ℕ} {r : Rule} → RuleOf s k r → k ≤ minimumRule
-  rule-number (listed h) = let z = wf .ruleBound in omega arith
-  rule-number (builtIn b) = built-number b .1
 
   -- a listed rule's left side starts with a listed symbol
   pub listed-head : (k : ℕ) → k < length (s .rules) → Listed (s .arities) (head (rule s k .lhs))

@@ -4,7 +4,7 @@ use native.Mathlib.Omega.{arith}
 use native.Mathlib.Decide.{decLt}
 use mathlib.Core.Path.{_≡_, refl, sym, ap, _∙_}
 use mathlib.Core.List.{List, [], _∷_}
-use lib.ListN.{length, getD, take, drop, length-take}
+use lib.ListN.{length, getD, drop, length-take}
 use borrow.Author.Tests.{lt-ltb, le-ltb}
 use Rattle.system.specs.Limits.{variable, termWords}
 use Rattle.matching.specs.rules.Searches.{reductLength}

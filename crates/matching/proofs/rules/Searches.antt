@@ -3,7 +3,7 @@ use Prim.Native.Nat.{ℕ, _+_, _-_, _≤_, _<_}
 use native.Mathlib.Omega.{arith}
 use mathlib.Core.Path.{_≡_, refl, sym, ap, _∙_}
 use mathlib.Core.Option.{none, some}
-use mathlib.Core.List.{List, []}
+use mathlib.Core.List.{List}
 use lib.ListN.{length, getD, take, drop, set, length-set, length-drop}
 use Rattle.system.specs.declared.Shape.{Shape}
 use Rattle.system.specs.Limits.{variable}
@@ -13,7 +13,7 @@ use Rattle.matching.specs.declared.FirstRule.{FirstRule}
 use Rattle.matching.specs.declared.FirstRule.the-variants.{Nothing, First}
 use Rattle.system.specs.declared.layout.rules.RuleSpan.{RuleSpan}
 use Rattle.system.specs.Book.{systemOf, Accepted}
-use Rattle.matching.specs.Bindings.{Bindings, noBindings, consumed, withBinding, bindings, noMatch, matchFrom, matchListed}
+use Rattle.matching.specs.Bindings.{Bindings, noBindings, consumed, withBinding, bindings, matchFrom, matchListed}
 use Rattle.matching.specs.rules.Searches.{lhsEnd, searchWidth, searchListed}
 use Rattle.system.proofs.layout.Books.{Rest, Here, Turn, signature, rule-count, first-index, first-rest}
 use Rattle.matching.proofs.rules.MatchSteps.{tail, withBinding-symbol, withBinding-variable, words-end, words-stop, words-next, rules-end, rules-next, rules-here}

@@ -1,7 +1,7 @@
 -- Whether a book is accepted shows in its scan.
 use Prim.Native.Nat.{ℕ}
 use mathlib.Core.Path.{_≡_, refl, sym, ap, _∙_}
-use mathlib.Core.List.{List, []}
+use mathlib.Core.List.{List}
 use lib.ListN.{length}
 use Rattle.system.specs.declared.reader.Scan.{Scan}
 use Rattle.system.specs.System.{System}
@@ -23,12 +23,3 @@ module _ (b : List ℕ) (s : Scan) (is : s ≡ scanOf (read b)) where
       go : (o : Parsed System) → read b ≡ o → s ≡ scanOf o → Accepted b (s .shape)
       go (ok x i) q e = record { accepted = reads-system b q; shaped = ap (λ y. y .shape) is }
       go (fault f i) q e = absurd (fault-not-zero f (sym (ap (λ y. y .answer .number) e) ∙ z))
-
-  -- the system of a refused book is empty
-  pub scan-empty : (s .answer .number ≡ 0 → ⊥) → systemOf b ≡ record { arities = []; strategies = []; rules = [] }
-  unfolding systemOf
-  scan-empty bad = go (read b) refl is
-    where
-      go : (o : Parsed System) → read b ≡ o → s ≡ scanOf o → systemFrom (read b) ≡ record { arities = []; strategies = []; rules = [] }
-      go (ok x i) q e = absurd (bad (ap (λ y. y .answer .number) e))
-      go (fault f i) q e = ap systemFrom q

@@ -4,7 +4,7 @@ use native.Mathlib.Omega.{arith}
 use mathlib.Core.Path.{refl, sym, subst}
 use borrow.Author.Needs.{needs}
 use Rattle.system.specs.Book.{systemOf}
-use Rattle.machine.proofs.advance.Advancing.{Advancing, advancing-start, round-bounds, goes-repeated, goes-argument}
+use Rattle.machine.proofs.advance.Advancing.{advancing-start, round-bounds, goes-repeated, goes-argument}
 use Rattle.machine.proofs.advance.Arriving.{arrives-end, arrives-deep, arrives-ready}
 use Rattle.machine.specs.advance.Area.{Tracks}
 use Rattle.machine.proofs.advance.advance.Proof.Places.{Inv-loop, μ-loop, within, reading, entered, taken, round, same-area, same-positions}

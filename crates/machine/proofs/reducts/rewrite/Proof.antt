@@ -1,7 +1,7 @@
 -- `reducts::rewrite` meets its contract: the right side is that of a listed rule, or the word of a built-in one.
 use Prim.Native.Nat.{ℕ, _+_, _-_}
 use native.Mathlib.Omega.{arith}
-use mathlib.Core.Path.{_≡_, sym, subst}
+use mathlib.Core.Path.{_≡_, subst}
 use lib.ListN.{take, drop}
 use borrow.Author.Needs.{needs}
 use Rattle.matching.specs.rules.Searches.{RightSide, RightSideAt}

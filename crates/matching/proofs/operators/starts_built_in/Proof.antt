@@ -1,5 +1,5 @@
 -- The first word, or none, which is no built-in one.
-use mathlib.Core.Path.{_≡_, sym, ap, _∙_}
+use mathlib.Core.Path.{sym, ap}
 use lib.ListN.{List·getD-eq-default}
 use lib.Dec.{leb}
 use Rattle.system.specs.BuiltIns.{literal}
