@@ -11,12 +11,12 @@ use lib.ListN.{length, getD}
 use lib.Dec.{eqb}
 use borrow.Author.Tests.{leb-true, le-leb, eq-eqb, ne-eqb}
 use Rattle.system.specs.Limits.{variable}
-use Rattle.system.specs.BuiltIns.{isOperator}
+use Rattle.system.specs.BuiltIns.{isBuiltIn, isOperator}
 use Rattle.system.specs.Signature.{Listed}
 use Rattle.system.specs.System.{System, Rule, strategy, rule, noRule, head}
 use Rattle.system.specs.Rules.{BuiltIn, listed, builtIn}
 use Rattle.system.specs.Terms.{Member, first, later, WellFormed}
-use Rattle.system.proofs.BuiltIns.{Supplied, operator-strategy, literal-operator}
+use Rattle.system.proofs.BuiltIns.{Supplied, builtin-range, operator-strategy, literal-operator}
 use Rattle.system.proofs.Rules.{built-head, listed-head, strategy-unlisted}
 use Rattle.matching.specs.Safety.{Idle, IdleEntry, idle, Guarded, Constructor, Passes}
 use Rattle.matching.specs.StrategyTest.{every, isVariable, idleTest, idles, closes, constructs, passes}
@@ -135,12 +135,12 @@ module _ (s : System) (wf : WellFormed s) where
       let l = b .low in
       record { before = 1 ∷ 2 ∷ []; after = []; split = strategy-unlisted s w (omega arith) ∙ operator-strategy w o; last = λ e m. elim m [ ] }
 
-  pub builtin-passes : (w : ℕ) → Supplied w → Passes s w
+  pub builtin-passes : (w : ℕ) → isBuiltIn w ≡ true → Passes s w
   builtin-passes w b = go (isOperator w) refl
     where
       go : (o : Bool) → isOperator w ≡ o → Passes s w
-      go true o = inr (operator-guarded w b o)
-      go false o = inl (literal-constructor w b o)
+      go true o = inr (operator-guarded w (builtin-range w b) o)
+      go false o = inl (literal-constructor w (builtin-range w b) o)
 
   -- a listed symbol is no operator
   pub listed-plain : (f : ℕ) → Listed (s .arities) f → isOperator f ≡ false

@@ -18,6 +18,7 @@ use Rattle.system.specs.Answers.{answerOf}
 use Rattle.system.specs.reader.Sections.{scanOf}
 use Rattle.system.proofs.Accepts.{read-sound}
 use Rattle.system.proofs.FaultNumbers.{fault-range, fault-not-zero}
+use Rattle.system.proofs.BuiltIns.{range-builtin}
 use Rattle.system.proofs.Signatures.{symbol-lt, symbol-cases}
 use Rattle.system.specs.Book.{systemOf}
 use Rattle.system.proofs.layout.Accepting.{reads-system, scan-accepted}
@@ -46,7 +47,7 @@ module _ (s : System) (wf : WellFormed s) where
   pub none-safe : firstUnsafe s ≡ none → Safe s
   none-safe e f y = elim (symbol-cases (s .arities) f y) [
     | inl l ↦ sound l (none-all (passes s) 0 (length (s .arities)) e f (omega arith) (omega arith))
-    | inr b ↦ builtin-passes s wf f b
+    | inr b ↦ builtin-passes s wf f (range-builtin f (b .low) (b .high))
   ]
 
   pub safe-none : Safe s → firstUnsafe s ≡ none
@@ -54,7 +55,7 @@ module _ (s : System) (wf : WellFormed s) where
 
   -- what fails is listed
   pub fails-listed : {f : ℕ} → FailsFirst s f → Listed (s .arities) f
-  fails-listed {f} h = elim (symbol-cases (s .arities) f (h .symbol)) [ inl l ↦ l | inr b ↦ absurd (h .fails (builtin-passes s wf f b)) ]
+  fails-listed {f} h = elim (symbol-cases (s .arities) f (h .symbol)) [ inl l ↦ l | inr b ↦ absurd (h .fails (builtin-passes s wf f (range-builtin f (b .low) (b .high)))) ]
 
   -- f is found exactly if it is the lowest that fails
   pub some-first : {f : ℕ} → firstUnsafe s ≡ some f → FailsFirst s f
