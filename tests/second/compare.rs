@@ -133,13 +133,13 @@ impl Lent {
     }
 }
 
-/// By the argument counts that the words of any book list, and those of the built-in words.
+/// By the argument counts that the words of any book list, and of the words that it does not list those of the built-in ones.
 fn span(book: &[u16], ws: &[u16]) -> usize {
     let listed = book.get(0).map_or(0, |&s| (s as usize).min(book.len() - 1));
     fn part(counts: &[u16], ws: &[u16], at: usize) -> usize {
         let mut end = at + 1;
-        let listed = || counts.get(ws[at] as usize).map_or(0, |&n| n as usize);
-        for _ in 0..book::built_in(ws[at]).map_or_else(listed, |b| b.0) {
+        let listed = counts.get(ws[at] as usize).map(|&n| n as usize);
+        for _ in 0..listed.unwrap_or_else(|| book::built_in(ws[at]).map_or(0, |b| b.0)) {
             if end == ws.len() {
                 break;
             }

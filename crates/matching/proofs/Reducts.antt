@@ -14,10 +14,11 @@ use Rattle.system.specs.declared.Shape.{Shape}
 use Rattle.system.specs.Limits.{variable}
 use Rattle.system.specs.Signature.{Symbol, span}
 use Rattle.system.specs.System.{System, Rule, rule, instance}
-use Rattle.system.specs.Rules.{RuleOf}
+use Rattle.system.specs.Rules.{RuleOf, listed, builtIn}
 use Rattle.system.specs.Terms.{Whole, WellFormedRule}
 use Rattle.system.specs.Answers.{signatureOf}
 use Rattle.system.proofs.Signatures.{few-symbols, few-listed}
+use Rattle.system.proofs.Rules.{built-ground}
 use Rattle.system.proofs.Forests.{span-forest}
 use Rattle.matching.specs.declared.Match.{Match}
 use Rattle.matching.specs.declared.FirstRule.{FirstRule}
@@ -26,8 +27,8 @@ use Rattle.system.specs.Book.{systemOf, Accepted}
 use Rattle.matching.specs.Matching.{FirstMatch, Matches, bind, Contraction, contraction}
 use Rattle.matching.specs.Bindings.{Bindings, matchListed, matchOf, value, bindingsOf, contractionOf}
 use Rattle.matching.specs.rules.Searches.{lhsEnd, reductLength, RightSideAt, Within}
-use Rattle.matching.proofs.Matched.{instance-nil, instance-symbol, instance-variable, instance-cong, bind-sound}
-use Rattle.matching.proofs.Computed.{computed-built, computed-rest, computed-value, built-length}
+use Rattle.matching.proofs.Matched.{instance-nil, instance-symbol, instance-variable, instance-cong, instance-ground, bind-sound}
+use Rattle.matching.proofs.Computed.{Redex, computed-built, computed-rest, computed-value, built-length}
 use Rattle.matching.proofs.Firsts.{contraction-rest, fired, unfired}
 use Rattle.matching.proofs.BindingsAgree.{Chosen}
 use Rattle.matching.proofs.Sources.{found, all-within, match-listed, match-computed, match-contraction}
@@ -143,8 +144,11 @@ module _ (b : List ℕ) (sh : Shape) (acc : Accepted b sh) where
       abbrev c : Chosen b (u ++ d) (signatureOf b) (s .rules) 0 n (bindingsOf (matchListed s (u ++ d)))
       c = found b sh acc (u ++ d) .chosen n rhs size (ap (λ y. y .rule) (sym (book-match (u ++ d) m e f)) ∙ f)
 
+      inside : n < length (s .rules)
+      inside = let q = c .number in let z = c .inside in omega arith
+
       law : WellFormedRule (s .arities) (rule s n)
-      law = well b sh acc .wellFormedRules n (let q = c .number in let z = c .inside in omega arith)
+      law = well b sh acc .wellFormedRules n inside
 
       bound : bind (s .arities) (rule s n .lhs) (u ++ d) [] ≡ some (c .σ)
       bound =
@@ -157,20 +161,42 @@ module _ (b : List ℕ) (sh : Shape) (acc : Accepted b sh) where
         let z = lhsEnd-bound (s .arities) (few-symbols s (well b sh acc)) d 0 [] (c f .σ) (law f .left) whole (bound f) in
         omega (arith, span-forest (s .arities) (Symbol (s .arities)) d whole)
 
-    -- and a built-in one the three words that the subterm has
-    pub found-three : {k w : ℕ} → m .rule ≡ Computed k w → span (s .arities) (u ++ d) 1 ≡ 3
-    found-three f =
+    -- a built-in rule that is found has the subterm for its left side: three words
+    built : {k w : ℕ} → m .rule ≡ Computed k w → Redex (s .arities) (few-listed s (well b sh acc)) u (record { number = k; word = w })
+    built f =
         let few = few-listed s (well b sh acc) in
         let q = match-computed b sh acc (u ++ d) (ap (λ y. y .rule) (sym e) ∙ f) .1 in
-        let r = computed-built (s .arities) few whole _ (sym (computed-rest (s .arities) few d whole) ∙ q) in
-        span-forest (s .arities) (Symbol (s .arities)) d whole ∙ ap length (r .left) ∙ built-length (r .built)
+        computed-built (s .arities) few whole _ (sym (computed-rest (s .arities) few d whole) ∙ q)
+
+    pub found-three : {k w : ℕ} → m .rule ≡ Computed k w → span (s .arities) (u ++ d) 1 ≡ 3
+    found-three f = let r = built f in span-forest (s .arities) (Symbol (s .arities)) d whole ∙ ap length (r .left) ∙ built-length (r .built)
 
     -- the words of the stretches fill its left side to the subterm
-    pub found-instance : {n rhs size : ℕ} → m .rule ≡ First n rhs size → instance (value (u ++ d) (bindingsOf m)) (rule s n .lhs) ≡ u
-    found-instance {n} f =
+    listed-instance : {n rhs size : ℕ} → m .rule ≡ First n rhs size → instance (value (u ++ d) (bindingsOf m)) (rule s n .lhs) ≡ u
+    listed-instance {n} f =
         instance-cong (value (u ++ d) (bindingsOf m)) (λ v. getD (c f .σ) v []) (rule s n .lhs)
         (λ v k st y. ap (λ x. value (u ++ d) (bindingsOf x) k) (book-match (u ++ d) m e f) ∙ sym (c f .reads .values k))
         ∙ bind-sound (s .arities) (few-symbols s (well b sh acc)) d [] (c f .σ) (law f .left) (law f .numbered) whole refl (bound f) .filled
+
+    -- a rule is found, listed or built in: the words of the stretches fill its left side to the subterm
+    pub found-instance : (x : Contraction) → contractionOf b (u ++ d) m ≡ some x →
+        (r : Rule) × RuleOf s (x .number) r × (instance (value (u ++ d) (bindingsOf m)) (r .lhs) ≡ u)
+    found-instance x f = go (m .rule) refl
+      where
+        number : {k : ℕ} {v : List ℕ} → contraction s (u ++ d) ≡ some (record { number = k; reduct = v }) → k ≡ x .number
+        number {k} {v} q =
+            let y = sym q ∙ sym (match-redex (u ++ d) m e) ∙ f in
+            let z : record { number = k; reduct = v } ≡ x = cc in
+            ap (λ y. y .number) z
+
+        go : (o : FirstRule) → m .rule ≡ o → (r : Rule) × RuleOf s (x .number) r × (instance (value (u ++ d) (bindingsOf m)) (r .lhs) ≡ u)
+        go Nothing q = absurd (let y = sym f ∙ match-redex (u ++ d) m e ∙ match-none (u ++ d) m e q in let z : _≡_ {A = ℕ} 0 1 = cc in omega arith)
+        go (First n rhs size) q =
+            (rule s n, subst (λ k. RuleOf s k (rule s n)) (number (match-some (u ++ d) m e q)) (listed (inside q)), listed-instance q)
+        go (Computed k w) q =
+            let r = built q in
+            (r .chosen, subst (λ k. RuleOf s k (r .chosen)) (number (match-word (u ++ d) m e q)) (builtIn (r .built)),
+            instance-ground (value (u ++ d) (bindingsOf m)) (r .chosen .lhs) (built-ground (r .built)) ∙ sym (r .left))
 
     -- so a rule is found exactly if some rule matches
     pub found-exactly : (m .rule ≡ Nothing) ↔ ((k : ℕ) (r : Rule) → RuleOf s k r → Matches (s .arities) (a ++ (u ++ d)) (length a) r → ⊥)
