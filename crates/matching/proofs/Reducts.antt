@@ -194,9 +194,11 @@ module _ (b : List ℕ) (sh : Shape) (acc : Accepted b sh) where
         go (First n rhs size) q =
             (rule s n, subst (λ k. RuleOf s k (rule s n)) (number (match-some (u ++ d) m e q)) (listed (inside q)), listed-instance q)
         go (Computed k w) q =
-            let r = built q in
-            (r .chosen, subst (λ k. RuleOf s k (r .chosen)) (number (match-word (u ++ d) m e q)) (builtIn (r .built)),
-            instance-ground (value (u ++ d) (bindingsOf m)) (r .chosen .lhs) (built-ground (r .built)) ∙ sym (r .left))
+            let r = built q in (
+              r .chosen,
+              subst (λ k. RuleOf s k (r .chosen)) (number (match-word (u ++ d) m e q)) (builtIn (r .built)),
+              instance-ground (value (u ++ d) (bindingsOf m)) (r .chosen .lhs) (built-ground (r .built)) ∙ sym (r .left),
+            )
 
     -- so a rule is found exactly if some rule matches
     pub found-exactly : (m .rule ≡ Nothing) ↔ ((k : ℕ) (r : Rule) → RuleOf s k r → Matches (s .arities) (a ++ (u ++ d)) (length a) r → ⊥)
