@@ -73,7 +73,7 @@ enum {
   CUE_SPENT = 11,    /* one more step would pass the allowance */
   CUE_OVERLONG = 12, /* the step would leave the whole cue above 4,096 words */
   CUE_NESTED = 13,   /* an argument would be opened from level 64 */
-  CUE_UNSETTLED = 14, /* the order test failed */
+  CUE_UNSETTLED = 14,/* the order test failed */
   CUE_BUILTIN = 15   /* a left side starts with a level or a built-in word */
 };
 
