@@ -59,22 +59,22 @@ extern "C" {
 
 /* The numbers of an answer. */
 enum {
-  CUE_TAKEN = 0,     /* accepted */
-  CUE_SHORT = 1,     /* a word that the book needs is missing */
-  CUE_COUNT = 2,     /* a count or length outside its range */
-  CUE_ENTRY = 3,     /* an order entry above the argument count */
-  CUE_STRANGER = 4,  /* a side's word is neither name nor placeholder */
-  CUE_RAGGED = 5,    /* a side is complete too early, or not at its last word */
-  CUE_HEADLESS = 6,  /* a left side starts with a placeholder */
-  CUE_STRAY = 7,     /* a left placeholder is not the next one, or a right one is not in the left */
-  CUE_SURPLUS = 8,   /* words after the last rule */
-  CUE_BROKEN = 9,    /* the cue is not whole */
-  CUE_CRAMPED = 10,  /* answer buffer below 4,096 words, or work buffer below 8,192 */
-  CUE_SPENT = 11,    /* one more step would pass the allowance */
-  CUE_OVERLONG = 12, /* the step would leave the whole cue above 4,096 words */
-  CUE_NESTED = 13,   /* an argument would be opened from level 64 */
-  CUE_UNSETTLED = 14,/* the order test failed */
-  CUE_BUILTIN = 15   /* a left side starts with a level or a built-in word */
+  CUE_TAKEN = 0,      /* accepted */
+  CUE_SHORT = 1,      /* a word that the book needs is missing */
+  CUE_COUNT = 2,      /* a count or length outside its range */
+  CUE_ENTRY = 3,      /* an order entry above the argument count */
+  CUE_STRANGER = 4,   /* a side's word is neither name nor placeholder */
+  CUE_RAGGED = 5,     /* a side is complete too early, or not at its last word */
+  CUE_HEADLESS = 6,   /* a left side starts with a placeholder */
+  CUE_STRAY = 7,      /* a left placeholder is not the next one, or a right one is not in the left */
+  CUE_SURPLUS = 8,    /* words after the last rule */
+  CUE_BROKEN = 9,     /* the cue is not whole */
+  CUE_CRAMPED = 10,   /* answer buffer below 4,096 words, or work buffer below 8,192 */
+  CUE_SPENT = 11,     /* one more step would pass the allowance */
+  CUE_OVERLONG = 12,  /* the step would leave the whole cue above 4,096 words */
+  CUE_NESTED = 13,    /* an argument would be opened from level 64 */
+  CUE_UNSETTLED = 14, /* the order test failed */
+  CUE_BUILTIN = 15    /* a left side starts with a level or a built-in word */
 };
 
 #if defined(__cplusplus) || (defined(__STDC_VERSION__) && __STDC_VERSION__ >= 199901L)

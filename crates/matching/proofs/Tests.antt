@@ -146,6 +146,7 @@ module _ (b : List ℕ) where
     refused = λ f i e. test-refused e;
     safe = (test-safe, λ h. ap (λ r. r .number) (safe-test h));
     unsafe = λ f. (λ e. subst (UnsafeBook b) (ap (λ r. r .place) e) (test-unsafe (ap (λ r. r .number) e)), unsafe-test);
+    listed = λ z. unsafe-listed (test-unsafe z);
   }
 
 -- ---- of a book that was scanned

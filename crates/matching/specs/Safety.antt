@@ -7,7 +7,7 @@ use lib.ListN.{length, getD}
 use Rattle.system.specs.declared.Answer.{Answer}
 use Rattle.system.specs.Numbers.{Fault, taken, unsettled, numberOf}
 use Rattle.system.specs.Limits.{variable}
-use Rattle.system.specs.Signature.{Symbol, argument}
+use Rattle.system.specs.Signature.{Symbol, Listed, argument}
 use Rattle.system.specs.System.{System, Rule, strategy, head}
 use Rattle.system.specs.Rules.{RuleOf}
 use Rattle.system.specs.Terms.{Member}
@@ -66,3 +66,5 @@ pub record Tells (b : List ℕ) (r : Answer) : Type 0 where
   pub safe : (r .number ≡ numberOf taken) ↔ SafeBook b
   -- 14 at f exactly if f fails and every lower symbol passes: "the lowest-numbered name that fails" (02, F-1)
   pub unsafe : (f : ℕ) → (r ≡ record { number = numberOf unsettled; place = f; steps = 0 }) ↔ UnsafeBook b f
+  -- a symbol that is told is listed: the built-in ones pass in every book (02, F-2)
+  pub listed : r .number ≡ numberOf unsettled → Listed (systemOf b .arities) (r .place)
