@@ -9,16 +9,13 @@ use Rattle.machine.proofs.reducts.Rewrites.{none-found, puttable, Reduc
 use Rattle.machine.proofs.reducts.rewrite.Statement.{statement}
 use Rattle.machine.proofs.reducts.rewrite.Tie as tie
 
--- ---- the places of the code that are behind others: the entry, a listed rule found, a built-in one
-
-abbrev entry : tie.After-lengths → tie.Start
-entry c = c .before .before .before .before
+-- ---- the places of the code that are behind others: the entry, where a listed rule is found, and where a built-in one is
 
 abbrev listed : tie.After-found → tie.Start
-listed c = entry (c .before .before)
+listed c = c .before .before .before .before
 
 abbrev built : tie.After-found2 → tie.Start
-built c = entry (c .before .before)
+built c = c .before .before .before .before
 
 -- as many words as the code counts
 count : (rhs size : ℕ) → size ≡ rhs + size - rhs
@@ -30,7 +27,7 @@ inside c = let f = c .before in listed-side (listed f .pre) (f .found .given .1)
 -- ---- the needs
 
 returns : tie.Need-returns
-returns c = absurd (none-found (entry (c .before .before) .pre) (c .enum-told .given .1))
+returns c = absurd (none-found (c .before .before .before .before .pre) (c .enum-told .given .1))
 
 add-end : tie.Need-add-end
 add-end c = let w = inside c in omega arith
