@@ -14,7 +14,7 @@ use Rattle.matching.specs.Matching.{bind, firstMatch, operation, applied, compu
 use Rattle.system.specs.Cases.{Hold, bookB, readerCases}
 use Rattle.rewriting.specs.Evaluation.{rewrite, follow, atRoot, evaluate, evaluation}
 use Rattle.evaluation.specs.Expansion.{room, earlier, expansion}
-use Rattle.demands.specs.Cases.{expanding, evaluatorCases, starred, levelCases}
+use Rattle.demands.specs.Cases.{expanding, evaluatorCases, starred, literalCases}
 
 pub starred-cases : Hold starred
 unfolding starred readerCases strategyCases evaluatorCases testAnswer firstFailing passes every closes idles idleTest isVariable constructs
@@ -25,10 +25,10 @@ unfolding starred readerCases strategyCases evaluatorCases testAnswer firstFaili
 starred-cases = refl
 
 -- and those of levels
-pub level-cases : Hold levelCases
-unfolding levelCases
+pub literal-cases : Hold literalCases
+unfolding literalCases
     expanding bookB zeros expansion room earlier evaluation evaluate atRoot follow rewrite systemOf contraction firstMatch bind instance
     span argument replace strategy read readSystem readRules readEnd readRule readSide readWords readStrategy number word learn sideFault
     symbolFault variableFault outside each times termFault termAnswer isSymbol arity isLiteral isBuiltIn isOperator builtInArity builtInStrategy
     computed applied operation larger smaller
-level-cases = refl
+literal-cases = refl

@@ -44,11 +44,11 @@ starred = readerCases ++ (strategyCases ++ evaluatorCases)
 abbrev pub startsWith : ℕ → List ℕ
 startsWith w = set bookB 20 w
 
-abbrev pub alsoStray : List ℕ
-alsoStray = set (set bookB 26 16640) 28 32769
+abbrev pub alsoUnbound : List ℕ
+alsoUnbound = set (set bookB 26 16640) 28 32769
 
-unfoldable pub levelCases : List Case
-levelCases =
+unfoldable pub literalCases : List Case
+literalCases =
     -- "Word 16640 is 'higher of', 16641 'lower of' .. where both arguments are levels, a step puts the larger or smaller level there"
     record { label = 2; got = expanding bookB (16640 ∷ 16387 ∷ 16584 ∷ []) 1; expected = 0 ∷ 1 ∷ 1 ∷ 16584 ∷ [] }
     ∷ record { label = 2; got = expanding bookB (16641 ∷ 16387 ∷ 16584 ∷ []) 1; expected = 0 ∷ 1 ∷ 1 ∷ 16387 ∷ [] }
@@ -65,5 +65,5 @@ levelCases =
     -- "15, place that word's index and 0 steps, where a left side starts with a level or either of these words, checked where 6 is"
     ∷ record { label = 2; got = expanding (startsWith 16384) (0 ∷ []) 9; expected = 15 ∷ 20 ∷ 0 ∷ [] }
     ∷ record { label = 2; got = expanding (startsWith 16641) (0 ∷ []) 9; expected = 15 ∷ 20 ∷ 0 ∷ [] }
-    ∷ record { label = 2; got = expanding alsoStray (0 ∷ []) 9; expected = 15 ∷ 26 ∷ 0 ∷ [] }
+    ∷ record { label = 2; got = expanding alsoUnbound (0 ∷ []) 9; expected = 15 ∷ 26 ∷ 0 ∷ [] }
     ∷ []

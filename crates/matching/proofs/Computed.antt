@@ -7,17 +7,18 @@ use mathlib.Core.Logic.{_⊎_, inl, inr}
 use mathlib.Core.Bool.{Bool, true, false, cond, _&&_, _||_}
 use mathlib.Core.Option.{Option, none, some}
 use mathlib.Core.List.{List, [], _∷_, _++_}
-use lib.ListN.{length, getD}
+use lib.ListN.{length, getD, List·getD-append}
 use lib.Dec.{eqb}
 use Rattle.system.specs.Limits.{variable}
 use Rattle.system.specs.BuiltIns.{literal, literals, maximum, minimum, isLiteral, isOperator, larger, smaller}
 use Rattle.system.specs.Signature.{Signature, Symbol, arity}
 use Rattle.system.specs.System.{Rule}
 use Rattle.system.specs.Rules.{BuiltIn, max, min, maximumRule, minimumRule}
-use Rattle.system.specs.Terms.{Forest, empty, more, Whole}
+use Rattle.system.specs.Terms.{Forest, more, Whole}
 use Rattle.system.proofs.BuiltIns.{literal-is, is-literal, number-of, literal-operator, operator-cases, maximum-operator, minimum-operator}
 use Rattle.system.proofs.BuiltIns.{operator-arity, plain-arity, larger-words, smaller-words, larger-below, smaller-below}
 use Rattle.system.proofs.Signatures.{arity-unlisted}
+use Rattle.system.proofs.Forests.{forest-length, forest-none}
 use Rattle.matching.specs.Matching.{Computation, operation, applied, computed}
 
 -- ---- an operator before two words
@@ -165,16 +166,13 @@ module _ (g : Signature) (few : length g ≤ literal) where
       let none = arity-unlisted g w (omega arith) ∙ plain-arity w (literal-operator w (c .1)) in
       record { rest = ws; equal = refl; forest = subst (λ n. Forest g P n ws) (omega arith) f }
 
-  none-left : {P : ℕ → Type 0} {ws : List ℕ} → Forest g P 0 ws → ws ≡ []
-  none-left empty = refl
-
   two-literals : {P : ℕ → Type 0} {ws : List ℕ} → Forest g P 2 ws → isLiteral (getD ws 0 0) ≡ true → isLiteral (getD ws 1 0) ≡ true →
       ws ≡ getD ws 0 0 ∷ getD ws 1 0 ∷ []
   two-literals {ws} f a b =
       let c = front f a in
       let q : getD ws 1 0 ≡ getD (c .rest) 0 0 = ap (λ r. getD r 1 0) (c .equal) in
       let d = front (c .forest) (sym (ap isLiteral q) ∙ b) in
-      c .equal ∙ ap (λ r. getD ws 0 0 ∷ r) (d .equal ∙ ap (λ r. getD (c .rest) 0 0 ∷ r) (none-left (d .forest)) ∙ ap (λ y. y ∷ []) (sym q))
+      c .equal ∙ ap (λ r. getD ws 0 0 ∷ r) (d .equal ∙ ap (λ r. getD (c .rest) 0 0 ∷ r) (forest-none (d .forest)) ∙ ap (λ y. y ∷ []) (sym q))
 
   -- ---- what is found is a built-in rule whose left side is the term
 
@@ -213,15 +211,6 @@ module _ (g : Signature) (few : length g ≤ literal) where
 
   -- ---- what follows the term does not count
 
-  forest-length : {P : ℕ → Type 0} {k : ℕ} {ws : List ℕ} → Forest g P k ws → k ≤ length ws
-  forest-length empty = omega arith
-  forest-length (more h f) = let z = forest-length f in omega arith
-
-  getD-front : (u b : List ℕ) (i : ℕ) → i < length u → getD (u ++ b) i 0 ≡ getD u i 0
-  getD-front [] b i h = absurd (omega arith)
-  getD-front (x ∷ u) b zero h = refl
-  getD-front (x ∷ u) b (suc i) h = getD-front u b i (omega arith)
-
   pub computed-rest : {u : List ℕ} (b : List ℕ) → Whole g u → computed (u ++ b) ≡ computed u
   unfolding computed
   computed-rest b (more {w} {ws} h f) = go (operator-cases w)
@@ -231,7 +220,7 @@ module _ (g : Signature) (few : length g ≤ literal) where
       go (inl q) =
           let l = forest-length f in
           let two = operator-two w q in
-          rw (getD-front ws b 0 (omega arith), getD-front ws b 1 (omega arith))
+          rw (List·getD-append ws b 0 0 (omega arith), List·getD-append ws b 0 1 (omega arith))
 
 -- ---- what is computed is a literal, in the place of three words
 

@@ -96,7 +96,10 @@ module _ (test : ℕ → Bool) where
       where
         go : {o : Option ℕ} → Finds k n o → o ≡ some f
         go (nothing z) = absurd (clash (z f (h .least) (h .inside)) (h .fails))
-        go (lowest g z) = elim (ℕ-discrete g f) [ yes e ↦ ap some e | no d ↦ absurd (apart (λ l. clash (h .lower g (z .least) l) (z .fails)) (λ l. clash (z .lower f (h .least) l) (h .fails)) d) ]
+        go (lowest g z) = elim (ℕ-discrete g f) [
+          | yes e ↦ ap some e
+          | no d ↦ absurd (apart (λ l. clash (h .lower g (z .least) l) (z .fails)) (λ l. clash (z .lower f (h .least) l) (h .fails)) d)
+        ]
           where
             apart : (g < f → ⊥) → (f < g → ⊥) → (g ≡ f → ⊥) → ⊥
             apart a b d = omega arith

@@ -14,13 +14,13 @@ use borrow.Author.Tests.{eq-eqb, ne-eqb}
 use Rattle.system.specs.Limits.{variable}
 use Rattle.system.specs.Signature.{Signature, Symbol, arity, span, argument, subterm}
 use Rattle.system.specs.System.{System, Rule, head, instance}
-use Rattle.system.specs.Terms.{Forest, empty, more, Word, Whole, Side, Member, later, Numbered, WellFormedRule, WellFormed}
+use Rattle.system.specs.Terms.{Forest, more, Word, Whole, Side, Member, later, Numbered, WellFormedRule, WellFormed}
 use Rattle.matching.specs.Matching.{Matches, contraction}
 use Rattle.matching.specs.Safety.{Idle, Constructor}
 use Rattle.system.proofs.Signatures.{arity-variable, symbol-below, few-symbols}
 use Rattle.system.proofs.Rules.{rule-formed}
 use Rattle.system.proofs.Members.{numbered-once}
-use Rattle.system.proofs.Forests.{span-forest, Wholes, parts-of, forest-take, flatten-set, focus-here, Node, node-whole, node-set}
+use Rattle.system.proofs.Forests.{forest-none, span-forest, Wholes, parts-of, forest-take, flatten-set, focus-here, Node, node-whole, node-set}
 use Rattle.system.proofs.Places.{root-argument, at-head, at-subterm}
 use Rattle.matching.proofs.Matched.{instance-symbol, instance-variable, instance-cong, instance-forest}
 use Rattle.matching.proofs.Words.{instance-append}
@@ -43,10 +43,7 @@ module _ (g : Signature) where
   module _ (few : length g ≤ variable) where
     -- a part that begins with a variable is that variable
     single : {p : List ℕ} → Side g p → variable ≤ head p → p ≡ head p ∷ []
-    single (more {w} {k} {ws} h f) v = ap (λ r. w ∷ r) (nil (subst (λ n. Forest g (Word g) n ws) (omega (arith, arity-variable g w few v)) f))
-      where
-        nil : {ws : List ℕ} → Forest g (Word g) 0 ws → ws ≡ []
-        nil empty = refl
+    single (more {w} {k} {ws} h f) v = ap (λ r. w ∷ r) (forest-none (subst (λ n. Forest g (Word g) n ws) (omega (arith, arity-variable g w few v)) f))
 
     -- a substitution that fills a side to a given term
     pub record Fills (lhs u : List ℕ) : Type 0 where

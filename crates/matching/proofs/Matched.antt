@@ -15,8 +15,8 @@ use Rattle.system.specs.Signature.{Signature, Symbol, span, arity}
 use Rattle.system.specs.System.{Rule, instance}
 use Rattle.system.specs.Terms.{Forest, empty, more, Word, Whole, Member, first, later, Numbered, end, symbol, next, WellFormedRule}
 use Rattle.matching.specs.Matching.{Matches, bind}
-use Rattle.system.proofs.Signatures.{arity-variable, symbol-below}
-use Rattle.system.proofs.Forests.{span-forest, join, split, Split, Wholes, wholes-cons, wholes-getD, getD-any}
+use Rattle.system.proofs.Signatures.{getD-within, arity-variable, symbol-below}
+use Rattle.system.proofs.Forests.{span-forest, join, split, Split, Wholes, wholes-cons, wholes-getD}
 use Rattle.system.proofs.Members.{numbered-below}
 use Rattle.system.proofs.Places.{at-subterm}
 
@@ -179,7 +179,7 @@ module _ (g : Signature) where
           let c = bind-sound b [] σ (law .left) (law .numbered) whole refl e in
           let same : (ls : List ℕ) → ((w : ℕ) → Member w ls → w < variable + law .count) → instance (λ v. getD σ v u) ls ≡ instance (λ v. getD σ v []) ls
           = λ ls h. instance-cong (λ v. getD σ v u) (λ v. getD σ v []) ls
-          (λ w n st q. getD-any σ u [] n (let h′ = h w st in let k = c .count in omega arith)) in (
+          (λ w n st q. getD-within σ u [] n (let h′ = h w st in let k = c .count in omega arith)) in (
             record {
               σ = λ v. getD σ v u;
               whole = wholes-getD g (Symbol g) σ u (subst (Wholes g (Symbol g)) (sym (c .equal)) (c .wholes)) whole;

@@ -16,14 +16,10 @@ use Rattle.system.specs.Signature.{Listed}
 use Rattle.system.specs.System.{System, Rule, strategy, rule, noRule, head}
 use Rattle.system.specs.Rules.{BuiltIn, listed, builtIn}
 use Rattle.system.specs.Terms.{Member, first, later, WellFormed}
-use Rattle.system.proofs.BuiltIns.{Supplied, builtin-range, operator-strategy, literal-operator}
+use Rattle.system.proofs.BuiltIns.{both, BuiltInWord, builtin-range, operator-strategy, literal-operator}
 use Rattle.system.proofs.Rules.{built-head, listed-head, strategy-unlisted}
 use Rattle.matching.specs.Safety.{Idle, IdleEntry, idle, Guarded, Constructor, Passes}
 use Rattle.matching.specs.StrategyTest.{every, isVariable, idleTest, idles, closes, constructs, passes}
-
-both : (a b : Bool) → (a && b) ≡ true → (a ≡ true) × (b ≡ true)
-both true b e = (refl, e)
-both false b e = absurd (let z : _≡_ {A = ℕ} 0 1 = cc in omega arith)
 
 both-true : (a b : Bool) → a ≡ true → b ≡ true → (a && b) ≡ true
 both-true a b p q = rw (p, q)
@@ -123,12 +119,12 @@ module _ (s : System) (f : ℕ) (plain : isOperator f ≡ false) where
 -- "Order test and evaluation cover them" (02, F-2): the built-in symbols pass, whatever the listed rules are
 module _ (s : System) (wf : WellFormed s) where
   -- nothing starts with a literal
-  literal-constructor : (w : ℕ) → Supplied w → isOperator w ≡ false → Constructor s w
+  literal-constructor : (w : ℕ) → BuiltInWord w → isOperator w ≡ false → Constructor s w
   literal-constructor w b o k r (builtIn d) q = other o d q
   literal-constructor w b o k r (listed m) q = let z = listed-head s wf k m in let n = wf .symbolBound in let l = b .low in omega arith
 
   -- the order of an operator ends with its 0
-  operator-guarded : (w : ℕ) → Supplied w → isOperator w ≡ true → Guarded s w
+  operator-guarded : (w : ℕ) → BuiltInWord w → isOperator w ≡ true → Guarded s w
   operator-guarded w b o =
       let count = wf .strategyCount in
       let n = wf .symbolBound in

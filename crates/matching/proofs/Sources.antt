@@ -111,11 +111,11 @@ module _ (b : List ℕ) (sh : Shape) (acc : Accepted b sh) where
         go none = refl
         go (some c) = refl
 
-    -- one look at the first word tells which rules may match: below the literals only listed ones, from there on only built-in ones
     computed-nothing : computed ws ≡ none → matchComputed ws ≡ noMatch
     unfolding matchComputed
     computed-nothing e = rw e
 
+    -- one look at the first word tells which rules may match: below the literals only listed ones, from there on only built-in ones
     pub match-low : getD ws 0 0 < literal → matchListed s ws ≡ matchOf s ws
     match-low h = go comes
       where

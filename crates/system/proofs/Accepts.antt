@@ -1,6 +1,6 @@
 -- The reader accepts the books that 01 describes and no others: it gives the system s exactly if s is well formed and the words are
 -- the encoding of s.
-use Prim.Native.Nat.{ℕ, suc, _≤_, zero-le}
+use Prim.Native.Nat.{ℕ, _≤_, zero-le}
 use native.Mathlib.Omega.{arith}
 use mathlib.Core.Path.{_≡_, refl, sym, ap, _∙_}
 use mathlib.Core.Logic.{_↔_}
@@ -13,7 +13,7 @@ use borrow.Author.Tests.{le-ltb, ltb-false}
 use Rattle.system.specs.Limits.{variable, maxArity, maxRules, maxSymbols, sideWords}
 use Rattle.system.specs.Signature.{Signature, Listed}
 use Rattle.system.specs.System.{System, Rule, noRule}
-use Rattle.system.specs.Terms.{Forest, more, WellFormedRule, WellFormed}
+use Rattle.system.specs.Terms.{WellFormedRule, WellFormed}
 use Rattle.system.specs.Format.{encodeList, encodeStrategies, encodeRules, encode}
 use Rattle.system.specs.declared.reader.sides.SideRole.{SideRole}
 use Rattle.system.specs.declared.reader.sides.SideRole.the-variants.{Left, Right}
@@ -21,6 +21,7 @@ use Rattle.system.specs.Numbers.{range}
 use Rattle.system.specs.Answers.{answerOf}
 use Rattle.system.specs.Parser.{Parsed, ok, fault, times, each, number, Reading, readWords, readStrategy, readSide, readRule, readRules, readEnd, readSystem, read}
 use Rattle.system.proofs.Signatures.{symbol-lt, arity-listed}
+use Rattle.system.proofs.Forests.{forest-length}
 use Rattle.system.proofs.Strategies.{reads-strategies, narrow-every, strategy-every, every-strategy}
 use Rattle.system.proofs.Parsed.{ok-value, ok-place, not-fault, then-ok, Between, between-join, between-split, between-ok}
 use Rattle.system.proofs.Parses.{Reads, one, reads-number}
@@ -29,10 +30,6 @@ use Rattle.system.proofs.FaultNumbers.{number-positive}
 use Rattle.system.proofs.Sides.{Taken, reads-words, taken-forest, taken-numbered, taken-few, taken-headed, taken-known, left-taken, right-taken}
 
 -- ---- rules
-
--- a side has at least one word
-pub forest-some : {g : Signature} {P : ℕ → Type 0} {k : ℕ} {ws : List ℕ} → Forest g P (suc k) ws → 1 ≤ length ws
-forest-some (more p f) = omega arith
 
 -- a side that was read
 abbrev pub TakenSide : Signature → SideRole → ℕ → Reading → Type 0
@@ -105,8 +102,8 @@ module _ (ws : List ℕ) (g : Signature) where
             let s = between-split (encodeList (x .lhs)) (encodeList (x .rhs)) b in
             let l = left-taken g below (h .left) (h .numbered) (h .variableBound) true (λ _. own .1) in
             let r = right-taken g below (h .right) (h .variableBound) (h .known) true in
-            let a = reads-side Left 0 .complete {x = record { words = x .lhs; known = h .count }} (s .0) (forest-some (h .left), h .shortLeft, l) in
-            let c = reads-side Right (h .count) .complete {x = record { words = x .rhs; known = h .count }} (s .1) (forest-some (h .right), h .shortRight, r) in
+            let a = reads-side Left 0 .complete {x = record { words = x .lhs; known = h .count }} (s .0) (forest-length (h .left), h .shortLeft, l) in
+            let c = reads-side Right (h .count) .complete {x = record { words = x .rhs; known = h .count }} (s .1) (forest-length (h .right), h .shortRight, r) in
             rw a (rw c)
 
     reads-rules : (n : ℕ) → Reads ws (times n (readRule ws g)) encodeRules (λ rs. (length rs ≡ n) × Every noRule (Own g) rs)

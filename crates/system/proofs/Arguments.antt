@@ -1,20 +1,19 @@
 -- What is handed back as an argument is a whole term, and it is empty exactly where there is no such argument.
-use Prim.Native.Nat.{ℕ, suc, _-_, _≤_, _<_}
+use Prim.Native.Nat.{ℕ, suc, _-_, _<_}
 use native.Mathlib.Omega.{arith}
 use native.Mathlib.Decide.{decLt, ℕ-discrete}
 use mathlib.Core.Path.{_≡_, sym, ap, _∙_, subst}
 use mathlib.Core.Logic.{_⊎_, inl, inr, _↔_}
-use mathlib.Core.Option.{none, some}
+use mathlib.Core.Option.{none}
 use mathlib.Core.List.{List, [], _∷_, _++_, append-nil, flatten}
 use lib.ListN.{length, getD, take, drop}
 use Rattle.system.specs.Signature.{Signature, Symbol, arity, argument, subterm}
 use Rattle.system.specs.System.{head}
 use Rattle.system.specs.Terms.{Whole}
 use Rattle.system.specs.Answers.{HasArgument, signatureOf, termAnswer, argumentAt, partOf}
-use Rattle.system.proofs.Forests.{focus-here, Node, as-node}
+use Rattle.system.proofs.Forests.{focus-here, Node, as-node, forest-length}
 use Rattle.system.proofs.Places.{at-subterm, root-argument}
 use Rattle.system.proofs.TermChecks.{fault-whole}
-use Rattle.system.proofs.Accepts.{forest-some}
 use Rattle.system.proofs.Answering.{checked, argument-refused, argument-zero, argument-beyond, argument-there}
 
 -- ---- in a term
@@ -65,7 +64,7 @@ module _ (ws t : List ℕ) (i : ℕ) where
 
   -- "The part is empty exactly when book or cue would be refused, or i is not 1 up to the argument count."
   pub part-empty : (partOf ws t (argumentAt ws t i) ≡ []) ↔ (HasArgument ws t i → ⊥)
-  part-empty = (λ e h. let l = forest-some (part-whole h) in let z = ap length e in omega arith, go there-or-none)
+  part-empty = (λ e h. let l = forest-length (part-whole h) in let z = ap length e in omega arith, go there-or-none)
     where
       go : HasArgument ws t i ⊎ (argumentAt ws t i ≡ none) → (HasArgument ws t i → ⊥) → partOf ws t (argumentAt ws t i) ≡ []
       go (inl h) n = absurd (n h)

@@ -13,17 +13,19 @@ use Rattle.system.specs.Limits.{maxEntries}
 use Rattle.system.specs.BuiltIns.{literal, literals, maximum, minimum, isLiteral, isBuiltIn, isOperator, builtInArity, builtInStrategy, larger, smaller}
 use Rattle.system.specs.Terms.{Member, first, later}
 
-both : (a b : Bool) → (a && b) ≡ true → (a ≡ true) × (b ≡ true)
+-- both of two tests
+pub both : (a b : Bool) → (a && b) ≡ true → (a ≡ true) × (b ≡ true)
 both true b e = (refl, e)
 both false b e = absurd (let z : _≡_ {A = ℕ} 0 1 = cc in omega arith)
 
 -- ---- which words they are
 
-pub record Supplied (w : ℕ) : Type 0 where
+-- between the first literal and the last operator
+pub record BuiltInWord (w : ℕ) : Type 0 where
   pub low : literal ≤ w
   pub high : w ≤ minimum
 
-pub builtin-range : (w : ℕ) → isBuiltIn w ≡ true → Supplied w
+pub builtin-range : (w : ℕ) → isBuiltIn w ≡ true → BuiltInWord w
 unfolding isBuiltIn
 builtin-range w e = let c = both _ _ e in record { low = leb-true literal w (c .0); high = leb-true w minimum (c .1) }
 

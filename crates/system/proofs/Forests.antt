@@ -10,6 +10,14 @@ use lib.Seq.{set-split, getD-set-same, getD-set-other, set-getD, length-take-le,
 use Rattle.system.specs.Signature.{Signature, Symbol, span, arity}
 use Rattle.system.specs.Terms.{Forest, empty, more, Whole}
 
+-- k terms have at least k words, and none has none
+pub forest-length : {g : Signature} {P : ℕ → Type 0} {k : ℕ} {ws : List ℕ} → Forest g P k ws → k ≤ length ws
+forest-length empty = omega arith
+forest-length (more h f) = let z = forest-length f in omega arith
+
+pub forest-none : {g : Signature} {P : ℕ → Type 0} {ws : List ℕ} → Forest g P 0 ws → ws ≡ []
+forest-none empty = refl
+
 module _ (g : Signature) where
   pub span-zero : (ws : List ℕ) → span g ws 0 ≡ 0
   unfolding span
@@ -126,11 +134,6 @@ module _ (g : Signature) where
   as-node (more {w} {k} h f) =
       let c = parts-of g (Symbol g) (k + arity g w) f in
       record { symbol = w; parts = c .parts; equal = ap (λ r. w ∷ r) (c .equal); node = record { known = h; count = c .count ∙ zero-add (arity g w); wholes = c .wholes } }
-
-pub getD-any : (us : List (List ℕ)) (c d : List ℕ) (v : ℕ) → v < length us → getD us v c ≡ getD us v d
-getD-any [] c d v h = absurd (not-suc-le-zero h)
-getD-any (x ∷ us) c d zero h = refl
-getD-any (x ∷ us) c d (suc v) h = getD-any us c d v (le-of-suc-le-suc h)
 
 pub flatten-append : (a b : List (List ℕ)) → flatten (a ++ b) ≡ flatten a ++ flatten b
 unfolding flatten

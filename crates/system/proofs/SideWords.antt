@@ -14,7 +14,7 @@ use Rattle.system.specs.Limits.{variable, variables}
 use Rattle.system.specs.Signature.{Signature, Symbol, Listed, isSymbol}
 use Rattle.system.specs.Numbers.{Fault, unknown, unbalanced, variableHead, unbound, builtInHead}
 use Rattle.system.specs.Parser.{variableFault, symbolFault, sideFault, learn}
-use Rattle.system.proofs.BuiltIns.{Supplied}
+use Rattle.system.proofs.BuiltIns.{BuiltInWord}
 use Rattle.system.proofs.Signatures.{symbol-cases}
 
 -- ---- a variable
@@ -138,7 +138,7 @@ module _ (g : Signature) (h : SideRole) (start : Bool) (due known w : ℕ) where
   pub variable-passes : 0 < due → Variable h start known w → sideFault g h start due known w ≡ none
   variable-passes o v = go (isSymbol g w) refl
     where
-      low : Supplied w → ⊥
+      low : BuiltInWord w → ⊥
       low b = let l = v .low in let u = b .high in omega arith
 
       go : (b : Bool) → isSymbol g w ≡ b → sideFault g h start due known w ≡ none

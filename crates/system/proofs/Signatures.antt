@@ -13,7 +13,7 @@ use Rattle.system.specs.BuiltIns.{literal, isBuiltIn, builtInArity}
 use Rattle.system.specs.Signature.{Signature, Symbol, Listed, isSymbol, arity}
 use Rattle.system.specs.System.{System}
 use Rattle.system.specs.Terms.{WellFormed}
-use Rattle.system.proofs.BuiltIns.{Supplied, builtin-range, plain-arity, beyond-operator}
+use Rattle.system.proofs.BuiltIns.{BuiltInWord, builtin-range, plain-arity, beyond-operator}
 
 -- within a list, no matter what stands for what is not there
 pub getD-within : {A : Type 0} (xs : List A) (c d : A) (i : ℕ) → i < length xs → getD xs i c ≡ getD xs i d
@@ -39,11 +39,11 @@ module _ (g : Signature) (w : ℕ) where
       go false = h
 
   -- a symbol is listed or built in
-  pub symbol-cases : Symbol g w → Listed g w ⊎ Supplied w
+  pub symbol-cases : Symbol g w → Listed g w ⊎ BuiltInWord w
   unfolding isSymbol
   symbol-cases h = go (ltb w (length g)) refl h
     where
-      go : (b : Bool) → ltb w (length g) ≡ b → (b || isBuiltIn w) ≡ true → Listed g w ⊎ Supplied w
+      go : (b : Bool) → ltb w (length g) ≡ b → (b || isBuiltIn w) ≡ true → Listed g w ⊎ BuiltInWord w
       go true e q = inl (ltb-true w (length g) e)
       go false e q = inr (builtin-range w q)
 
@@ -59,7 +59,7 @@ module _ (g : Signature) (w : ℕ) where
   pub symbol-below : length g ≤ variable → Symbol g w → w < variable
   symbol-below l h = go (symbol-cases h)
     where
-      go : Listed g w ⊎ Supplied w → w < variable
+      go : Listed g w ⊎ BuiltInWord w → w < variable
       go (inl b) = omega arith
       go (inr b) = let u = b .high in omega arith
 

@@ -12,7 +12,8 @@ use Rattle.system.specs.Terms.{WellFormedRule, WellFormed}
 use Rattle.system.specs.Format.{encodeStrategies, encodeRules}
 use Rattle.system.specs.Parser.{ok}
 use Rattle.system.specs.Answers.{signatureOf, shapeOf}
-use Rattle.system.proofs.Accepts.{read-sound, forest-some}
+use Rattle.system.proofs.Accepts.{read-sound}
+use Rattle.system.proofs.Forests.{forest-length}
 use Rattle.system.proofs.Members.{member-getD, numbered-below}
 use Rattle.system.proofs.Located.{Located, located, read-signature, RuleAt, rule-at}
 use Rattle.system.specs.declared.layout.rules.RuleSpan.{RuleSpan}
@@ -112,7 +113,7 @@ module _ {b : List ℕ} {sh : Shape} (acc : Accepted b sh) {k at : ℕ} (more : 
       let er : p .rhs ≡ at + 1 + length (r .lhs) + 1 = ap (λ y. y .rhs) e ∙ rw (w .left-length) in
       let es : p .size ≡ length (r .rhs) = ap (λ y. y .size) e ∙ rw (w .left-length) (w .right-length) in
       let en : p .next ≡ at + 1 + length (r .lhs) + 1 + length (r .rhs) = ap (λ y. y .next) e ∙ rw (w .left-length, w .right-length) in
-      let some : 0 < p .width = (let z = forest-some (l .left) in omega arith) in
+      let some : 0 < p .width = (let z = forest-length (l .left) in omega arith) in
       let word : (j : ℕ) → j < p .width → getD b (p .lhs + j) 0 ≡ getD (r .lhs) j 0 = λ j h.
       rw el (sym (getD-drop (at + 1) b j 0) ∙ sym (getD-take (length (r .lhs)) (drop (at + 1) b) j 0 (omega arith)) ∙ ap (λ y. getD y j 0) (w .left-words)) in
       record {

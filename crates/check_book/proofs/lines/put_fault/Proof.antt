@@ -9,31 +9,19 @@ use Rattle.check_book.proofs.lines.put_fault.Tie as tie
 
 returns : tie.Need-returns
 unfolding faultOf
-returns c =
-    let w = c .before .before in
-    let m = w .before .before .before .before in
-    row-told missing _ (m .before .before .args .a .place) (ap faultOf (m .match .keys1)) (w .put-row .ensures)
+returns c = let w = c .before .before in row-told missing _ _ (ap faultOf (w .before .before .before .before .match .keys1)) (w .put-row .ensures)
 
 returns-2 : tie.Need-returns-2
 unfolding faultOf
-returns-2 c =
-    let w = c .before .before in
-    let m = w .before .before .before .before in
-    row-told range _ (m .before .before .args .a .place) (ap faultOf (m .match .keys2)) (w .put-row2 .ensures)
+returns-2 c = let w = c .before .before in row-told range _ _ (ap faultOf (w .before .before .before .before .match .keys2)) (w .put-row2 .ensures)
 
 returns-3 : tie.Need-returns-3
 unfolding faultOf
-returns-3 c =
-    let w = c .before .before in
-    let m = w .before .before .before .before in
-    row-told entry _ (m .before .before .args .a .place) (ap faultOf (m .match .keys3)) (w .put-row3 .ensures)
+returns-3 c = let w = c .before .before in row-told entry _ _ (ap faultOf (w .before .before .before .before .match .keys3)) (w .put-row3 .ensures)
 
 returns-4 : tie.Need-returns-4
 unfolding faultOf
-returns-4 c =
-    let w = c .before .before in
-    let m = w .before .before .before .before in
-    row-told trailing _ (m .before .before .args .a .place) (ap faultOf (m .match .keys4)) (w .put-row4 .ensures)
+returns-4 c = let w = c .before .before in row-told trailing _ _ (ap faultOf (w .before .before .before .before .match .keys4)) (w .put-row4 .ensures)
 
 put-side-fault-requires : tie.Need-put-side-fault-requires
 put-side-fault-requires c κs = let m = c .before in (m .before .before .pre, m .match .rest)

@@ -9,31 +9,19 @@ use Rattle.check_book.proofs.lines.put_side_fault.Tie as tie
 
 returns : tie.Need-returns
 unfolding faultOf
-returns c =
-    let w = c .before .before in
-    let m = w .before .before .before .before in
-    row-told unknown _ (m .before .before .args .at) (ap faultOf (m .match .keys1)) (w .put-row .ensures)
+returns c = let w = c .before .before in row-told unknown _ _ (ap faultOf (w .before .before .before .before .match .keys1)) (w .put-row .ensures)
 
 returns-2 : tie.Need-returns-2
 unfolding faultOf
-returns-2 c =
-    let w = c .before .before in
-    let m = w .before .before .before .before in
-    row-told unbalanced _ (m .before .before .args .at) (ap faultOf (m .match .keys2)) (w .put-row2 .ensures)
+returns-2 c = let w = c .before .before in row-told unbalanced _ _ (ap faultOf (w .before .before .before .before .match .keys2)) (w .put-row2 .ensures)
 
 returns-3 : tie.Need-returns-3
 unfolding faultOf
-returns-3 c =
-    let w = c .before .before in
-    let m = w .before .before .before .before in
-    row-told variableHead _ (m .before .before .args .at) (ap faultOf (m .match .keys3)) (w .put-row3 .ensures)
+returns-3 c = let w = c .before .before in row-told variableHead _ _ (ap faultOf (w .before .before .before .before .match .keys3)) (w .put-row3 .ensures)
 
 returns-4 : tie.Need-returns-4
 unfolding faultOf
-returns-4 c =
-    let w = c .before .before in
-    let m = w .before .before .before .before in
-    row-told unbound _ (m .before .before .args .at) (ap faultOf (m .match .keys4)) (w .put-row4 .ensures)
+returns-4 c = let w = c .before .before in row-told unbound _ _ (ap faultOf (w .before .before .before .before .match .keys4)) (w .put-row4 .ensures)
 
 returns-5 : tie.Need-returns-5
 returns-5 c =

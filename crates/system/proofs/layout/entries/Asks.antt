@@ -155,10 +155,13 @@ module _ (b : List ℕ) (w k at f c n : ℕ) (is : k ≡ w) (st : StrategyAt b k
     entry-repeated q = same Repeated (entry-again es f c inside (entry-stood ∙ q))
 
     module _ (new : r ≡ false) (e : ℕ) (word : e ≡ getD b (at + 1 + c) 0) where
-      pub entry-zero : e ≡ 0 → Rules ≡ entryOf (strategy (systemOf b) w) f c
-      entry-zero z = same Rules (entry-rules es f c inside (entry-stood ∙ new) (entry-word ∙ sym word ∙ z))
+      pub entry-read : entryFrom e ≡ entryOf (strategy (systemOf b) w) f c
+      entry-read = ap entryFrom (word ∙ sym entry-word) ∙ same (entryFrom (getD es c 0)) (entry-here es f c inside (entry-stood ∙ new))
 
-      pub entry-more : (e ≡ 0 → ⊥) → Argument (e - 1) ≡ entryOf (strategy (systemOf b) w) f c
-      entry-more z =
-          let q : e ≡ suc (e - 1) = omega arith in
-          same (Argument (e - 1)) (entry-argument es f c inside (entry-stood ∙ new) (e - 1) (entry-word ∙ sym word ∙ q))
+-- what it asks for, by the code's test
+pub from-zero : (e : ℕ) → e ≡ 0 → Rules ≡ entryFrom e
+from-zero e z = ap entryFrom (sym z)
+
+pub from-more : (e : ℕ) → (e ≡ 0 → ⊥) → Argument (e - 1) ≡ entryFrom e
+from-more zero z = absurd (z refl)
+from-more (suc i) z = ap Argument (let q : suc i - 1 ≡ i = omega arith in q)

@@ -1,10 +1,16 @@
 -- `entries::entry_of` meets its contract.
+use Prim.Native.Nat.{ℕ, _+_}
+use mathlib.Core.Path.{_≡_, _∙_}
+use lib.ListN.{getD}
 use borrow.Author.Needs.{needs}
-use Rattle.system.proofs.layout.entries.Asks.{entry-unlisted, entry-over, entry-repeated, entry-zero, entry-more}
+use Rattle.system.specs.System.{strategy}
+use Rattle.system.specs.Book.{systemOf}
+use Rattle.system.specs.layout.Entries.{entryFrom, entryOf}
+use Rattle.system.proofs.layout.entries.Asks.{entry-unlisted, entry-over, entry-repeated, entry-read, from-zero, from-more}
 use Rattle.system.proofs.layout.entries.entry_of.Statement.{statement}
 use Rattle.system.proofs.layout.entries.entry_of.Tie as tie
 
--- ---- the places of the code that are behind others: the entry, the symbol's number, its strategy, the strategy's length, the look at the entries before
+-- ---- the places of the code that are behind others: the entry, the symbol's number, its strategy, the strategy's length
 
 abbrev entry : tie.After-wide → tie.Start
 entry c = c .before .before .before
@@ -17,9 +23,6 @@ found c = c .before .before
 
 abbrev counted : tie.After-stood-before → tie.After-wide2
 counted c = c .before .before
-
-abbrev looked : tie.After-wide3 → tie.After-stood-before
-looked c = c .before .before .before
 
 -- ---- the needs
 
@@ -51,31 +54,25 @@ returns-3 c =
     entry-repeated (a .book .now) (a .w) (f .result) (k .result) (a .f) (a .c) (n .result) (f .ensures .0) (k .ensures) (n .ensures .0) (c .before .before .if2 .left)
     (s .result) (s .ensures) (c .if3 .taken)
 
-returns-4 : tie.Need-returns-4
-returns-4 c =
-    let q = looked (c .before) in
+-- the entry that was read stood not before
+new-entry : (c : tie.Else3) → let p = found (counted (c .before)) in let a = entry (numbered p) .args in
+    (e : ℕ) → e ≡ getD (a .book .now) (p .strategy-at .result + 1 + a .c) 0 → entryFrom e ≡ entryOf (strategy (systemOf (a .book .now)) (a .w)) (a .f) (a .c)
+new-entry c e word =
+    let q = c .before in
     let p = found (counted q) in
     let a = entry (numbered p) .args in
     let f = numbered p .wide in
     let k = p .strategy-at in
     let n = counted q .wide2 in
     let s = q .stood-before in
-    let e = c .before .wide3 in
-    entry-zero (a .book .now) (a .w) (f .result) (k .result) (a .f) (a .c) (n .result) (f .ensures .0) (k .ensures) (n .ensures .0) (q .before .if2 .left)
-    (s .result) (s .ensures) (c .before .before .before .if3 .left) (e .result) (e .ensures .0) (c .if4 .taken)
+    entry-read (a .book .now) (a .w) (f .result) (k .result) (a .f) (a .c) (n .result) (f .ensures .0) (k .ensures) (n .ensures .0) (q .before .if2 .left)
+    (s .result) (s .ensures) (c .if3 .left) e word
+
+returns-4 : tie.Need-returns-4
+returns-4 c = let e = c .before .wide3 in from-zero (e .result) (c .if4 .taken) ∙ new-entry (c .before .before .before) (e .result) (e .ensures .0)
 
 returns-5 : tie.Need-returns-5
-returns-5 c =
-    let q = looked (c .before) in
-    let p = found (counted q) in
-    let a = entry (numbered p) .args in
-    let f = numbered p .wide in
-    let k = p .strategy-at in
-    let n = counted q .wide2 in
-    let s = q .stood-before in
-    let e = c .before .wide3 in
-    entry-more (a .book .now) (a .w) (f .result) (k .result) (a .f) (a .c) (n .result) (f .ensures .0) (k .ensures) (n .ensures .0) (q .before .if2 .left)
-    (s .result) (s .ensures) (c .before .before .before .if3 .left) (e .result) (e .ensures .0) (c .if4 .left)
+returns-5 c = let e = c .before .wide3 in from-more (e .result) (c .if4 .left) ∙ new-entry (c .before .before .before) (e .result) (e .ensures .0)
 
 pub entry-of-spec : {M : Type 1} → statement M
 entry-of-spec =
