@@ -12,9 +12,9 @@ FILE = 300  # lines of a file of proofs
 BODY = 40  # lines of a function's body
 CHAIN = 5  # places of the code that a proof goes back by `.before` in one go: further back, they are named
 PARAMETERS = 6
-# document 01 asks for both loops in one function; two pairs of buffers are lent to one call
+# document 01 asks for both loops in one function; two pairs of buffers are lent to one call, or a record beside one pair
 LONG_BODY = {"first_rule"}
-MANY = {"expand_twice", "cue_expand_twice"}
+MANY = {"expand_twice", "cue_expand_twice", "expand_within"}
 
 
 def functions(text):

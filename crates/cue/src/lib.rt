@@ -7,6 +7,7 @@ ghost use Rattle.system.specs.Signature.{span};
 ghost use Rattle.matching.specs.Bindings.{matchIn};
 ghost use Rattle.matching.specs.Safety.{Tells};
 ghost use Rattle.matching.specs.StrategyTest.{testAnswer};
+ghost use Rattle.rewriting.specs.Evaluation.{unrecorded};
 ghost use Rattle.evaluation.specs.Expansion.{result, expansion};
 ghost use Rattle.demands.specs.Demand3.{IsDone, IsHandedBack, IsFound, secondly, RestsAgain};
 ghost use Rattle.cue.specs.Exports.{answerFor, asAnswer, shapeFor, partFor, matchFor};
@@ -186,7 +187,7 @@ pub extern "C" fn cue_expand(
     work: &mut [u16],
 ) -> CueAnswer
     ensures { λ r. ⌜ result (asAnswer r) (now (out .exit)) (now (work .exit))
-        ≡ expansion (now (book .entry)) (now (term .entry)) limit (now (out .entry)) (now (work .entry)) ⌝ }
+        ≡ expansion (now (book .entry)) (now (term .entry)) (unrecorded limit) (now (out .entry)) (now (work .entry)) ⌝ }
 {
     answer_for(evaluation::expand(book, term, limit, out, work))
 }
@@ -202,10 +203,10 @@ pub extern "C" fn cue_expand_checked(
 ) -> CueChecked
     ensures tested { λ r. ⌜ r .test ≡ answerFor (testAnswer (now (book .entry))) ⌝ }
     ensures expanded { λ r. ⌜ result (asAnswer (r .answer)) (now (out .exit)) (now (work .exit))
-        ≡ expansion (now (book .entry)) (now (term .entry)) limit (now (out .entry)) (now (work .entry)) ⌝ }
-    ensures done { λ r. ⌜ IsDone (now (book .entry)) (now (term .entry)) limit
+        ≡ expansion (now (book .entry)) (now (term .entry)) (unrecorded limit) (now (out .entry)) (now (work .entry)) ⌝ }
+    ensures done { λ r. ⌜ IsDone (now (book .entry)) (now (term .entry)) (unrecorded limit)
         (result (asAnswer (r .answer)) (now (out .exit)) (now (work .exit))) ⌝ }
-    ensures handed { λ r. ⌜ IsHandedBack (now (book .entry)) (now (term .entry)) limit (now (out .entry)) (now (work .entry))
+    ensures handed { λ r. ⌜ IsHandedBack (now (book .entry)) (now (term .entry)) (unrecorded limit) (now (out .entry)) (now (work .entry))
         (result (asAnswer (r .answer)) (now (out .exit)) (now (work .exit))) ⌝ }
     ensures found { λ r. ⌜ IsFound (now (book .entry)) (result (asAnswer (r .answer)) (now (out .exit)) (now (work .exit))) ⌝ }
 {
@@ -230,9 +231,9 @@ pub extern "C" fn cue_expand_twice(
 ) -> CueTwice
     ensures tested { λ r. ⌜ r .test ≡ answerFor (testAnswer (now (book .entry))) ⌝ }
     ensures expanded { λ r. ⌜ result (asAnswer (r .first)) (now (out .exit)) (now (work .exit))
-        ≡ expansion (now (book .entry)) (now (term .entry)) limit (now (out .entry)) (now (work .entry)) ⌝ }
+        ≡ expansion (now (book .entry)) (now (term .entry)) (unrecorded limit) (now (out .entry)) (now (work .entry)) ⌝ }
     ensures second { λ r. ⌜ result (asAnswer (r .second)) (now (again .exit)) (now (spare .exit))
-        ≡ secondly (now (book .entry)) (expansion (now (book .entry)) (now (term .entry)) limit (now (out .entry)) (now (work .entry)))
+        ≡ secondly (now (book .entry)) (expansion (now (book .entry)) (now (term .entry)) (unrecorded limit) (now (out .entry)) (now (work .entry)))
         (now (again .entry)) (now (spare .entry)) ⌝ }
     ensures found { λ r. ⌜ IsFound (now (book .entry)) (result (asAnswer (r .first)) (now (out .exit)) (now (work .exit))) ⌝ }
     ensures rests { λ r. ⌜ RestsAgain (now (book .entry)) (result (asAnswer (r .first)) (now (out .exit)) (now (work .exit)))

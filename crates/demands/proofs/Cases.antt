@@ -12,13 +12,13 @@ use Rattle.matching.specs.StrategyTest.{passes, every, closes, idles, idleTest,
 use Rattle.matching.specs.Cases.{strategyCases}
 use Rattle.matching.specs.Matching.{bind, firstMatch, operation, applied, computed, contraction}
 use Rattle.system.specs.Cases.{Hold, bookB, readerCases}
-use Rattle.rewriting.specs.Evaluation.{rewrite, follow, atRoot, evaluate, evaluation}
-use Rattle.evaluation.specs.Expansion.{room, earlier, expansion}
+use Rattle.rewriting.specs.Evaluation.{hasRoom, rewrite, follow, atRoot, evaluate, evaluation}
+use Rattle.evaluation.specs.Expansion.{room, earlier, afterChecks}
 use Rattle.demands.specs.Cases.{expanding, evaluatorCases, starred, literalCases}
 
 pub starred-cases : Hold starred
 unfolding starred readerCases strategyCases evaluatorCases testAnswer firstFailing passes every closes idles idleTest isVariable constructs
-    expanding bookB zeros expansion room earlier evaluation evaluate atRoot follow rewrite systemOf contraction firstMatch bind instance
+    expanding bookB zeros afterChecks room earlier evaluation evaluate atRoot follow rewrite hasRoom systemOf contraction firstMatch bind instance
     span argument replace strategy read readSystem readRules readEnd readRule readSide readWords readStrategy number word learn sideFault
     symbolFault variableFault outside each times termFault termAnswer isSymbol arity isLiteral isBuiltIn isOperator builtInArity builtInStrategy
     computed applied operation larger smaller
@@ -27,7 +27,7 @@ starred-cases = refl
 -- and those of levels
 pub literal-cases : Hold literalCases
 unfolding literalCases
-    expanding bookB zeros expansion room earlier evaluation evaluate atRoot follow rewrite systemOf contraction firstMatch bind instance
+    expanding bookB zeros afterChecks room earlier evaluation evaluate atRoot follow rewrite hasRoom systemOf contraction firstMatch bind instance
     span argument replace strategy read readSystem readRules readEnd readRule readSide readWords readStrategy number word learn sideFault
     symbolFault variableFault outside each times termFault termAnswer isSymbol arity isLiteral isBuiltIn isOperator builtInArity builtInStrategy
     computed applied operation larger smaller

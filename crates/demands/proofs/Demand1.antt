@@ -10,7 +10,7 @@ use Rattle.system.specs.Parser.{Parsed, ok, fault, read}
 use Rattle.system.specs.TermCheck.{termFault}
 use Rattle.system.specs.Answers.{wholeAnswer, termAnswer}
 use Rattle.system.specs.Book.{systemOf}
-use Rattle.rewriting.specs.Evaluation.{Outcome, finished, stopped, evaluation}
+use Rattle.rewriting.specs.Evaluation.{Limits, Outcome, finished, stopped, evaluation}
 use Rattle.evaluation.specs.Expansion.{result, expansionOf, expansion}
 use Rattle.demands.specs.Demand1.{Early, book, term, buffers, Refused, untouched, cleared}
 use Rattle.evaluation.proofs.Expanding.{Course, narrow, wrong, runs, course}
@@ -31,19 +31,19 @@ term-said b t d = go (read b) refl d
     go (fault f i) e d = rw (e, termAnswer) (said (book f) refl refl)
     go (ok s j) e d = rw (e, termAnswer) (whole-said t (termFault (s .arities) 1 t 0) (rw (e, termAnswer) at d))
 
-module _ (b t : List ℕ) (limit : ℕ) (out work : List ℕ) where
-  -- a call that does not answer 0 is refused by the table, for every book, term, step limit and buffers
-  pub refused : (expansion b t limit out work .numbers .number ≡ 0 → ⊥) → Refused out work (expansion b t limit out work)
-  refused d = by (course b t limit out work)
+module _ (b t : List ℕ) (limits : Limits) (out work : List ℕ) where
+  -- a call that does not answer 0 is refused by the table, for every book, term, limits and buffers
+  pub refused : (expansion b t limits out work .numbers .number ≡ 0 → ⊥) → Refused out work (expansion b t limits out work)
+  refused d = by (course b t out work (expansionOf out work (evaluation (systemOf b) limits t)))
     where
-      stops : (o : Outcome) → expansion b t limit out work ≡ expansionOf out work o → Refused out work (expansion b t limit out work)
+      stops : (o : Outcome) → expansion b t limits out work ≡ expansionOf out work o → Refused out work (expansion b t limits out work)
       stops (finished r) e = absurd (d (ap (λ y. y .numbers .number) e))
       stops (stopped l m) e = subst (Refused out work) (sym e) (cleared l)
 
-      early : {a : Answer} → Said a → expansion b t limit out work ≡ result a out work → Refused out work (expansion b t limit out work)
+      early : {a : Answer} → Said a → expansion b t limits out work ≡ result a out work → Refused out work (expansion b t limits out work)
       early (said v n k) e = subst (Refused out work) (sym e) (untouched v n k)
 
-      by : Course b t limit out work → Refused out work (expansion b t limit out work)
+      by : Course b t out work (expansionOf out work (evaluation (systemOf b) limits t)) → Refused out work (expansion b t limits out work)
       by (narrow e) = subst (Refused out work) (sym e) (untouched buffers refl refl)
       by (wrong w e) = early (term-said b t w) e
-      by (runs p e) = stops (evaluation (systemOf b) limit t) e
+      by (runs p e) = stops (evaluation (systemOf b) limits t) e

@@ -5,6 +5,7 @@ use lib.ListN.{set}
 use Rattle.buffers.specs.Words.{zeros}
 use Rattle.system.specs.Cases.{Case, numbers, bookB, earlyB, readerCases}
 use Rattle.matching.specs.Cases.{strategyCases}
+use Rattle.rewriting.specs.Evaluation.{unrecorded}
 use Rattle.evaluation.specs.Expansion.{Expansion, expansion, handedBack}
 use Rattle.system.specs.Limits.{areaWords, termWords}
 
@@ -14,7 +15,7 @@ told x = numbers (x .numbers) ++ elim (x .numbers .number) [ zero ↦ handedBack
 
 -- in buffers of just the words that the evaluator asks for
 unfoldable pub expanding : List ℕ → List ℕ → ℕ → List ℕ
-expanding book term limit = told (expansion book term limit (zeros termWords) (zeros areaWords))
+expanding book term limit = told (expansion book term (unrecorded limit) (zeros termWords) (zeros areaWords))
 
 unfoldable pub evaluatorCases : List Case
 evaluatorCases =

@@ -14,7 +14,8 @@ pub data Early : Verdict → Type 0 where
   term : Early broken
   buffers : Early cramped
 
--- these touch no buffer, and no step is taken; 11 to 13 leave the answer buffer unchanged and the area at the front of the work buffer zero
+-- these touch no buffer, and no step is taken; 11 to 13, and 16 where a record is lent, leave the answer buffer unchanged and the area at the
+-- front of the work buffer zero
 pub data Refused (out work : List ℕ) : Expansion → Type 0 where
   untouched : {v : Verdict} {r : Answer} → Early v → r .number ≡ numberOf v → r .steps ≡ 0 → Refused out work (result r out work)
   cleared : (l : Limit) {k : ℕ} →

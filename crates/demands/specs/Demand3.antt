@@ -1,4 +1,5 @@
--- What demand 3 asks of the evaluator (01: the expander), said of an expansion x: its three numbers and both buffers as it leaves them.
+-- What demand 3 asks of the evaluator (01: the expander), said of an expansion x: its three numbers and both buffers as it leaves them. Its
+-- limits are those of the form without a record or of the one with it (02, F-3: "its room is one more limit in demands 2 and 3").
 use Prim.Native.Nat.{ℕ, zero, suc, _≤_}
 use mathlib.Core.Path.{_≡_}
 use mathlib.Core.List.{List}
@@ -6,23 +7,23 @@ use lib.ListN.{length}
 use Rattle.system.specs.Answers.{termAnswer}
 use Rattle.system.specs.Book.{systemOf}
 use Rattle.matching.specs.StrategyTest.{PassedBook}
-use Rattle.rewriting.specs.Evaluation.{Config, finished, evaluation}
+use Rattle.rewriting.specs.Evaluation.{Limits, Config, unrecorded, steps, finished, evaluation}
 use Rattle.rewriting.specs.Outcomes.{Done, Stable}
 use Rattle.evaluation.specs.Expansion.{Expansion, result, expansion, handedBack}
 use Rattle.system.specs.Limits.{areaWords, termWords}
 
 -- "a cue is handed back if the expander answers 0": then that many words are there, and they are done
-abbrev pub IsDone : List ℕ → List ℕ → ℕ → Expansion → Type 0
-IsDone book term limit x =
+abbrev pub IsDone : List ℕ → List ℕ → Limits → Expansion → Type 0
+IsDone book term limits x =
     x .numbers .number ≡ 0 →
-    (length (handedBack x) ≡ x .numbers .place) × Done (systemOf book) limit term (handedBack x) (x .numbers .steps)
+    (length (handedBack x) ≡ x .numbers .place) × Done (systemOf book) limits term (handedBack x) (x .numbers .steps)
 
 -- and where the checks pass and the evaluation ends within its limits, a term is handed back: it and the count are the evaluation's
-abbrev pub IsHandedBack : List ℕ → List ℕ → ℕ → List ℕ → List ℕ → Expansion → Type 0
-IsHandedBack book term limit out work x =
+abbrev pub IsHandedBack : List ℕ → List ℕ → Limits → List ℕ → List ℕ → Expansion → Type 0
+IsHandedBack book term limits out work x =
     termWords ≤ length out → areaWords ≤ length work → termAnswer book term .number ≡ 0 →
-    (e : Config) → evaluation (systemOf book) limit term ≡ finished e →
-    (x .numbers ≡ record { number = 0; place = length (e .term); steps = e .steps }) × (handedBack x ≡ e .term)
+    (e : Config) → evaluation (systemOf book) limits term ≡ finished e →
+    (x .numbers ≡ record { number = 0; place = length (e .term); steps = steps e }) × (handedBack x ≡ e .term)
 
 -- an expansion that takes no step and hands back the words t
 abbrev pub Rests : List ℕ → Expansion → Type 0
@@ -34,8 +35,8 @@ pub record Found (book t : List ℕ) : Type 0 where
   pub stable : Stable (systemOf book) t
   -- "in 1 to 4,096 words; one so written is whole"
   pub bounded : length t ≤ termWords
-  -- expanding them again takes no step and hands back the same, in any buffers that pass the checks and with any step limit
-  pub again : (limit : ℕ) (out work : List ℕ) → termWords ≤ length out → areaWords ≤ length work → Rests t (expansion book t limit out work)
+  -- expanding them again takes no step and hands back the same, in any buffers that pass the checks and with any limits
+  pub again : (limits : Limits) (out work : List ℕ) → termWords ≤ length out → areaWords ≤ length work → Rests t (expansion book t limits out work)
 
 -- a term handed back over a book that passed
 abbrev pub IsFound : List ℕ → Expansion → Type 0
@@ -46,7 +47,7 @@ IsFound book x = PassedBook book → x .numbers .number ≡ 0 → Found book (ha
 unfoldable pub secondly : List ℕ → Expansion → List ℕ → List ℕ → Expansion
 secondly book x out work =
     elim (x .numbers .number) [
-      | zero ↦ expansion book (handedBack x) 0 out work
+      | zero ↦ expansion book (handedBack x) (unrecorded 0) out work
       | suc _ ↦ result (x .numbers) out work
     ]
 

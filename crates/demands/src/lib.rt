@@ -1,6 +1,7 @@
 // Demand 3 as contracts: small functions that call the strategy test and the evaluator, and whose contracts are its sentences.
 ghost use mathlib.Core.Path.{_≡_};
 ghost use Rattle.matching.specs.StrategyTest.{testAnswer};
+ghost use Rattle.rewriting.specs.Evaluation.{unrecorded};
 ghost use Rattle.evaluation.specs.Expansion.{result, expansion};
 ghost use Rattle.demands.specs.Demand3.{IsDone, IsHandedBack, IsFound, secondly, RestsAgain};
 use evaluation::scanned::expand_scanned;
@@ -25,9 +26,10 @@ pub fn expand_checked(
 ) -> Checked
     ensures tested { λ r. ⌜ r .test ≡ testAnswer (now (book .entry)) ⌝ }
     ensures expanded { λ r. ⌜ result (r .answer) (now (out .exit)) (now (work .exit))
-        ≡ expansion (now (book .entry)) (now (term .entry)) limit (now (out .entry)) (now (work .entry)) ⌝ }
-    ensures done { λ r. ⌜ IsDone (now (book .entry)) (now (term .entry)) limit (result (r .answer) (now (out .exit)) (now (work .exit))) ⌝ }
-    ensures handed { λ r. ⌜ IsHandedBack (now (book .entry)) (now (term .entry)) limit (now (out .entry)) (now (work .entry))
+        ≡ expansion (now (book .entry)) (now (term .entry)) (unrecorded limit) (now (out .entry)) (now (work .entry)) ⌝ }
+    ensures done { λ r. ⌜ IsDone (now (book .entry)) (now (term .entry)) (unrecorded limit)
+        (result (r .answer) (now (out .exit)) (now (work .exit))) ⌝ }
+    ensures handed { λ r. ⌜ IsHandedBack (now (book .entry)) (now (term .entry)) (unrecorded limit) (now (out .entry)) (now (work .entry))
         (result (r .answer) (now (out .exit)) (now (work .exit))) ⌝ }
     ensures found { λ r. ⌜ IsFound (now (book .entry)) (result (r .answer) (now (out .exit)) (now (work .exit))) ⌝ }
 {
@@ -57,9 +59,9 @@ pub fn expand_twice(
 ) -> Twice
     ensures tested { λ r. ⌜ r .test ≡ testAnswer (now (book .entry)) ⌝ }
     ensures expanded { λ r. ⌜ result (r .first) (now (out .exit)) (now (work .exit))
-        ≡ expansion (now (book .entry)) (now (term .entry)) limit (now (out .entry)) (now (work .entry)) ⌝ }
+        ≡ expansion (now (book .entry)) (now (term .entry)) (unrecorded limit) (now (out .entry)) (now (work .entry)) ⌝ }
     ensures second { λ r. ⌜ result (r .second) (now (again .exit)) (now (spare .exit))
-        ≡ secondly (now (book .entry)) (expansion (now (book .entry)) (now (term .entry)) limit (now (out .entry)) (now (work .entry)))
+        ≡ secondly (now (book .entry)) (expansion (now (book .entry)) (now (term .entry)) (unrecorded limit) (now (out .entry)) (now (work .entry)))
         (now (again .entry)) (now (spare .entry)) ⌝ }
     ensures found { λ r. ⌜ IsFound (now (book .entry)) (result (r .first) (now (out .exit)) (now (work .exit))) ⌝ }
     ensures rests { λ r. ⌜ RestsAgain (now (book .entry)) (result (r .first) (now (out .exit)) (now (work .exit)))

@@ -3,6 +3,7 @@ use Prim.Native.Nat.{ℕ, zero, suc, _+_, _≤_, _<_}
 use native.Mathlib.Omega.{arith}
 use native.Mathlib.Decide.{decLt, ℕ-discrete}
 use mathlib.Core.Path.{_≡_, refl, sym, ap, _∙_}
+use mathlib.Core.Bool.{Bool, true, false, cond}
 use mathlib.Core.List.{List, [], _++_}
 use lib.ListN.{length, take, drop, length-append, length-drop}
 use lib.Seq.{take-at, drop-at, sets-eq}
@@ -21,9 +22,10 @@ use Rattle.system.proofs.Answering as answering
 use Rattle.system.proofs.TermChecks.{fault-whole}
 use Rattle.system.specs.Book.{systemOf, Accepted}
 use Rattle.evaluation.specs.declared.run.RunResult.{RunResult}
-use Rattle.rewriting.specs.Evaluation.{Config, Outcome, finished, stopped, evaluation}
+use Rattle.rewriting.specs.Evaluation.{Limits, Config, Outcome, finished, stopped, evaluation}
 use Rattle.evaluation.specs.run.RunResult.{Ran}
-use Rattle.evaluation.specs.Expansion.{result, expansionOf, room, earlier, checked, expansion}
+use Rattle.evaluation.specs.recording.Kept.{kept}
+use Rattle.evaluation.specs.Expansion.{Expansion, result, expansionOf, room, earlier, checked, afterChecks, traceOf, keep, recordAfter}
 use Rattle.rewriting.proofs.Done.{theorem-done, steps-last}
 
 -- ---- what the check of a term tells
@@ -105,33 +107,32 @@ passed book term out work z =
         let y = sym (ap (λ y. y .number) (earlier-first _ (termAnswer book term) (λ w. omega arith))) ∙ z in
         omega arith
 
-module _ (book term : List ℕ) (limit : ℕ) (out work : List ℕ) where
-  pub refuses : (checked book term out work .number ≡ 0 → ⊥) → expansion book term limit out work ≡ result (checked book term out work) out work
-  unfolding expansion
+-- the checks pass
+pub passing : (book term out work : List ℕ) → termWords ≤ length out → areaWords ≤ length work → checked book term out work ≡ termAnswer book term
+passing book term out work h k = earlier-second _ (termAnswer book term) (ap (λ y. y .number) (enough (length out) (length work) h k))
+
+module _ (book term out work : List ℕ) (x : Expansion) where
+  pub refuses : (checked book term out work .number ≡ 0 → ⊥) → afterChecks book term out work x ≡ result (checked book term out work) out work
+  unfolding afterChecks
   refuses bad = go (checked book term out work .number) refl
     where
-      go : (n : ℕ) → checked book term out work .number ≡ n → expansion book term limit out work ≡ result (checked book term out work) out work
+      go : (n : ℕ) → checked book term out work .number ≡ n → afterChecks book term out work x ≡ result (checked book term out work) out work
       go zero e = absurd (bad e)
-      go (suc n) e = rw (e, expansion)
+      go (suc n) e = rw (e, afterChecks)
           (λ i. result (record { number = e i; place = checked book term out work .place; steps = checked book term out work .steps }) out work)
 
-  pub goes : checked book term out work .number ≡ 0 → expansion book term limit out work ≡ expansionOf out work (evaluation (systemOf book) limit term)
-  unfolding expansion
-  goes e = rw (e, expansion)
+  pub accepts : checked book term out work .number ≡ 0 → afterChecks book term out work x ≡ x
+  unfolding afterChecks
+  accepts e = rw (e, afterChecks)
 
-  -- the checks pass
-  pub passing : termWords ≤ length out → areaWords ≤ length work → checked book term out work ≡ termAnswer book term
-  passing h k = earlier-second _ (termAnswer book term) (ap (λ y. y .number) (enough (length out) (length work) h k))
-
-  pub evaluates : termWords ≤ length out → areaWords ≤ length work → termAnswer book term .number ≡ 0 →
-      expansion book term limit out work ≡ expansionOf out work (evaluation (systemOf book) limit term)
-  evaluates h k g = goes (ap (λ y. y .number) (passing h k) ∙ g)
+  pub evaluates : termWords ≤ length out → areaWords ≤ length work → termAnswer book term .number ≡ 0 → afterChecks book term out work x ≡ x
+  evaluates h k g = accepts (ap (λ y. y .number) (passing book term out work h k) ∙ g)
 
   -- what comes of a call: its checks refuse it, 10 or the term's answer; or it runs
   pub data Course : Type 0 where
-    narrow : expansion book term limit out work ≡ result narrowed out work → Course
-    wrong : (termAnswer book term .number ≡ 0 → ⊥) → expansion book term limit out work ≡ result (termAnswer book term) out work → Course
-    runs : Passed book term out work → expansion book term limit out work ≡ expansionOf out work (evaluation (systemOf book) limit term) → Course
+    narrow : afterChecks book term out work x ≡ result narrowed out work → Course
+    wrong : (termAnswer book term .number ≡ 0 → ⊥) → afterChecks book term out work x ≡ result (termAnswer book term) out work → Course
+    runs : Passed book term out work → afterChecks book term out work x ≡ x → Course
 
   pub course : Course
   course =
@@ -141,18 +142,49 @@ module _ (book term : List ℕ) (limit : ℕ) (out work : List ℕ) where
           | yes k ↦ narrow (first (narrow-work (length out) (length work) (omega arith) k))
           | no k ↦ elim (ℕ-discrete (termAnswer book term .number) 0) [
             | no b ↦
-                let e = passing (omega arith) (omega arith) in
+                let e = passing book term out work (omega arith) (omega arith) in
                 wrong b (refuses (λ z. b (sym (ap (λ y. y .number) e) ∙ z)) ∙ ap (λ y. result y out work) e)
             | yes g ↦ runs (record { room-answer = omega arith; room-work = omega arith; good = g }) (evaluates (omega arith) (omega arith) g)
           ]
         ]
       ]
     where
-      first : room (length out) (length work) ≡ narrowed → expansion book term limit out work ≡ result narrowed out work
+      first : room (length out) (length work) ≡ narrowed → afterChecks book term out work x ≡ result narrowed out work
       first e =
           let n = ap (λ y. y .number) e in
           let c = earlier-first _ (termAnswer book term) (λ w. omega arith) ∙ e in
           refuses (λ z. let y = ap (λ y. y .number) c in omega arith) ∙ ap (λ y. result y out work) c
+
+-- ---- the record
+
+module _ (book term : List ℕ) (limits : Limits) (out work words : List ℕ) where
+  pub record-refused : (checked book term out work .number ≡ 0 → ⊥) → recordAfter book term limits out work words ≡ words
+  unfolding recordAfter
+  record-refused bad = go (checked book term out work .number) refl
+    where
+      go : (n : ℕ) → checked book term out work .number ≡ n → recordAfter book term limits out work words ≡ words
+      go zero e = absurd (bad e)
+      go (suc n) e = rw (e, recordAfter)
+
+  pub record-told : Passed book term out work → recordAfter book term limits out work words ≡ keep words (traceOf (evaluation (systemOf book) limits term))
+  unfolding recordAfter
+  record-told p = rw (ap (λ y. y .number) (passing book term out work (p .room-answer) (p .room-work)) ∙ p .good, recordAfter)
+
+-- the same, where it is told by a flag whether one is lent
+module _ (b : Bool) (book term : List ℕ) (limits : Limits) (out work words : List ℕ) where
+  pub lent-refused : (checked book term out work .number ≡ 0 → ⊥) → words ≡ cond b (recordAfter book term limits out work words) words
+  lent-refused bad = go b
+    where
+      go : (b : Bool) → words ≡ cond b (recordAfter book term limits out work words) words
+      go true = sym (record-refused book term limits out work words bad)
+      go false = refl
+
+  pub lent-told : Passed book term out work → kept b words (traceOf (evaluation (systemOf book) limits term)) ≡ cond b (recordAfter book term limits out work words) words
+  lent-told p = go b
+    where
+      go : (b : Bool) → kept b words (traceOf (evaluation (systemOf book) limits term)) ≡ cond b (recordAfter book term limits out work words) words
+      go true = sym (record-told book term limits out work words p)
+      go false = refl
 
 -- ---- after a run
 
@@ -160,11 +192,11 @@ pub same-result : {r r′ : Answer} {out out′ work work′ : List ℕ} → r �
 same-result p q s i = result (p i) (q i) (s i)
 
 -- what is handed back is no longer than a term may be
-pub size-bounded : (book term : List ℕ) (limit : ℕ) → Checks book term → (e : RunResult) (ws : List ℕ) → Ran (evaluation (systemOf book) limit term) e ws → e .size ≤ termWords
-size-bounded book term limit c e ws = go (evaluation (systemOf book) limit term) refl
+pub size-bounded : (book term : List ℕ) (limits : Limits) → Checks book term → (e : RunResult) (ws : List ℕ) → Ran (evaluation (systemOf book) limits term) e ws → e .size ≤ termWords
+size-bounded book term limits c e ws = go (evaluation (systemOf book) limits term) refl
   where
-    go : (o : Outcome) → evaluation (systemOf book) limit term ≡ o → Ran o e ws → e .size ≤ termWords
-    go (finished r) q h = let d = theorem-done (systemOf book) (checks-well book term c) limit term r (c .whole) (c .bounded) q in
+    go : (o : Outcome) → evaluation (systemOf book) limits term ≡ o → Ran o e ws → e .size ≤ termWords
+    go (finished r) q h = let d = theorem-done (systemOf book) (checks-well book term c) limits term r (c .whole) (c .bounded) q in
         let z = ap (λ y. y .size) (h .0) in
         omega (arith, steps-last (systemOf book) (d .path))
     go (stopped n k) q h = let z = ap (λ y. y .size) (h .0) in omega arith

@@ -3,3 +3,4 @@ pub mod Starts
 pub mod Cleared
 pub mod Running
 pub mod Rounds
+pub mod Steps

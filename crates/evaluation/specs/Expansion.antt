@@ -1,7 +1,7 @@
--- What the evaluator (01: the expander) answers and leaves in the lent buffers, for every input.
+-- What the evaluator (01: the expander) answers and leaves in the lent buffers, for every input: without a record, and with one (02, F-3).
 use Prim.Native.Nat.{ℕ, zero, suc}
 use mathlib.Core.Bool.{true, false, _&&_}
-use mathlib.Core.List.{List}
+use mathlib.Core.List.{List, []}
 use lib.ListN.{length, take}
 use lib.Dec.{leb}
 use Rattle.buffers.specs.Words.{over, zeros}
@@ -9,7 +9,8 @@ use Rattle.system.specs.declared.Answer.{Answer}
 use Rattle.system.specs.Numbers.{taken, cramped, numberOf, limitNumber}
 use Rattle.system.specs.Answers.{termAnswer}
 use Rattle.system.specs.Book.{systemOf}
-use Rattle.rewriting.specs.Evaluation.{Outcome, finished, stopped, evaluation}
+use Rattle.rewriting.specs.Trace.{Trace, inOrder}
+use Rattle.rewriting.specs.Evaluation.{Limits, steps, Outcome, finished, stopped, evaluation}
 use Rattle.system.specs.Limits.{areaWords, termWords}
 
 -- the three numbers, the answer buffer and the work buffer
@@ -23,11 +24,11 @@ abbrev pub result : Answer → List ℕ → List ℕ → Expansion
 result r out work = record { numbers = r; answer = out; work = work }
 
 -- "On 0 the answer stands in the first words of the answer buffer and the rest is unchanged; otherwise that buffer is unchanged."
--- "On 11 to 13 and on 0 the first 8,192 words of the expander's work buffer are zero and the rest unchanged"
+-- "On 11 to 13 and on 0 the first 8,192 words of the expander's work buffer are zero and the rest unchanged"; 16 leaves "the buffers as 11 does"
 abbrev pub expansionOf : List ℕ → List ℕ → Outcome → Expansion
 expansionOf out work (finished r) =
-    result (record { number = numberOf taken; place = length (r .term); steps = r .steps }) (over out 0 (r .term)) (over work 0 (zeros areaWords))
-expansionOf out work (stopped n k) = result (record { number = limitNumber n; place = 0; steps = k }) out (over work 0 (zeros areaWords))
+    result (record { number = numberOf taken; place = length (r .term); steps = steps r }) (over out 0 (r .term)) (over work 0 (zeros areaWords))
+expansionOf out work (stopped n h) = result (record { number = limitNumber n; place = 0; steps = length h }) out (over work 0 (zeros areaWords))
 
 -- 10: "answer buffer below 4,096 words, or work buffer below 8,192"
 unfoldable pub room : ℕ → ℕ → Answer
@@ -45,14 +46,37 @@ earlier a b = elim (a .number) [ zero ↦ b | suc _ ↦ a ]
 abbrev pub checked : List ℕ → List ℕ → List ℕ → List ℕ → Answer
 checked book term out work = earlier (room (length out) (length work)) (termAnswer book term)
 
--- "every other number touches no buffer"
-unfoldable pub expansion : List ℕ → List ℕ → ℕ → List ℕ → List ℕ → Expansion
-expansion book term limit out work =
+-- x where the checks pass; "every other number touches no buffer"
+unfoldable pub afterChecks : List ℕ → List ℕ → List ℕ → List ℕ → Expansion → Expansion
+afterChecks book term out work x =
     elim (checked book term out work .number) [
-      | zero ↦ expansionOf out work (evaluation (systemOf book) limit term)
+      | zero ↦ x
       | suc _ ↦ result (checked book term out work) out work
     ]
+
+-- the expander, whatever the limits: `unrecorded` for the form without a record, `recorded` for the one with it
+abbrev pub expansion : List ℕ → List ℕ → Limits → List ℕ → List ℕ → Expansion
+expansion book term limits out work = afterChecks book term out work (expansionOf out work (evaluation (systemOf book) limits term))
 
 -- the words that are handed back: "the answer stands in the first words of the answer buffer", as many as the place says
 abbrev pub handedBack : Expansion → List ℕ
 handedBack x = take (x .numbers .place) (x .answer)
+
+-- ---- the record (02, F-3)
+
+-- the steps that an outcome reports
+abbrev pub traceOf : Outcome → Trace
+traceOf (finished r) = r .trace
+traceOf (stopped n h) = h
+
+-- "the record holds the pairs of the steps reported, its other words unchanged"
+unfoldable pub keep : List ℕ → Trace → List ℕ
+keep words h = over words 0 (inOrder h [])
+
+-- "After any answer": where a check refuses the call, no step is reported
+unfoldable pub recordAfter : List ℕ → List ℕ → Limits → List ℕ → List ℕ → List ℕ → List ℕ
+recordAfter book term limits out work words =
+    elim (checked book term out work .number) [
+      | zero ↦ keep words (traceOf (evaluation (systemOf book) limits term))
+      | suc _ ↦ words
+    ]

@@ -1,4 +1,5 @@
 -- What the evaluator (01: the expander) answers
 pub mod Expansion
--- A run: inner
+-- A run, and its record: inner
 pub mod run
+pub mod recording

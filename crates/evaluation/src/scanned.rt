@@ -1,14 +1,18 @@
 // The evaluation over a book that was scanned: its checks, a run in the work buffer, and what is handed back.
 ghost use mathlib.Core.Path.{_≡_};
+ghost use mathlib.Core.Bool.{cond};
 ghost use Prim.Native.Nat.{_≤_};
 ghost use lib.ListN.{length, take};
 ghost use Rattle.buffers.specs.Words.{over, zeros};
 ghost use Rattle.buffers.specs.moves.Parts.{pad};
+ghost use Rattle.system.specs.Answers.{termAnswer};
 ghost use Rattle.system.specs.Limits.{areaWords, termWords};
 ghost use Rattle.system.specs.Parser.{read};
 ghost use Rattle.system.specs.reader.Sections.{scanOf};
-ghost use Rattle.evaluation.specs.Expansion.{result, room, earlier, expansion};
-use crate::run::RunResult;
+ghost use Rattle.rewriting.specs.Evaluation.{unrecorded};
+ghost use Rattle.evaluation.specs.Expansion.{result, room, earlier, expansion, recordAfter};
+ghost use Rattle.evaluation.specs.recording.Kept.{limitsOf};
+use crate::recording::Bounds;
 use crate::run::run;
 use system::Answer;
 use system::limits::AREA_WORDS;
@@ -29,34 +33,72 @@ pub fn expand_scanned(
 ) -> Answer
     requires { ⌜ scan ≡ scanOf (read (now book)) ⌝ }
     ensures { λ r. ⌜ result r (now (out .exit)) (now (work .exit))
-        ≡ expansion (now (book .entry)) (now (term .entry)) limit (now (out .entry)) (now (work .entry)) ⌝ }
+        ≡ expansion (now (book .entry)) (now (term .entry)) (unrecorded limit) (now (out .entry)) (now (work .entry)) ⌝ }
 {
-    let buffers = room(out.len(), work.len());
-    let words = check(book, scan, term);
-    let c = earlier(buffers, words);
+    let bounds = Bounds {
+        limit,
+        recorded: false,
+    };
+    let mut unused = [0u16; 1];
+    expand_within(book, scan, term, bounds, out, work, &mut unused)
+}
+
+// What `expand` and `expand_recorded` do, over a book that was scanned. A record that is not lent stays as it is.
+pub fn expand_within(
+    book: &[u16],
+    scan: Scan,
+    term: &[u16],
+    bounds: Bounds,
+    out: &mut [u16],
+    work: &mut [u16],
+    record: &mut [u16],
+) -> Answer
+    requires { ⌜ scan ≡ scanOf (read (now book)) ⌝ }
+    ensures expanded { λ r. ⌜ result r (now (out .exit)) (now (work .exit))
+        ≡ expansion (now (book .entry)) (now (term .entry)) (limitsOf bounds (length (now («record» .entry))))
+        (now (out .entry)) (now (work .entry)) ⌝ }
+    ensures told { λ _. ⌜ now («record» .exit) ≡ cond (bounds .recorded) (recordAfter (now (book .entry)) (now (term .entry))
+        (limitsOf bounds (length (now («record» .entry)))) (now (out .entry)) (now (work .entry)) (now («record» .entry))) (now («record» .entry)) ⌝ }
+{
+    let c = check_call(book, scan, term, out.len(), work.len());
     if c.number != TAKEN {
         return c;
     }
-    let e = run(book, scan.shape, term, limit, &mut work[0..AREA_WORDS]);
-    finish(out, work, e)
-}
-
-// Hands the first words of the area to the caller, none where the run was stopped, and clears them; all other words of it are zero already.
-fn finish(out: &mut [u16], work: &mut [u16], e: RunResult) -> Answer
-    requires { ⌜ (areaWords ≤ length (now work)) × (e .size ≤ termWords) × (termWords ≤ length (now out))
-        × (take areaWords (now work) ≡ pad areaWords (take (e .size) (now work))) ⌝ }
-    ensures numbers { λ r. ⌜ r ≡ record { number = e .number; place = e .size; steps = e .steps } ⌝ }
-    ensures answer { λ _. ⌜ now (out .exit) ≡ over (now (out .entry)) 0 (take (e .size) (now (work .entry))) ⌝ }
-    ensures zeroed { λ _. ⌜ now (work .exit) ≡ over (now (work .entry)) 0 (zeros areaWords) ⌝ }
-{
-    let n = e.size;
-    buffers::copy_in(out, 0, &work[0..n]);
-    buffers::clear(work, 0, n);
+    let e = run(
+        book,
+        scan.shape,
+        term,
+        bounds,
+        &mut work[0..AREA_WORDS],
+        record,
+    );
+    hand_back(out, work, e.size);
     Answer {
         number: e.number,
-        place: n,
+        place: e.size,
         steps: e.steps,
     }
+}
+
+// The checks of a call, by how many words its buffers have: the buffers, then the book, then the term.
+pub fn check_call(book: &[u16], scan: Scan, term: &[u16], out: usize, work: usize) -> Answer
+    requires { ⌜ scan ≡ scanOf (read (now book)) ⌝ }
+    ensures { λ r. ⌜ r ≡ earlier (room out work) (termAnswer (now (book .entry)) (now (term .entry))) ⌝ }
+{
+    let buffers = room(out, work);
+    let words = check(book, scan, term);
+    earlier(buffers, words)
+}
+
+// Hands the first n words of the area to the caller, and clears them; all other words of it are zero already.
+pub fn hand_back(out: &mut [u16], work: &mut [u16], n: usize)
+    requires { ⌜ (areaWords ≤ length (now work)) × (n ≤ termWords) × (termWords ≤ length (now out))
+        × (take areaWords (now work) ≡ pad areaWords (take n (now work))) ⌝ }
+    ensures answer { λ _. ⌜ now (out .exit) ≡ over (now (out .entry)) 0 (take n (now (work .entry))) ⌝ }
+    ensures zeroed { λ _. ⌜ now (work .exit) ≡ over (now (work .entry)) 0 (zeros areaWords) ⌝ }
+{
+    buffers::copy_in(out, 0, &work[0..n]);
+    buffers::clear(work, 0, n);
 }
 
 // 10 for buffers below the words that are asked for, else 0.

@@ -3,6 +3,7 @@ use Prim.Native.Nat.{ℕ, zero, suc}
 use mathlib.Core.List.{List, [], _∷_, _++_}
 use Rattle.buffers.specs.Words.{zeros}
 use Rattle.system.specs.Limits.{termWords, areaWords}
+use Rattle.rewriting.specs.Evaluation.{unrecorded}
 use Rattle.evaluation.specs.Expansion.{Expansion, expansion, handedBack}
 use Rattle.printing.specs.Text.{ascii, line, heading, numbersLine, wordLines}
 use Rattle.files.specs.Files.{File, bookBytes, Checked, stops, holds, check}
@@ -25,7 +26,7 @@ unfoldable pub textOf : Checked → Checked → List ℕ
 textOf (stops why) cue = line why
 textOf (holds book) (stops why) = line why
 textOf (holds book) (holds []) = line (ascii "short")
-textOf (holds book) (holds (allowance ∷ cue)) = answerText (expansion book cue allowance (zeros termWords) (zeros areaWords))
+textOf (holds book) (holds (allowance ∷ cue)) = answerText (expansion book cue (unrecorded allowance) (zeros termWords) (zeros areaWords))
 
 abbrev pub report : File → File → List ℕ
 report book cue = textOf (check bookBytes book) (check cueBytes cue)

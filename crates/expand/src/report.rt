@@ -4,6 +4,7 @@ ghost use mathlib.Core.Path.{_≡_};
 ghost use mathlib.Core.List.{[]};
 ghost use lib.ListN.{length, getD, drop};
 ghost use Rattle.system.specs.Limits.{termWords};
+ghost use Rattle.rewriting.specs.Evaluation.{unrecorded};
 ghost use Rattle.evaluation.specs.Expansion.{expansion, result};
 ghost use Rattle.printing.specs.Text.{inRoom, Written};
 ghost use Rattle.files.specs.Words.{wordsOf};
@@ -74,7 +75,8 @@ fn expand_words(
 ) -> usize
     requires { ⌜ (0 < length (now cue)) × (length (now out) ≤ termWords) × (textBytes ≤ length (now text)) ⌝ }
     ensures { λ r. ⌜ Written (now (text .entry)) 0
-        (answerText (expansion (now (book .entry)) (drop 1 (now (cue .entry))) (getD (now (cue .entry)) 0 0) (now (out .entry)) (now (work .entry))))
+        (answerText (expansion (now (book .entry)) (drop 1 (now (cue .entry))) (unrecorded (getD (now (cue .entry)) 0 0))
+        (now (out .entry)) (now (work .entry))))
         r (now (text .exit)) ⌝ }
 {
     let allowance = wide(cue[0]);

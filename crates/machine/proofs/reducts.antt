@@ -4,3 +4,4 @@ pub mod Writing
 pub mod Replacing
 pub mod Putting
 pub mod Rewrites
+pub mod Redexes

@@ -5,7 +5,7 @@ ghost use lib.ListN.{length, getD};
 ghost use Rattle.system.specs.Answers.{signatureOf};
 ghost use Rattle.system.specs.Book.{systemOf, Accepted};
 ghost use Rattle.matching.specs.Bindings.{consumed};
-ghost use Rattle.matching.specs.rules.Searches.{searchOf, RightSide, reductLength};
+ghost use Rattle.matching.specs.rules.Searches.{searchOf, ruleNumber, RightSide, reductLength};
 use crate::FirstRule;
 use crate::Match;
 use crate::operators::computed;
@@ -16,6 +16,9 @@ use system::limits::VARIABLE;
 use system::limits::VARIABLES;
 use system::words::span;
 use system::words::wide;
+
+// No rule's number, and no word's.
+const UNNUMBERED: usize = 65536;
 
 // What was found, and how many words the left side that matched took: all those of the subterm.
 pub struct Search {
@@ -120,4 +123,19 @@ pub fn reduct_length(side: &[u16], lengths: [usize; VARIABLES]) -> usize
         }
     }
     total
+}
+
+// The number of the rule that was found; where none was, one that no word is.
+pub fn rule_number(found: FirstRule) -> usize
+    ensures { λ r. ⌜ r ≡ ruleNumber found ⌝ }
+{
+    match found {
+        FirstRule::Nothing => UNNUMBERED,
+        FirstRule::First {
+            number,
+            rhs: _,
+            size: _,
+        } => number,
+        FirstRule::Computed { number, word: _ } => number,
+    }
 }

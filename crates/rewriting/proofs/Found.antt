@@ -14,7 +14,7 @@ use Rattle.system.specs.Signature.{Signature, Symbol}
 use Rattle.system.specs.System.{System, strategy, head}
 use Rattle.system.specs.Terms.{more, Whole, Member, first, later, WellFormed}
 use Rattle.matching.specs.Matching.{contraction}
-use Rattle.rewriting.specs.Evaluation.{Config, finished, evaluation}
+use Rattle.rewriting.specs.Evaluation.{Limits, Config, finished, evaluation}
 use Rattle.rewriting.specs.Outcomes.{Stable}
 use Rattle.matching.specs.Safety.{IdleEntry, idle, Guarded, Constructor, Safe}
 use Rattle.matching.proofs.Firsts.{fired, unfired}
@@ -133,11 +133,11 @@ module _ (s : System) where
       | inr gd ↦ c .0 (closing-zero (closing (head u) gd))
     ]
 
-    -- whatever the limit: what an evaluation hands back over a safe system
-    pub theorem-found : (limit : ℕ) (t : List ℕ) (r : Config) → Whole g t → evaluation s limit t ≡ finished r → Stable s (r .term)
+    -- whatever the limits: what an evaluation hands back over a safe system
+    pub theorem-found : (limits : Limits) (t : List ℕ) (r : Config) → Whole g t → evaluation s limits t ≡ finished r → Stable s (r .term)
     unfolding evaluation
-    theorem-found limit t r h e =
-        let c = evaluate-local s limit wf levels [] [] t 0 r h (rw (append-nil t) e) in
+    theorem-found limits t r h e =
+        let c = evaluate-local s limits wf levels [] [] t [] r h (rw (append-nil t) e) in
         let k : Inert s levels (c .outcome) = walk-found (c .walk) h (start h) (λ i st. inl st) in
         subst (Stable s) (sym (c .term ∙ append-nil (c .outcome))) (go (c .outcome) (c .whole) k)
       where
@@ -146,5 +146,5 @@ module _ (s : System) where
           whole = h;
           normal = λ p act k o m x. let y = active-at s wf (λ u. (l : ℕ) × Inert s l u) inert-inherited h (levels, c) act in
               unfired s wf (y .whole) (y .before) (y .behind) (inert-contraction (y .has .0) (y .whole) (y .has .1)) k o m (rw (← y .equal, ← y .position) x);
-          again = λ limit. rw (append-nil v) at (inert-rests s wf limit levels [] [] v 0 h c);
+          again = λ limits. rw (append-nil v) at (inert-rests s wf limits levels [] [] v [] h c);
         }

@@ -10,7 +10,7 @@ use Rattle.system.specs.Signature.{argument}
 use Rattle.system.specs.System.{System}
 use Rattle.system.specs.Terms.{WellFormed}
 use Rattle.matching.specs.Matching.{Contraction, contraction}
-use Rattle.rewriting.specs.Evaluation.{Config, finished, stopped, andThen, rewrite}
+use Rattle.rewriting.specs.Evaluation.{Limits, Config, finished, stopped, andThen, rewrite}
 use Rattle.system.specs.Numbers.{nested}
 use Rattle.rewriting.specs.Machine.{strategyAt, down, position, Next, final, deep, ready, around, scan, enter, advance}
 use Rattle.matching.proofs.Firsts.{contraction-empty}
@@ -35,18 +35,18 @@ module _ (s : System) where
   unfolding scan
   scan-fire inner t es c p x e = rw (e, scan)
 
-  module _ (wf : WellFormed s) (limit : ℕ) (r : Config) where
+  module _ (wf : WellFormed s) (limits : Limits) (r : Config) where
     abbrev t : List ℕ
     t = r .term
 
     -- what is left to do from the state xs, told by where the machine comes to
     abbrev pub Reached : ℕ → List ℕ → ℕ → Next → Type 0
-    Reached l xs p final = resume s limit l xs p r ≡ finished r
-    Reached l xs p deep = resume s limit l xs p r ≡ stopped nested (r .steps)
+    Reached l xs p final = resume s limits l xs p r ≡ finished r
+    Reached l xs p deep = resume s limits l xs p r ≡ stopped nested (r .trace)
     Reached l xs p (ready cs c x) = (contraction s (drop (position s t cs p) t) ≡ some x) ×
-        (resume s limit l xs p r ≡ rewrite s limit (position s t cs p) r x (λ r′. resume s limit l (cs ++ 0 ∷ []) p r′))
+        (resume s limits l xs p r ≡ rewrite s limits (position s t cs p) r x (λ r′. resume s limits l (cs ++ 0 ∷ []) p r′))
 
-    reached-same : (l : ℕ) (xs ys : List ℕ) (p : ℕ) (n : Next) → resume s limit l xs p r ≡ resume s limit l ys p r → Reached l ys p n → Reached l xs p n
+    reached-same : (l : ℕ) (xs ys : List ℕ) (p : ℕ) (n : Next) → resume s limits l xs p r ≡ resume s limits l ys p r → Reached l ys p n → Reached l xs p n
     reached-same l xs ys p final e h = e ∙ h
     reached-same l xs ys p deep e h = e ∙ h
     reached-same l xs ys p (ready cs c x) e h = (h .0, e ∙ h .1)
@@ -54,16 +54,16 @@ module _ (s : System) where
     reached-around : (l c p : ℕ) (xs : List ℕ) (n on : Next) → Reached l xs (down s t p c) n → Reached (suc l) (c ∷ []) p on → Reached (suc l) (c ∷ xs) p (around c n on)
     unfolding position
     reached-around l c p xs final on h k = reached-same (suc l) (c ∷ xs) (c ∷ []) p on
-        (resume-under s limit l c xs p r ∙ ap (λ o. andThen o (λ r′. rest s limit l (drop c (strategyAt s t p)) p r′)) h ∙ sym (resume-top s limit l c p r)) k
+        (resume-under s limits l c xs p r ∙ ap (λ o. andThen o (λ r′. rest s limits l (drop c (strategyAt s t p)) p r′)) h ∙ sym (resume-top s limits l c p r)) k
     reached-around l c p xs deep on h k =
-        resume-under s limit l c xs p r ∙ ap (λ o. andThen o (λ r′. rest s limit l (drop c (strategyAt s t p)) p r′)) h
+        resume-under s limits l c xs p r ∙ ap (λ o. andThen o (λ r′. rest s limits l (drop c (strategyAt s t p)) p r′)) h
     reached-around l c p xs (ready cs d x) on h k =
-        (h .0, level-rewrite s limit l c p r x (position s t cs (down s t p c)) xs (cs ++ 0 ∷ []) (fires-within wf t _ x (h .0)) (position-le s t cs (down s t p c)) (h .1))
+        (h .0, level-rewrite s limits l c p r x (position s t cs (down s t p c)) xs (cs ++ 0 ∷ []) (fires-within wf t _ x (h .0)) (position-le s t cs (down s t p c)) (h .1))
 
     reached-scan : (l : ℕ) → ((q : ℕ) → Reached l (0 ∷ []) q (enter s l t q)) → (p : ℕ) (es : List ℕ) (c : ℕ) → drop c (strategyAt s t p) ≡ es →
         Reached (suc l) (c ∷ []) p (scan s (λ q. enter s l t q) t es c p)
     unfolding scan down position
-    reached-scan l h p [] c q = resume-top s limit l c p r ∙ ap (λ e. rest s limit l e p r) q ∙ follow-end s limit _ _ p r
+    reached-scan l h p [] c q = resume-top s limits l c p r ∙ ap (λ e. rest s limits l e p r) q ∙ follow-end s limits _ _ p r
     reached-scan l h p (zero ∷ es) c q = go (contraction s (drop p t)) refl (reached-scan l h p es (suc c) (next-entry _ c 0 es q .1))
       where
         inner : ℕ → Next
@@ -72,23 +72,23 @@ module _ (s : System) where
         go : (o : Option Contraction) → contraction s (drop p t) ≡ o → Reached (suc l) (suc c ∷ []) p (scan s inner t es (suc c) p) →
             Reached (suc l) (c ∷ []) p (scan s inner t (0 ∷ es) c p)
         go none f ih = subst (Reached (suc l) (c ∷ []) p) (sym (scan-pass inner t es c p f))
-            (reached-same (suc l) (c ∷ []) (suc c ∷ []) p (scan s inner t es (suc c) p) (top-pass s limit l c p r es q f) ih)
-        go (some x) f ih = subst (Reached (suc l) (c ∷ []) p) (sym (scan-fire inner t es c p x f)) (f, top-fire s limit l c p r es x q f)
+            (reached-same (suc l) (c ∷ []) (suc c ∷ []) p (scan s inner t es (suc c) p) (top-pass s limits l c p r es q f) ih)
+        go (some x) f ih = subst (Reached (suc l) (c ∷ []) p) (sym (scan-fire inner t es c p x f)) (f, top-fire s limits l c p r es x q f)
     reached-scan l h p (suc i ∷ es) c q =
         let n = next-entry _ c (suc i) es q in
         let on = scan s (λ q. enter s l t q) t es (suc c) p in
-        reached-same (suc l) (c ∷ []) (suc c ∷ 0 ∷ []) p (around (suc c) (enter s l t (argument (s .arities) t p i)) on) (top-open s limit l c p r es i q)
+        reached-same (suc l) (c ∷ []) (suc c ∷ 0 ∷ []) p (around (suc c) (enter s l t (argument (s .arities) t p i)) on) (top-open s limits l c p r es i q)
         (reached-around l (suc c) p (0 ∷ []) (enter s l t (argument (s .arities) t p i)) on (rw (n .0) (h (argument (s .arities) t p i))) (reached-scan l h p es (suc c) (n .1)))
 
     pub reached-enter : (l q : ℕ) → Reached l (0 ∷ []) q (enter s l t q)
     unfolding enter
-    reached-enter zero q = resume-deep s limit 0 [] q r
+    reached-enter zero q = resume-deep s limits 0 [] q r
     reached-enter (suc l) q = reached-scan l (reached-enter l) q (strategyAt s t q) 0 refl
 
     -- advancing keeps what is left to do
     pub reached : (l : ℕ) (cs : List ℕ) (p : ℕ) → Reached l cs p (advance s l cs t p)
     unfolding advance
-    reached l [] p = resume-end s limit l p r
-    reached zero (c ∷ cs) p = resume-deep s limit c cs p r
+    reached l [] p = resume-end s limits l p r
+    reached zero (c ∷ cs) p = resume-deep s limits c cs p r
     reached (suc l) (c ∷ cs) p = reached-around l c p cs (advance s l cs t (down s t p c)) (scan s (enter s l t) t (drop c (strategyAt s t p)) c p)
         (reached l cs (down s t p c)) (reached-scan l (reached-enter l) p (drop c (strategyAt s t p)) c refl)

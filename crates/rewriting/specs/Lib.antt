@@ -1,4 +1,5 @@
 -- What 01 says of evaluation, the words of demand 3, and what is promised of an evaluation that ends
+pub mod Trace
 pub mod Evaluation
 pub mod Rewriting
 pub mod Outcomes

@@ -1,14 +1,13 @@
 -- The evaluation as a machine that can stop between any two transitions and go on. A state is a run and, for each open level, outermost first,
 -- how many entries of its strategy are begun. The level below starts at the argument that the entry last begun tells of.
-use Prim.Native.Nat.{ℕ, zero, suc, _<_}
-use mathlib.Core.Path.{_≡_}
+use Prim.Native.Nat.{ℕ, zero, suc}
 use mathlib.Core.List.{List, [], _∷_, _++_}
 use mathlib.Core.Option.{none, some}
-use lib.ListN.{length, getD, drop}
+use lib.ListN.{getD, drop}
 use Rattle.system.specs.Signature.{argument}
 use Rattle.system.specs.System.{System, strategy}
 use Rattle.matching.specs.Matching.{Contraction, contraction}
-use Rattle.rewriting.specs.Evaluation.{Config, Outcome, finished, stopped, rewrite}
+use Rattle.rewriting.specs.Evaluation.{Limits, Config, Outcome, finished, stopped, rewrite}
 use Rattle.system.specs.Numbers.{spent, nested}
 use Rattle.system.specs.Limits.{levels}
 
@@ -72,11 +71,11 @@ advance s (suc l) (c ∷ cs) t p =
     around c (advance s l cs t (down s t p c)) on
 
 -- advance to the next rewrite and rewrite, at most so many times: the whole evaluation is this (`evaluation-iterate`)
-unfoldable pub iterate : System → ℕ → ℕ → List ℕ → Config → Outcome
-iterate s limit zero cs r = stopped spent (r .steps)
-iterate s limit (suc k) cs r =
+unfoldable pub iterate : System → Limits → ℕ → List ℕ → Config → Outcome
+iterate s limits zero cs r = stopped spent (r .trace)
+iterate s limits (suc k) cs r =
     elim (advance s levels cs (r .term) 0) [
       | final ↦ finished r
-      | deep ↦ stopped nested (r .steps)
-      | ready outer c x ↦ rewrite s limit (position s (r .term) outer 0) r x (λ r′. iterate s limit k (outer ++ 0 ∷ []) r′)
+      | deep ↦ stopped nested (r .trace)
+      | ready outer c x ↦ rewrite s limits (position s (r .term) outer 0) r x (λ r′. iterate s limits k (outer ++ 0 ∷ []) r′)
     ]

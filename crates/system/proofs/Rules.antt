@@ -97,6 +97,11 @@ module _ (s : System) (wf : WellFormed s) where
   rule-formed (listed h) = wf .wellFormedRules _ h
   rule-formed (builtIn b) = built-formed (s .arities) (few-listed s wf) b
 
+  -- the numbers go up to that of the last built-in rule
+  pub rule-bound : {k : ℕ} {r : Rule} → RuleOf s k r → k ≤ minimumRule
+  rule-bound (listed h) = let z = wf .ruleBound in omega arith
+  rule-bound (builtIn b) = built-number b .1
+
   -- a listed rule's left side starts with a listed symbol
   pub listed-head : (k : ℕ) → k < length (s .rules) → Listed (s .arities) (head (rule s k .lhs))
   listed-head k h = go (wf .wellFormedRules k h .left) (wf .ownRules k h)

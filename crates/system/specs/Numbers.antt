@@ -30,6 +30,8 @@ pub data Limit : Type 0 where
   overlong : Limit
   -- "an argument would be opened from level 64"
   nested : Limit
+  -- 02, F-3: "a step finds fewer than two words left in the record"
+  full : Limit
 
 -- what an answer's number says
 pub data Verdict : Type 0 where
@@ -43,6 +45,8 @@ pub data Verdict : Type 0 where
   stopping : Limit → Verdict
   -- "the order test failed"
   unsettled : Verdict
+  -- 02, F-3: "the first pair that is wrong or half"
+  untrue : Verdict
 
 abbrev pub numberOf : Verdict → ℕ
 numberOf taken = 0
@@ -61,6 +65,8 @@ numberOf (stopping overlong) = 12
 numberOf (stopping nested) = 13
 numberOf unsettled = 14
 numberOf (faulty builtInHead) = 15
+numberOf (stopping full) = 16
+numberOf untrue = 17
 
 -- the number of a fault, and of a limit
 abbrev pub faultNumber : Fault → ℕ

@@ -37,3 +37,8 @@ pub const UNSETTLED: u32 = 14;
 
 // What else is wrong with a book (02, F-2).
 pub const BUILT_IN_HEAD: u32 = 15;
+
+// What else stops an evaluation, its record is full; and a record is not of steps (02, F-3).
+pub const FULL: u32 = 16;
+
+pub const UNTRUE: u32 = 17;

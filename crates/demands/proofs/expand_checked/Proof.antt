@@ -1,6 +1,7 @@
 -- `expand_checked` meets its contract.
 use mathlib.Core.Path.{sym, subst}
 use borrow.Author.Needs.{needs}
+use Rattle.rewriting.specs.Evaluation.{unrecorded}
 use Rattle.demands.specs.Demand3.{IsDone, IsHandedBack, IsFound}
 use Rattle.demands.proofs.Demand3.{is-done, is-handed-back, is-found}
 use Rattle.demands.proofs.expand_checked.Statement.{statement}
@@ -25,7 +26,7 @@ returns c =
     let e = k .expand-scanned .ensures in
     let b = a .book .now in
     let u = a .term .now in
-    let l = a .limit in
+    let l = unrecorded (a .limit) in
     let o = a .out .now in
     let w = a .work .now in
     let done = subst (IsDone b u l) (sym e) (is-done b u l o w) in

@@ -4,6 +4,7 @@ use mathlib.Core.Path.{sym, ap, subst}
 use lib.ListN.{take}
 use native.Mathlib.Nat.{sub-zero}
 use borrow.Author.Needs.{needs}
+use Rattle.rewriting.specs.Evaluation.{unrecorded}
 use Rattle.evaluation.specs.Expansion.{Expansion, result}
 use Rattle.evaluation.proofs.Handed.{handed-fits}
 use Rattle.demands.specs.Demand3.{IsFound}
@@ -44,15 +45,15 @@ returns c =
     let t = tested (first k) .test in
     let e = first k .expand-scanned .ensures in
     let b = a .book .now in
-    let none = second-none b (a .term .now) (a .limit) (a .out .now) (a .work .now) (expanded k) e (a .again .now) (a .spare .now) (c .if1 .taken) in
-    let found = is-found b (a .term .now) (a .limit) (a .out .now) (a .work .now) in
+    let none = second-none b (a .term .now) (unrecorded (a .limit)) (a .out .now) (a .work .now) (expanded k) e (a .again .now) (a .spare .now) (c .if1 .taken) in
+    let found = is-found b (a .term .now) (unrecorded (a .limit)) (a .out .now) (a .work .now) in
     (t .ensures, (e, (none, (subst (IsFound b) (sym e) found, λ z z′. absurd (c .if1 .taken z′)))))
 
 part-expand-scanned-end : tie.Need-part-expand-scanned-end
 part-expand-scanned-end c =
     let k = c .before .before in
     let a = entry k .args in
-    handed-fits (a .book .now) (a .term .now) (a .limit) (a .out .now) (a .work .now) (expanded k) (first k .expand-scanned .ensures) (c .before .if1 .left)
+    handed-fits (a .book .now) (a .term .now) (unrecorded (a .limit)) (a .out .now) (a .work .now) (expanded k) (first k .expand-scanned .ensures) (c .before .if1 .left)
 
 returns-2 : tie.Need-returns-2
 returns-2 c =
@@ -68,9 +69,9 @@ returns-2 c =
     let b = a .book .now in
     let v = take (x .numbers .place - 0) (x .answer) in
     let same = ap (λ n. take n (x .answer)) (sub-zero (x .numbers .place)) in
-    let again = second-goes b (a .term .now) (a .limit) (a .out .now) (a .work .now) x e (a .again .now) (a .spare .now) x′ z v same (f .ensures) in
-    let found = is-found b (a .term .now) (a .limit) (a .out .now) (a .work .now) in
-    let rests = second-rests b (a .term .now) (a .limit) (a .out .now) (a .work .now) x e (a .again .now) (a .spare .now) in
+    let again = second-goes b (a .term .now) (unrecorded (a .limit)) (a .out .now) (a .work .now) x e (a .again .now) (a .spare .now) x′ z v same (f .ensures) in
+    let found = is-found b (a .term .now) (unrecorded (a .limit)) (a .out .now) (a .work .now) in
+    let rests = second-rests b (a .term .now) (unrecorded (a .limit)) (a .out .now) (a .work .now) x e (a .again .now) (a .spare .now) in
     (t .ensures, (e, (again, (subst (IsFound b) (sym e) found, rests x′ v same (f .ensures)))))
 
 pub expand-twice-spec : {M : Type 1} → statement M

@@ -1,8 +1,7 @@
--- A round of a run's loop, from `advance` to after `rewrite`: each way out of it, and that the next round starts as this one did.
-use Prim.Native.Nat.{ℕ, suc, _+_, _-_, _≤_, _<_}
+-- A round of a run's loop: the state that it starts from, and where `advance` comes to.
+use Prim.Native.Nat.{ℕ, _+_, _-_, _≤_, _<_}
 use native.Mathlib.Omega.{arith}
-use native.Mathlib.Numerals.{add-one}
-use mathlib.Core.Path.{_≡_, refl, sym, ap, _∙_, subst}
+use mathlib.Core.Path.{_≡_, sym, ap, _∙_}
 use mathlib.Core.List.{List, [], _∷_, _++_}
 use lib.ListN.{length, getD}
 use lib.Seq.{take-all}
@@ -11,29 +10,28 @@ use Rattle.system.specs.declared.Shape.{Shape}
 use Rattle.system.specs.System.{System}
 use Rattle.system.specs.Terms.{WellFormed}
 use Rattle.system.specs.Book.{systemOf}
-use Rattle.matching.specs.Matching.{Contraction}
 use Rattle.system.proofs.layout.Books.{well}
 use Rattle.system.specs.Limits.{termWords, areaWords, levels}
 use Rattle.rewriting.specs.Evaluation.{Config, Outcome, stopped, evaluation}
-use Rattle.system.specs.Numbers.{Limit, spent, overlong, nested, limitNumber}
-use Rattle.machine.specs.declared.advance.State.{State}
+use Rattle.system.specs.Numbers.{Limit, nested, limitNumber}
 use Rattle.machine.specs.declared.advance.Advanced.{Advanced}
 use Rattle.machine.specs.declared.advance.Stop.{Stop}
 use Rattle.machine.specs.declared.advance.Stop.the-variants.{Final, Deep, Ready}
-use Rattle.machine.specs.declared.reducts.Reduced.{Reduced}
-use Rattle.machine.specs.declared.reducts.Reduced.the-variants.{Done, TooLong}
 use Rattle.machine.specs.declared.reducts.Subterm.{Subterm}
 use Rattle.evaluation.specs.declared.run.RunResult.{RunResult}
 use Rattle.rewriting.specs.Machine.{position, ready, advance}
-use Rattle.machine.specs.advance.Area.{area, termIn, outerIn, countIn, Layout, Valid, Tracks}
+use Rattle.machine.specs.advance.Area.{area, termIn, outerIn, countIn, Layout, Tracks}
 use Rattle.machine.specs.advance.Arrivals.{Arrives, Advances}
-use Rattle.machine.specs.reducts.Rewritten.{Reducible, rewritten, Rewritten, done, long, Rewrites}
+use Rattle.evaluation.specs.declared.recording.Bounds.{Bounds}
+use Rattle.evaluation.specs.Expansion.{traceOf}
+use Rattle.evaluation.specs.recording.Kept.{kept}
 use Rattle.evaluation.specs.run.RunResult.{Runnable, Ran}
-use Rattle.rewriting.proofs.MachineTheorem.{iterate-final, iterate-deep, iterate-spent, iterate-long, remains, remains-goes}
-use Rattle.machine.proofs.advance.States.{valid-fire}
+use Rattle.rewriting.proofs.MachineTheorem.{iterate-final, iterate-deep, remains}
+use Rattle.machine.proofs.reducts.Redexes.{Redex}
 use Rattle.machine.proofs.advance.Areas.{held-term, held-outer}
 use Rattle.evaluation.proofs.run.Starts.{area-bare}
-use Rattle.evaluation.proofs.run.Running.{Running, Made, running-made, positions-kept, represents-layout}
+use Rattle.evaluation.proofs.Limiting.{leaves}
+use Rattle.evaluation.proofs.run.Running.{Asked, limits, Running, represents-layout}
 
 -- what the run was asked for, the state that the round starts from, and what `advance` answered and left
 pub record Round : Type 0 where
@@ -42,59 +40,65 @@ pub record Round : Type 0 where
   pub term : List ℕ
   pub area₀ : List ℕ
   pub asked : Runnable book shape term area₀
-  pub limit : ℕ
+  pub bounds : Bounds
+  pub lent : List ℕ
   pub ws : List ℕ
   pub positions : List ℕ
   pub n : ℕ
   pub level : ℕ
   pub steps : ℕ
-  pub running : Running (systemOf book) limit term ws positions n level steps
+  pub words : List ℕ
+  pub running : Running (systemOf book) (record { term = term; bounds = bounds; lent = lent }) ws positions words n level steps
   pub a : Advanced
   pub ws′ : List ℕ
   pub positions′ : List ℕ
   pub came : Advances (systemOf book) (record { n = n; level = level }) ws a ws′ positions′
 
+abbrev pub asks : Round → Asked
+asks k = record { term = k .term; bounds = k .bounds; lent = k .lent }
+
 abbrev pub outcome : Round → Outcome
-outcome k = evaluation (systemOf (k .book)) (k .limit) (k .term)
+outcome k = evaluation (systemOf (k .book)) (limits (asks k)) (k .term)
+
+-- the record holds the pairs of the outcome's steps
+abbrev pub Tells : Round → List ℕ → Type 0
+Tells k words = words ≡ kept (k .bounds .recorded) (k .lent) (traceOf (outcome k))
 
 -- the run is stopped in it, and the area holds a state that is to be cleared
 pub record Stops (k : Round) (l : Limit) (ws : List ℕ) : Type 0 where
-  pub stops : outcome k ≡ stopped l (k .steps)
+  pub stops : outcome k ≡ stopped l (k .running .trace)
   pub layout : Layout ws (k .n) (k .a .level)
 
 pub ends-stopped : {k : Round} {l : Limit} {ws : List ℕ} → Stops k l ws → (e : RunResult) (ws′ : List ℕ) →
-    e ≡ record { number = limitNumber l; size = 0; steps = k .steps } → ws′ ≡ zeros areaWords → Ran (outcome k) e ws′
-ends-stopped h e ws′ q z = rw (h .stops) (q, z)
+    e ≡ record { number = limitNumber l; size = 0; steps = k .steps } → ws′ ≡ zeros areaWords → Ran (outcome k) e ws′ × Tells k (k .words)
+ends-stopped {k} {l} h e ws′ q z =
+    let n = sym (k .running .counted) in
+    rw (h .stops) ((q ∙ (λ i. record { number = limitNumber l; size = 0; steps = n i }), z), k .running .told)
 
 -- the redex: the subterm of the innermost level, where a rewrite is next
 abbrev pub redex : Round → Subterm
 redex k = record { level = k .a .level; at = getD (k .positions′) (k .a .level) 0; width = k .a .width }
 
 -- the counts of the state that the round starts from, and the term with the steps so far (`advance` leaves the term as it is)
-abbrev counts : Round → List ℕ
+abbrev pub counts : Round → List ℕ
 counts k = outerIn (k .ws) (k .level) ++ countIn (k .ws) (k .level) ∷ []
 
-abbrev now : Round → Config
-now k = record { term = termIn (k .ws′) (k .n); steps = k .steps }
+abbrev pub now : Round → Config
+now k = record { term = termIn (k .ws′) (k .n); trace = k .running .trace }
 
 -- a rewrite is next, and the rounds that are left from here are the evaluation asked for
 pub record Before (k : Round) : Type 0 where
   pub holds : Tracks (systemOf (k .book)) (k .ws′) (k .positions′) (k .n) (k .a .level)
-  pub reducible : Reducible (k .book) (k .ws′) (k .n) (redex k) (k .a .matched)
+  pub redexed : Redex (k .book) (k .ws′) (k .n) (redex k) (k .a .matched)
   pub begun : ℕ
-  pub next : advance (systemOf (k .book)) levels (counts k) (now k .term) 0 ≡ ready (outerIn (k .ws′) (k .a .level)) begun (reducible .x)
-  pub same : remains (systemOf (k .book)) (k .limit) (counts k) (now k) ≡ outcome k
+  pub next : advance (systemOf (k .book)) levels (counts k) (now k .term) 0 ≡ ready (outerIn (k .ws′) (k .a .level)) begun (redexed .x)
+  pub same : remains (systemOf (k .book)) (limits (asks k)) (counts k) (now k) ≡ outcome k
 
 -- what is known where `advance` came to
 abbrev pub Comes : Round → Stop → Type 0
-Comes k Final = (e : RunResult) → e ≡ record { number = 0; size = k .n; steps = k .steps } → Ran (outcome k) e (k .ws′)
+Comes k Final = (e : RunResult) → e ≡ record { number = 0; size = k .n; steps = k .steps } → Ran (outcome k) e (k .ws′) × Tells k (k .words)
 Comes k Deep = Stops k nested (k .ws′)
 Comes k Ready = Before k
-
--- and after `rewrite`
-abbrev pub Goes : Round → List ℕ → Reduced → Type 0
-Goes k ws TooLong = Stops k overlong ws
-Goes k ws (Done n) = Running (systemOf (k .book)) (k .limit) (k .term) ws (k .positions′) n (k .a .level) (k .steps + 1)
 
 module _ (k : Round) where
   abbrev s : System
@@ -104,12 +108,12 @@ module _ (k : Round) where
   t = termIn (k .ws) (k .n)
 
   abbrev left : ℕ
-  left = k .limit - k .steps
+  left = k .bounds .limit - length (k .running .trace)
 
   abbrev r : Config
-  r = record { term = t; steps = k .steps }
+  r = record { term = t; trace = k .running .trace }
 
-  formed : WellFormed s
+  pub formed : WellFormed s
   formed = well (k .book) (k .shape) (k .asked .accepted)
 
   words : length t ≡ k .n
@@ -132,10 +136,11 @@ module _ (k : Round) where
       go : (stop : Stop) → Arrives stop s (record { n = k .n; level = k .level }) (k .ws) (k .a) (k .ws′) (k .positions′) → Comes k stop
       go Final h =
           let size : k .n ≡ length t = sym words in
-          let z = iterate-final s (k .limit) left (counts k) r (h .next) in
-          λ e q. rw (← k .running .same, z) (q ∙ (λ i. record { number = 0; size = size i; steps = k .steps }), h .stands ∙ area-bare t bounded)
+          let n = sym (k .running .counted) in
+          let z = iterate-final s (limits (asks k)) left (counts k) r (h .next) in
+          λ e q. rw (← k .running .same, z) ((q ∙ (λ i. record { number = 0; size = size i; steps = n i }), h .stands ∙ area-bare t bounded), k .running .told)
       go Deep h = record {
-        stops = sym (k .running .same) ∙ iterate-deep s (k .limit) left (counts k) r (h .next);
+        stops = sym (k .running .same) ∙ iterate-deep s (limits (asks k)) left (counts k) r (h .next);
         layout = represents-layout (h .represents);
       }
       go Ready h =
@@ -145,7 +150,7 @@ module _ (k : Round) where
           let ep = holds-position (k .a .level) (h .holds) in
           record {
             holds = h .holds;
-            reducible = record {
+            redexed = record {
               shape = k .shape;
               accepted = k .asked .accepted;
               represents = h .holds .represents;
@@ -159,68 +164,3 @@ module _ (k : Round) where
             next = rw (et, eo) (h .next);
             same = rw et (k .running .same);
           }
-
-  -- ---- where a rewrite is next
-
-  module _ (b : Before k) where
-    abbrev t′ : List ℕ
-    t′ = termIn (k .ws′) (k .n)
-
-    abbrev outer : List ℕ
-    outer = outerIn (k .ws′) (k .a .level)
-
-    abbrev p : ℕ
-    p = redex k .at
-
-    abbrev valid : Valid s t′ outer (countIn (k .ws′) (k .a .level))
-    valid = b .holds .represents .valid
-
-    pub before-room : k .a .level < levels
-    before-room = let z = valid .room in let z′ = b .holds .represents .levels in omega arith
-
-    before-layout : Layout (k .ws′) (k .n) (k .a .level)
-    before-layout = represents-layout (b .holds .represents)
-
-    pub stops-spent : k .limit ≤ k .steps → Stops k spent (k .ws′)
-    stops-spent l = record {
-      stops = sym (b .same) ∙ iterate-spent s (k .limit) left (counts k) (now k) outer (b .begun) (b .reducible .x) (b .next) l;
-      layout = before-layout;
-    }
-
-    -- ---- after `rewrite`
-
-    abbrev x : Contraction
-    x = b .reducible .x
-
-    abbrev after : List ℕ
-    after = rewritten s (k .ws′) (k .n) (redex k) x
-
-    -- the state that the area was made from
-    abbrev made : (ws : List ℕ) → length after ≤ termWords → ws ≡ area after (outer ++ 0 ∷ []) → Made s ws (k .positions′) (length after) (k .a .level)
-    made ws f w =
-        let ep = b .reducible .place in
-        let c = countIn (k .ws′) (k .a .level) in
-        record {
-          t = after;
-          outer = outer;
-          c = 0;
-          valid = rw ep (valid-fire s formed t′ outer c valid x (rw (← ep) (b .reducible .contracts)) (rw (← ep) f));
-          words = refl;
-          around = b .holds .represents .levels;
-          equal = w;
-          slots = b .holds .slots;
-          positioned = rw ep (positions-kept s formed t′ outer c valid (x .reduct) (k .positions′) (b .holds .positioned));
-        }
-
-    pub goes : k .steps < k .limit → (r : Reduced) (ws : List ℕ) → Rewrites (k .book) (k .ws′) (k .n) (redex k) r ws → Goes k ws r
-    goes l r ws h = go (h x (b .reducible .contracts))
-      where
-        go : Rewritten s (k .ws′) (k .n) (redex k) x r ws → Goes k ws r
-        go (long f q w) = rw q (record {
-          stops = sym (b .same) ∙ iterate-long s (k .limit) left (counts k) (now k) outer (b .begun) x (b .next) l (rw (b .reducible .place) at f);
-          layout = subst (λ y. Layout y (k .n) (k .a .level)) (sym w) before-layout;
-        })
-        go (done f q w) =
-            let ep = b .reducible .place in
-            let e = sym (remains-goes s (k .limit) (counts k) (now k) outer (b .begun) x (b .next) l (rw ep at f)) ∙ b .same in
-            rw q (running-made (made ws f w) (k .limit) (k .term) (k .steps + 1) (omega arith) (rw (add-one (k .steps)) (rw (← ep) at e)))

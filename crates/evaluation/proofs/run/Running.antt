@@ -9,13 +9,17 @@ use Rattle.system.specs.Signature.{replace}
 use Rattle.system.specs.System.{System}
 use Rattle.system.specs.Terms.{Whole, WellFormed}
 use Rattle.system.specs.Limits.{termWords, areaWords, levels}
-use Rattle.rewriting.specs.Evaluation.{evaluation}
+use Rattle.rewriting.specs.Trace.{Trace}
+use Rattle.rewriting.specs.Evaluation.{Limits, evaluation}
 use Rattle.rewriting.specs.Machine.{position, down}
 use Rattle.machine.specs.advance.Area.{Opened, base, area, termIn, outerIn, countIn, Layout, Valid, Positioned, Represents, Tracks}
 use Rattle.rewriting.proofs.Laws.{position-le}
 use Rattle.rewriting.proofs.MachineTheorem.{remains, remains-start}
 use Rattle.machine.proofs.advance.States.{opened-replace, valid-start, valid-within}
 use Rattle.machine.proofs.advance.Areas.{held-term, held-outer, held-count, held-length, holds, area-pushed}
+use Rattle.evaluation.specs.declared.recording.Bounds.{Bounds}
+use Rattle.evaluation.specs.recording.Kept.{limitsOf, kept}
+use Rattle.evaluation.proofs.Records.{kept-start}
 use Rattle.evaluation.proofs.run.Starts.{area-bare}
 
 -- ---- the levels around one of the open levels
@@ -40,10 +44,23 @@ positions-kept s wf t outer c g u positions h k l =
 
 -- ---- the head of the loop: the area holds a state, and the rounds that are left from it are the evaluation asked for
 
-pub record Running (s : System) (limit : ℕ) (t₀ ws positions : List ℕ) (n level steps : ℕ) : Type 0 where
+-- what was asked for: a term, the limits, and the record as it was lent
+pub record Asked : Type 0 where
+  pub term : List ℕ
+  pub bounds : Bounds
+  pub lent : List ℕ
+
+abbrev pub limits : Asked → Limits
+limits a = limitsOf (a .bounds) (length (a .lent))
+
+-- so many steps are taken, and the record holds their pairs
+pub record Running (s : System) (a : Asked) (ws positions words : List ℕ) (n level steps : ℕ) : Type 0 where
   pub holds : Tracks s ws positions n level
-  pub afford : steps ≤ limit
-  pub same : remains s limit (outerIn ws level ++ countIn ws level ∷ []) (record { term = termIn ws n; steps = steps }) ≡ evaluation s limit t₀
+  pub afford : steps ≤ a .bounds .limit
+  pub trace : Trace
+  pub counted : length trace ≡ steps
+  pub told : words ≡ kept (a .bounds .recorded) (a .lent) trace
+  pub same : remains s (limits a) (outerIn ws level ++ countIn ws level ∷ []) (record { term = termIn ws n; trace = trace }) ≡ evaluation s (limits a) (a .term)
 
 -- an area that was made from a state, whose term has n words, with `level` levels around the innermost one
 pub record Made (s : System) (ws positions : List ℕ) (n level : ℕ) : Type 0 where
@@ -57,10 +74,11 @@ pub record Made (s : System) (ws positions : List ℕ) (n level : ℕ) : Type 0 
   pub slots : length positions ≡ levels
   pub positioned : Positioned s t outer positions
 
-pub running-made : {s : System} {ws positions : List ℕ} {n level : ℕ} (m : Made s ws positions n level) (limit : ℕ) (t₀ : List ℕ) (steps : ℕ) → steps ≤ limit →
-    remains s limit (m .outer ++ m .c ∷ []) (record { term = m .t; steps = steps }) ≡ evaluation s limit t₀ →
-    Running s limit t₀ ws positions n level steps
-running-made {s} {ws} {positions} {n} {level} m limit t₀ steps afford same =
+pub running-made : {s : System} {ws positions : List ℕ} {n level : ℕ} (m : Made s ws positions n level) (a : Asked) (h : Trace) (steps : ℕ) (words : List ℕ) →
+    steps ≤ a .bounds .limit → length h ≡ steps → words ≡ kept (a .bounds .recorded) (a .lent) h →
+    remains s (limits a) (m .outer ++ m .c ∷ []) (record { term = m .t; trace = h }) ≡ evaluation s (limits a) (a .term) →
+    Running s a ws positions words n level steps
+running-made {s} {ws} {positions} {n} {level} m a h steps words afford counted told same =
     let g = m .valid in
     let b = g .bounded in
     let room : level < levels = omega (arith, g .room, m .around) in
@@ -70,15 +88,22 @@ running-made {s} {ws} {positions} {n} {level} m limit t₀ steps afford same =
     record {
       holds = holds ws (m .t) (m .outer) (m .c) n level (m .equal) b (m .words) (m .around) room s g positions (m .slots) (m .positioned);
       afford = afford;
+      trace = h;
+      counted = counted;
+      told = told;
       same = rw (et, eo, ec) same;
     }
 
 -- the start
-pub running-start : (s : System) → WellFormed s → (limit : ℕ) (t₀ ws positions : List ℕ) → Whole (s .arities) t₀ → length t₀ ≤ termWords → ws ≡ pad areaWords t₀ →
-    length positions ≡ levels → getD positions 0 0 ≡ 0 → Running s limit t₀ ws positions (length t₀) 0 0
+pub running-start : (s : System) → WellFormed s → (a : Asked) (ws positions : List ℕ) → Whole (s .arities) (a .term) → length (a .term) ≤ termWords →
+    ws ≡ pad areaWords (a .term) → length positions ≡ levels → getD positions 0 0 ≡ 0 → Running s a ws positions (a .lent) (length (a .term)) 0 0
 unfolding position
-running-start s wf limit t₀ ws positions h b e slots z = running-made m limit t₀ 0 (omega arith) (remains-start s limit wf t₀)
+running-start s wf a ws positions h b e slots z =
+    running-made m a [] 0 (a .lent) (omega arith) refl (kept-start (a .bounds .recorded) (a .lent)) (remains-start s (limits a) wf t₀)
   where
+    t₀ : List ℕ
+    t₀ = a .term
+
     first : (k : ℕ) → k ≤ 0 → getD positions k 0 ≡ position s t₀ (take k []) 0
     first zero m = z
     first (suc k) m = absurd (omega arith)

@@ -10,7 +10,7 @@ use Rattle.system.specs.declared.Shape.{Shape}
 use Rattle.system.specs.Terms.{Whole}
 use Rattle.system.specs.Book.{systemOf, Accepted}
 use Rattle.evaluation.specs.declared.run.RunResult.{RunResult}
-use Rattle.rewriting.specs.Evaluation.{Outcome, finished, stopped}
+use Rattle.rewriting.specs.Evaluation.{steps, Outcome, finished, stopped}
 use Rattle.system.specs.Numbers.{limitNumber}
 use Rattle.system.specs.Limits.{areaWords, termWords}
 
@@ -21,5 +21,5 @@ pub record Runnable (book : List ℕ) (shape : Shape) (term area : List ℕ) : T
   pub words : length area ≡ areaWords
 
 abbrev pub Ran : Outcome → RunResult → List ℕ → Type 0
-Ran (finished r) e ws = (e ≡ record { number = 0; size = length (r .term); steps = r .steps }) × (ws ≡ pad areaWords (r .term))
-Ran (stopped n k) e ws = (e ≡ record { number = limitNumber n; size = 0; steps = k }) × (ws ≡ zeros areaWords)
+Ran (finished r) e ws = (e ≡ record { number = 0; size = length (r .term); steps = steps r }) × (ws ≡ pad areaWords (r .term))
+Ran (stopped n h) e ws = (e ≡ record { number = limitNumber n; size = 0; steps = length h }) × (ws ≡ zeros areaWords)

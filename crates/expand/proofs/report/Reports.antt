@@ -8,6 +8,7 @@ use lib.ListN.{length, take, drop, getD}
 use Rattle.system.specs.Limits.{areaWords, termWords}
 use Rattle.buffers.specs.Words.{zeros}
 use Rattle.system.specs.declared.Answer.{Answer}
+use Rattle.rewriting.specs.Evaluation.{unrecorded}
 use Rattle.evaluation.specs.Expansion.{expansion, result}
 use Rattle.printing.specs.Text.{ascii, line, heading, numbersLine, wordLines, inRoom, Written}
 use Rattle.printing.proofs.Writing.{written-then, room-enough}
@@ -43,7 +44,7 @@ text-short ws = refl
 
 -- it has one
 pub text-words : (ws ts : List ℕ) → 0 < length ts →
-    textOf (holds ws) (holds ts) ≡ answerText (expansion ws (drop 1 ts) (getD ts 0 0) (zeros termWords) (zeros areaWords))
+    textOf (holds ws) (holds ts) ≡ answerText (expansion ws (drop 1 ts) (unrecorded (getD ts 0 0)) (zeros termWords) (zeros areaWords))
 unfolding textOf
 text-words ws [] h = absurd (omega arith)
 text-words ws (x ∷ ts) h = refl
@@ -99,5 +100,5 @@ work-apart a out work = refl
 
 -- the words of a cue file: the allowance, and the cue
 pub expanded : (book cue out work term : List ℕ) (limit : ℕ) (a : Answer) (out′ work′ : List ℕ) → term ≡ drop 1 cue → limit ≡ getD cue 0 0 →
-    result a out′ work′ ≡ expansion book term limit out work → answerText (result a out′ []) ≡ answerText (expansion book (drop 1 cue) (getD cue 0 0) out work)
+    result a out′ work′ ≡ expansion book term (unrecorded limit) out work → answerText (result a out′ []) ≡ answerText (expansion book (drop 1 cue) (unrecorded (getD cue 0 0)) out work)
 expanded book cue out work term limit a out′ work′ e f g = work-apart a out′ work′ ∙ rw (← e, ← f) (ap answerText g)

@@ -1,16 +1,15 @@
--- A rewrite in an area that holds a state: what the code may count on there, and that the edits leave the area of the state after it.
+-- A rewrite in an area: what the code may count on there, and that what is put in the place of the subterm is the rewrite.
 use Prim.Native.Nat.{ℕ, zero, suc, _+_, _-_, _≤_, _<_}
 use native.Mathlib.Omega.{arith}
 use mathlib.Core.Path.{_≡_, sym, ap, _∙_, subst}
 use mathlib.Core.Option.{some}
 use mathlib.Core.List.{List, [], _∷_, _++_, append-assoc}
 use lib.ListN.{length, getD, take, drop, length-append, length-drop}
-use lib.Seq.{sets-eq, drop-at, take-at, drop-drop}
+use lib.Seq.{take-at, length-take-le}
 use Rattle.buffers.specs.Words.{over, zeros}
 use Rattle.buffers.specs.moves.Parts.{pad, splice}
-use Rattle.buffers.proofs.Pads.{length-zeros, length-pad, zeros-append, drop-zeros, pad-zero}
 use Rattle.system.specs.Signature.{Signature, Symbol, span, replace}
-use Rattle.system.specs.Limits.{variable, variables, termWords, areaWords}
+use Rattle.system.specs.Limits.{variable, variables, termWords}
 use Rattle.system.specs.System.{System}
 use Rattle.system.specs.Terms.{WellFormed}
 use Rattle.system.proofs.Forests.{span-forest}
@@ -25,66 +24,18 @@ use Rattle.matching.proofs.Firsts.{contraction-rest}
 use Rattle.system.proofs.layout.Books.{well}
 use Rattle.matching.proofs.Matched.{instance-nil, instance-symbol}
 use Rattle.matching.proofs.Reducts.{match-right, match-within, match-none, match-some, match-word, match-value}
-use Rattle.rewriting.specs.Rewriting.{root}
 use Rattle.machine.specs.declared.reducts.Reduced.{Reduced}
 use Rattle.machine.specs.declared.reducts.Reduced.the-variants.{Done}
 use Rattle.machine.specs.declared.reducts.Subterm.{Subterm}
-use Rattle.rewriting.specs.Machine.{down, position}
-use Rattle.machine.specs.advance.Area.{area, termIn, outerIn, countIn, Represents}
+use Rattle.rewriting.specs.Machine.{position}
+use Rattle.machine.specs.advance.Area.{area, termIn}
 use Rattle.machine.specs.reducts.Reduct.{stretchesOf, stretchBindings, reduct}
 use Rattle.machine.specs.reducts.Replaced.{subtermIn, Room, Puttable, Put, fits, exceeds}
 use Rattle.machine.specs.reducts.Rewritten.{Contracts, Reducible, rewritten, done, long, Rewrites}
 use Rattle.rewriting.proofs.Actives.{At, at-parted, active-whole}
 use Rattle.rewriting.proofs.Done.{whole-within}
-use Rattle.rewriting.proofs.Laws.{down-lt}
-use Rattle.machine.proofs.advance.States.{opened-active}
-use Rattle.machine.proofs.advance.Areas.{area-length}
 use Rattle.machine.proofs.reducts.Bindings.{match-rest, match-behind}
 use Rattle.machine.proofs.reducts.Replacing.{part-take}
-
--- each level starts behind the one around it, so at least as many words stand before the innermost one as there are levels around it
-position-room : (s : System) (t cs : List ℕ) (p : ℕ) → length cs + p ≤ position s t cs p
-unfolding position
-position-room s t [] p = omega arith
-position-room s t (c ∷ cs) p =
-    let z : length cs + down s t p c ≤ position s t (c ∷ cs) p = position-room s t cs (down s t p c) in
-    omega (arith, down-lt s t p c)
-
--- ---- the halves of an area
-
--- the counts, with zeros written over the last one and over the words behind it
-counts-cleared : (N : ℕ) (outer : List ℕ) (c level width : ℕ) → length outer ≡ level → 0 < width → level + width ≤ N →
-    over (pad N (outer ++ c ∷ [])) level (zeros width) ≡ pad N (outer ++ 0 ∷ [])
-unfolding pad
-counts-cleared N outer c level width e h r =
-    let zs = zeros (N - (level + 1)) in
-    let ws = outer ++ c ∷ [] ++ zs in
-    let n : length (outer ++ c ∷ []) ≡ level + 1 = rw (length-append outer (c ∷ []), e) in
-    let o : N - length outer ≡ width + (N - level - width) = omega arith in
-    let b : level + width ≡ level + 1 + (width - 1) = omega arith in
-    let d : N - (level + 1) - (width - 1) ≡ N - level - width = omega arith in
-    let l : length ws ≡ N = rw (length-append (outer ++ c ∷ []) zs, n, length-zeros (N - (level + 1))) (omega arith) in
-    let f : take level ws ≡ outer = rw (append-assoc outer (c ∷ []) zs) (take-at outer (c ∷ [] ++ zs) level e) in
-    let k : drop (level + width) ws ≡ zeros (N - level - width) =
-    rw (b, ← drop-drop (width - 1) (level + 1) ws, drop-at (outer ++ c ∷ []) zs (level + 1) n, drop-zeros (width - 1) (N - (level + 1)), d) in
-    ap (λ y. over (outer ++ c ∷ [] ++ zeros (N - y)) level (zeros width)) n
-    ∙ sets-eq (zeros width) ws level (rw (length-zeros width, l) r)
-    ∙ rw (length-zeros width, f, k, append-assoc outer (zeros width) (zeros (N - level - width)), zeros-append width (N - level - width), ← o)
-    (sym (pad-zero N outer (omega arith)))
-
-module _ (t cs : List ℕ) (h : length t ≤ termWords) where
-  area-right : drop termWords (area t cs) ≡ pad termWords cs
-  unfolding area
-  area-right = drop-at (pad termWords t) (pad termWords cs) termWords (length-pad termWords t h)
-
-  area-zeros : (n : ℕ) → length t ≡ n → drop n (take termWords (area t cs)) ≡ zeros (termWords - n)
-  unfolding area pad
-  area-zeros n e =
-      ap (drop n) (take-at (pad termWords t) (pad termWords cs) termWords (length-pad termWords t h))
-      ∙ drop-at t (zeros (termWords - length t)) n e
-      ∙ ap (λ y. zeros (termWords - y)) e
-
--- ---- the state before the rewrite
 
 module _ {book ws : List ℕ} {n : ℕ} {u : Subterm} {m : Match} (asked : Reducible book ws n u m) where
   abbrev s : System
@@ -99,29 +50,15 @@ module _ {book ws : List ℕ} {n : ℕ} {u : Subterm} {m : Match} (asked : Reduc
   abbrev p : ℕ
   p = u .at
 
-  abbrev outer : List ℕ
-  outer = outerIn ws (u .level)
-
-  abbrev represents : Represents s ws n (u .level)
-  represents = asked .represents
-
   formed : WellFormed s
   formed = well book (asked .shape) (asked .accepted)
 
   -- the whole subterm at p
   subterm-here : At s (λ _. Unit {0}) t p
-  subterm-here = subst (At s (λ _. Unit {0}) t) (sym (asked .place)) (active-whole s formed (represents .valid .whole) (opened-active s t root (represents .valid .opened)))
+  subterm-here = active-whole s formed (asked .whole) (asked .active)
 
-  bounded : n ≤ termWords
-  bounded = omega (arith, represents .words, represents .valid .bounded)
-
-  around : u .level ≤ p
-  around = omega (arith, asked .place, represents .levels, position-room s t outer 0)
-
-  area-words : length ws ≡ areaWords
-  area-words =
-      ap length (represents .equal) ∙ area-length t (outer ++ countIn ws (u .level) ∷ []) (represents .valid .bounded)
-      (rw (length-append outer (countIn ws (u .level) ∷ [])) (let z = represents .valid .room in omega arith))
+  words : length t ≡ n
+  words = length-take-le n ws (omega (arith, asked .total, asked .bounded))
 
   parted : drop p t ≡ subterm-here .here ++ subterm-here .behind
   parted = at-parted s subterm-here
@@ -135,21 +72,21 @@ module _ {book ws : List ℕ} {n : ℕ} {u : Subterm} {m : Match} (asked : Reduc
   inside =
       let x = subterm-here in
       let z = subst (λ y. length (x .before) < length y) (sym (x .equal)) (whole-within s (x .before) (x .behind) (x .whole)) in
-      omega (arith, x .position, represents .words)
+      omega (arith, x .position, words)
 
   pub ends : p + u .width ≤ n
   ends =
       let x = subterm-here in
       let z = ap length parted in
       let y = length-append (x .here) (x .behind) in
-      omega (arith, length-drop p t, represents .words, width-here, inside)
+      omega (arith, length-drop p t, words, width-here, inside)
 
   words-here : subtermIn ws u ≡ subterm-here .here
   words-here =
       let x = subterm-here in
       sym (part-take ws n p (u .width) ends) ∙ ap (take (u .width)) parted ∙ take-at (x .here) (x .behind) (u .width) (sym width-here)
 
-  width-some : 0 < u .width
+  pub width-some : 0 < u .width
   width-some =
       let x = subterm-here in
       let z = whole-within s [] [] (x .whole) in
@@ -158,12 +95,12 @@ module _ {book ws : List ℕ} {n : ℕ} {u : Subterm} {m : Match} (asked : Reduc
 
   room : (k : ℕ) → n - u .width + k ≤ termWords → Room ws n u k
   room k f = record {
-    words = area-words;
-    bounded = bounded;
-    zeroed = subst (λ y. drop n (take termWords y) ≡ zeros (termWords - n)) (sym (represents .equal)) (area-zeros t _ (represents .valid .bounded) n (represents .words));
+    words = asked .total;
+    bounded = asked .bounded;
+    zeroed = asked .zeroed;
     some = width-some;
     within = ends;
-    around = around;
+    around = asked .around;
     fits = f;
   }
 
@@ -189,7 +126,7 @@ module _ {book ws : List ℕ} {n : ℕ} {u : Subterm} {m : Match} (asked : Reduc
   pub puttable : {side : List ℕ} → RightSide side → Puttable side ws n u (stretchesOf m)
   puttable right = record {
     room = room;
-    bounded = bounded;
+    bounded = asked .bounded;
     within = ends;
     right = right;
     inside = match-within book (asked .shape) (asked .accepted) (subtermIn ws u) m match-here;
@@ -225,16 +162,6 @@ module _ {book ws : List ℕ} {n : ℕ} {u : Subterm} {m : Match} (asked : Reduc
       let e : reductOf (w ∷ []) ≡ w ∷ [] = instance-symbol σ w [] low ∙ ap (λ r. w ∷ r) (instance-nil σ) in
       (number, match-word book (asked .shape) (asked .accepted) (subtermIn ws u) m match-here f ∙ ap (λ r. some (record { number = number; reduct = r })) (sym e))
 
-  -- the counts after it
-  counts : over (drop termWords ws) (u .level) (zeros (u .width)) ≡ pad termWords (outer ++ 0 ∷ [])
-  counts =
-      let z = around in
-      let y = ends in
-      let a = bounded in
-      ap (λ y. over (drop termWords y) (u .level) (zeros (u .width))) (represents .equal)
-      ∙ ap (λ y. over y (u .level) (zeros (u .width))) (area-right t (outer ++ countIn ws (u .level) ∷ []) (represents .valid .bounded))
-      ∙ counts-cleared termWords outer (countIn ws (u .level)) (u .level) (u .width) (represents .levels) width-some (omega arith)
-
   -- so what is put there is the rewrite
   module _ (side : List ℕ) (reduces : Reduces side) where
     abbrev v : List ℕ
@@ -248,19 +175,17 @@ module _ {book ws : List ℕ} {n : ℕ} {u : Subterm} {m : Match} (asked : Reduc
 
     rewritten-length : (x : Contraction) → Contracts book ws n u x → length (rewritten s ws n u x) ≡ n - u .width + length v
     rewritten-length x e =
-        let z = replace-length g t (x .reduct) p (rw (← asked .wide, represents .words) ends) in
+        let z = replace-length g t (x .reduct) p (rw (← asked .wide, words) ends) in
         let y = ap length (reduct-is x e) in
-        omega (arith, asked .wide, represents .words, ends)
+        omega (arith, asked .wide, words, ends)
 
     spliced : (x : Contraction) → Contracts book ws n u x → splice (take n ws) p (u .width) v ≡ rewritten s ws n u x
     unfolding replace
     spliced x e = rw (append-assoc (take p t) v (drop (p + u .width) t), reduct-is x e, ← asked .wide)
 
     pub rewrites : (r : Reduced) (ws′ : List ℕ) → Put side ws n u (stretchesOf m) r ws′ → Rewrites book ws n u r ws′
-    unfolding area
     rewrites r ws′ (fits l q k) x e =
         let z = rewritten-length x e in
         done (omega arith) (q ∙ ap Done (sym z))
-        (k ∙ ap (λ y. pad termWords y ++ over (drop termWords ws) (u .level) (zeros (u .width))) (spliced x e)
-        ∙ ap (λ y. pad termWords (rewritten s ws n u x) ++ y) counts)
+        (k ∙ ap (λ y. pad termWords y ++ over (drop termWords ws) (u .level) (zeros (u .width))) (spliced x e))
     rewrites r ws′ (exceeds l q k) x e = long (omega (arith, rewritten-length x e)) q k

@@ -39,6 +39,15 @@ searchComputed s ws = searchFor s ws (matchComputed ws)
 unfoldable pub searchOf : System → List ℕ → Search
 searchOf s ws = searchFor s ws (matchOf s ws)
 
+-- the number of the rule that was found; where none was, one that is no rule's and no word's
+abbrev pub unnumbered : ℕ
+unnumbered = 65536
+
+abbrev pub ruleNumber : FirstRule → ℕ
+ruleNumber Nothing = unnumbered
+ruleNumber (First k rhs size) = k
+ruleNumber (Computed k w) = k
+
 -- ---- the reduct
 
 -- how many words the instance of a side has, where the variables' terms have these lengths

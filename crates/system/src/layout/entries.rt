@@ -75,3 +75,42 @@ pub fn entry_of(book: &[u16], shape: Shape, index: &[usize], w: u16, f: usize, c
     }
     Entry::Argument(e - 1)
 }
+
+// Whether e is one of the words.
+fn among(ws: &[u16], e: usize) -> bool
+    ensures { λ r. ⌜ r ≡ among e (now (ws .entry)) ⌝ }
+{
+    let mut j = 0;
+    while j < ws.len() {
+        if e == wide(ws[j]) {
+            return true;
+        }
+        j += 1;
+    }
+    false
+}
+
+// Whether entry e stands in the strategy of a word that is not listed: an operator's is 1 2 0.
+fn built_in_among(w: u16, e: usize) -> bool
+    ensures { λ r. ⌜ r ≡ among e (builtInStrategy w) ⌝ }
+{
+    if !is_operator(w) {
+        return false;
+    }
+    e <= 2
+}
+
+// Whether entry e stands in the strategy of w: above 0, whether its argument e is evaluated.
+pub fn stands_in(book: &[u16], shape: Shape, index: &[usize], w: u16, e: usize) -> bool
+    requires { ⌜ Accepted (now book) shape × Indexed (now book) shape (now index) ⌝ }
+    ensures { λ r. ⌜ r ≡ among e (strategy (systemOf (now (book .entry))) w) ⌝ }
+{
+    let symbol = wide(w);
+    if shape.symbols <= symbol {
+        return built_in_among(w, e);
+    }
+    let at = strategy_at(book, shape, index, symbol);
+    let first = at + 1;
+    let end = first + wide(book[at]);
+    among(&book[first..end], e)
+}

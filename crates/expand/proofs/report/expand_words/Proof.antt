@@ -3,6 +3,7 @@ use Prim.Native.Nat.{_-_}
 use native.Mathlib.Omega.{arith}
 use lib.ListN.{length, drop, length-drop}
 use lib.Seq.{take-all}
+use Rattle.rewriting.specs.Evaluation.{unrecorded}
 use borrow.Author.Needs.{needs}
 use Rattle.evaluation.proofs.Handed.{handed-fits}
 use Rattle.expand.proofs.report.Reports.{expanded}
@@ -29,7 +30,7 @@ put-answer-requires c κs =
     let s = entry (w .before .before) in
     let a = s .args in
     let x = e .expand in
-    (handed-fits (a .book .now) _ (w .wide .result) (a .out .now) (a .work .now) _ (x .ensures), rw (x .kept .1 .1 .1 .0) (s .pre .1), s .pre .2)
+    (handed-fits (a .book .now) _ (unrecorded (w .wide .result)) (a .out .now) (a .work .now) _ (x .ensures), rw (x .kept .1 .1 .1 .0) (s .pre .1), s .pre .2)
 
 returns : tie.Need-returns
 returns c =

@@ -1,0 +1,2 @@
+-- The record of the steps: what the contracts of `recording` cite. Inner: no public contract rests on it.
+pub mod Kept

@@ -1,0 +1,75 @@
+-- Whether an entry stands in a strategy: the search over its words, and where they stand in the book.
+use Prim.Native.Nat.{ℕ, zero, suc, _+_, _-_, _≤_, _<_}
+use native.Mathlib.Omega.{arith}
+use native.Mathlib.Numerals.{add-one}
+use mathlib.Core.Path.{_≡_, refl, sym, ap, _∙_}
+use mathlib.Core.Bool.{true, false}
+use mathlib.Core.List.{List, [], _∷_}
+use lib.ListN.{length, getD, take, drop, drop-of-length-le}
+use lib.Seq.{drop-cons}
+use lib.Dec.{leb}
+use borrow.Author.Tests.{eq-eqb, ne-eqb, lt-leb}
+use Rattle.system.specs.declared.Shape.{Shape}
+use Rattle.system.specs.BuiltIns.{isOperator, builtInStrategy}
+use Rattle.system.specs.System.{strategy}
+use Rattle.system.specs.Book.{systemOf, Accepted}
+use Rattle.system.specs.layout.Accepted.{StrategyAt}
+use Rattle.system.specs.layout.Entries.{among}
+use Rattle.system.proofs.BuiltIns.{operator-strategy, plain-strategy}
+use Rattle.system.proofs.Rules.{strategy-unlisted}
+use Rattle.system.proofs.layout.Suffixes.{strategy-count}
+
+-- ---- the search, with j words behind it
+
+module _ (ws : List ℕ) (j e : ℕ) where
+  pub among-end : length ws ≤ j → false ≡ among e (drop j ws)
+  unfolding among
+  among-end h = rw (drop-of-length-le ws {i = j} h)
+
+  module _ (more : j < length ws) where
+    rest : drop j ws ≡ getD ws j 0 ∷ drop (j + 1) ws
+    rest = drop-cons ws j 0 more ∙ ap (λ k. getD ws j 0 ∷ drop k ws) (sym (add-one j))
+
+    pub among-here : e ≡ getD ws j 0 → true ≡ among e (drop j ws)
+    unfolding among
+    among-here q = rw (rest, eq-eqb e (getD ws j 0) q)
+
+    pub among-next : (e ≡ getD ws j 0 → ⊥) → among e (drop (j + 1) ws) ≡ among e (drop j ws)
+    unfolding among
+    among-next q = rw (rest, ne-eqb e (getD ws j 0) q)
+
+-- ---- the built-in strategies
+
+module _ (w e : ℕ) where
+  pub plain-among : isOperator w ≡ false → false ≡ among e (builtInStrategy w)
+  unfolding among
+  plain-among o = rw (plain-strategy w o)
+
+  pub operator-among : isOperator w ≡ true → leb e 2 ≡ among e (builtInStrategy w)
+  operator-among o = go e ∙ ap (among e) (sym (operator-strategy w o))
+    where
+      go : (e : ℕ) → leb e 2 ≡ among e (1 ∷ 2 ∷ 0 ∷ [])
+      go zero = unfold among in refl
+      go (suc zero) = unfold among in refl
+      go (suc (suc zero)) = unfold among in refl
+      go (suc (suc (suc e))) = unfold among in rw (
+        lt-leb (suc (suc (suc e))) 2 (omega arith),
+        ne-eqb (suc (suc (suc e))) 1 (λ z. omega arith),
+        ne-eqb (suc (suc (suc e))) 2 (λ z. omega arith),
+        ne-eqb (suc (suc (suc e))) 0 (λ z. omega arith),
+      )
+
+-- ---- by the words of the book
+
+pub among-unlisted : (b : List ℕ) (sh : Shape) → Accepted b sh → (w n e : ℕ) → n ≡ w → sh .symbols ≤ n → among e (builtInStrategy w) ≡ among e (strategy (systemOf b) w)
+among-unlisted b sh acc w n e q h = ap (among e) (sym (strategy-unlisted (systemOf b) w (omega (arith, strategy-count b sh acc))))
+
+-- the entries of the strategy at `at`, from `first` up to `end`
+module _ (b : List ℕ) (w k at n : ℕ) (is : k ≡ w) (st : StrategyAt b k at) (count : n ≡ getD b at 0) where
+  pub entries-fit : at + 1 + n ≤ length b
+  entries-fit = let h = st .fits in omega arith
+
+  pub among-listed : (e : ℕ) → among e (take (at + 1 + n - (at + 1)) (drop (at + 1) b)) ≡ among e (strategy (systemOf b) w)
+  among-listed e =
+      let z : at + 1 + n - (at + 1) ≡ getD b at 0 = omega arith in
+      ap (λ y. among e (take y (drop (at + 1) b))) z ∙ ap (among e) (st .entries) ∙ ap (λ y. among e (strategy (systemOf b) y)) is
