@@ -63,9 +63,10 @@ returns : tie.Need-returns
 returns c =
     let e = c .before .before in
     let a = start e .args in
-    let bad : checked (a .book .now) (a .term .now) (a .out .now) (a .work .now) .number ≡ 0 → ⊥ = λ z. c .if1 .taken (ap (λ y. y .number) (first e) ∙ z) in
-    (ap (λ y. result y (a .out .now) (a .work .now)) (first e) ∙ sym (refuses (a .book .now) (a .term .now) (a .out .now) (a .work .now) _ bad),
-    lent-refused (a .bounds .recorded) (a .book .now) (a .term .now) (limits (start e)) (a .out .now) (a .work .now) (a .«record» .now) bad)
+    let bad : checked (a .book .now) (a .term .now) (a .out .now) (a .work .now) .number ≡ 0 → ⊥ = λ z. c .if1 .taken (ap (λ y. y .number) (first e) ∙ z) in (
+      ap (λ y. result y (a .out .now) (a .work .now)) (first e) ∙ sym (refuses (a .book .now) (a .term .now) (a .out .now) (a .work .now) _ bad),
+      lent-refused (a .bounds .recorded) (a .book .now) (a .term .now) (limits (start e)) (a .out .now) (a .work .now) (a .«record» .now) bad,
+    )
 
 part-run-end : tie.Need-part-run-end
 part-run-end c = omega (arith, passes c .room-work)
@@ -104,9 +105,10 @@ returns-2 c =
     let l = limits (entry d) in
     let o = evaluation (systemOf (a .book .now)) l (a .term .now) in
     let k = evaluates (a .book .now) (a .term .now) (a .out .now) (a .work .now) (expansionOf (a .out .now) (a .work .now) o) (p .room-answer) (p .room-work) (p .good) in
-    let z = finishes (a .work .now) (q .run .last .1 .1 .1 .1 .0) (p .room-work) (ran q) o (q .run .result) (a .out .now) (q .run .ensures .0) in
-    (same-result refl (f .hand-back .ensures .0) (f .hand-back .ensures .1) ∙ z ∙ sym k,
-    q .run .ensures .1 ∙ lent-told (a .bounds .recorded) (a .book .now) (a .term .now) l (a .out .now) (a .work .now) (a .«record» .now) p)
+    let z = finishes (a .work .now) (q .run .last .1 .1 .1 .1 .0) (p .room-work) (ran q) o (q .run .result) (a .out .now) (q .run .ensures .0) in (
+      same-result refl (f .hand-back .ensures .0) (f .hand-back .ensures .1) ∙ z ∙ sym k,
+      q .run .ensures .1 ∙ lent-told (a .bounds .recorded) (a .book .now) (a .term .now) l (a .out .now) (a .work .now) (a .«record» .now) p,
+    )
 
 pub expand-within-spec : {M : Type 1} → statement M
 expand-within-spec =
