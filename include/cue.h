@@ -1,5 +1,5 @@
 /*
- * The cue expander: show books, the order test, expansion.
+ * The cue expander: show books, the order test, expansion, and the record of an expansion's steps.
  *
  * Link with libcue.a (`rt staticlib cue` writes it to target/staticlib/). The target is x86-64 (System V ABI, ELF; SSE registers are
  * used, so save them in a task that can be interrupted). About 14 KB of code, no data, no bss; it needs memcpy and memset and nothing
@@ -8,12 +8,13 @@
  * back end, and the stack measured anew.
  *
  * Every slice is a pointer to its first word and the number of its words. A pointer must be valid even where the length is 0 (any
- * address of a uint16_t will do), and a buffer that is written (`out`, `work`) must not overlap any other slice of the call. Nothing
+ * address of a uint16_t will do), and a buffer that is written (`out`, `work`, a record that is filled) must not overlap any other slice of the call. Nothing
  * else is asked of a caller: every other input gets one of the answers below. No function keeps a pointer, uses the heap, or holds
  * state between calls; each may be called from any thread.
  *
- * For a show a desk needs two of these functions: cue_test_strategies once for a book, and cue_expand for each cue. cue_expand_checked
- * and cue_expand_twice are what both promise together, as functions of their own; the others look at a book or a cue.
+ * For a show a desk needs two of these functions: cue_test_strategies once for a book, and cue_expand for each cue. To see an expansion
+ * again, cue_expand_recorded tells its steps and cue_replay follows them. cue_expand_checked, cue_expand_twice and cue_expand_retraced are
+ * what these promise together, as functions of their own; the others look at a book or a cue.
  *
  * Names. The show designers' words and the words of the field stand side by side: a book is a rewrite system, a name a symbol, an
  * order a strategy, a placeholder a variable, a cue a term, a part of it a subterm, and a place a position.
@@ -30,7 +31,7 @@ extern "C" {
 
 /* The version: a change of what a function takes or answers raises the first number, anything new the second. */
 #define CUE_VERSION_MAJOR 2
-#define CUE_VERSION_MINOR 0
+#define CUE_VERSION_MINOR 1
 
 /* Sizes, in words. */
 #define CUE_TERM_WORDS 4096 /* the most words of a cue, and the least of an answer buffer */
@@ -74,7 +75,9 @@ enum {
   CUE_OVERLONG = 12,  /* the step would leave the whole cue above 4,096 words */
   CUE_NESTED = 13,    /* an argument would be opened from level 64 */
   CUE_UNSETTLED = 14, /* the order test failed */
-  CUE_BUILTIN = 15    /* a left side starts with a level or a built-in word */
+  CUE_BUILTIN = 15,   /* a left side starts with a level or a built-in word */
+  CUE_RECORD_FULL = 16, /* a step finds fewer than two words left in the record */
+  CUE_NO_STEP = 17    /* a pair of a record is half, or tells of no step */
 };
 
 #if defined(__cplusplus) || (defined(__STDC_VERSION__) && __STDC_VERSION__ >= 199901L)
@@ -82,7 +85,7 @@ enum {
 static inline const char *cue_word(uint32_t number) {
   static const char *const words[] = {"taken",   "short",      "count",   "entry", "stranger", "ragged", "headless", "stray",
                                       "surplus", "broken cue", "cramped", "spent", "overlong", "nested", "unsettled",
-                                      "builtin"};
+                                      "builtin", "full",       "pair"};
   return number < sizeof words / sizeof words[0] ? words[number] : "?";
 }
 #endif
@@ -216,6 +219,64 @@ typedef struct cue_twice {
 cue_twice cue_expand_twice(const uint16_t *book, size_t book_words, const uint16_t *term, size_t term_words, uint32_t limit,
                            uint16_t *out, size_t out_words, uint16_t *work, size_t work_words, uint16_t *again, size_t again_words,
                            uint16_t *spare, size_t spare_words);
+
+/*
+ * cue_expand with a record: for each step two words, its index in the whole cue before it and the number of its rule (128 and 129 are the
+ * built-in ones). The answer and the buffers are cue_expand's, with one more limit:
+ *
+ *   number    place                        steps            out                                     work
+ *   16        0                            completed        unchanged                               as on 11
+ *
+ * 16 where a step finds fewer than two words left; at a step 11 is checked first, then 16, then 12. After any answer the record holds the
+ * pairs of the steps that are reported, in their order from its first word on, and its other words are unchanged. A cue that takes no step
+ * needs no room.
+ */
+cue_answer cue_expand_recorded(const uint16_t *book, size_t book_words, const uint16_t *term, size_t term_words, uint32_t limit,
+                               uint16_t *out, size_t out_words, uint16_t *work, size_t work_words, uint16_t *record,
+                               size_t record_words);
+
+/* The three numbers of a replay. A record may hold more pairs than 32 bits tell. */
+typedef struct cue_replayed {
+  uint32_t number;
+  size_t place;
+  size_t steps;
+} cue_replayed;
+
+/*
+ * Follows a record, from anyone, over a book from a first cue on, pair by pair. It is accepted exactly if each pair is whole, its index an
+ * active place of the cue then, its rule the lowest that fits there, and no step leaves more than 4,096 words; the steps need not be in the
+ * order in which cue_expand takes them, and neither an allowance nor a deepest level counts.
+ *
+ *   number    place                        steps            out                                     work
+ *   0         the last cue's length        the pairs        the last cue in its first words,        the first 8,192 words are
+ *                                                           the rest unchanged                      zero, the rest unchanged
+ *   10, 1 to  as cue_expand                0                unchanged                               unchanged
+ *   9, or 15
+ *   17        the number of the first      completed        unchanged                               the first 8,192 words are
+ *             pair that is wrong or half,                                                           zero, the rest unchanged
+ *             from 0
+ *   12        0                            completed        unchanged                               as on 17
+ *
+ * 10, the book and the cue are checked first, in this order; then each pair: 17 before 12. The record is only read.
+ */
+cue_replayed cue_replay(const uint16_t *book, size_t book_words, const uint16_t *term, size_t term_words, const uint16_t *record,
+                        size_t record_words, uint16_t *out, size_t out_words, uint16_t *work, size_t work_words);
+
+/* The answers of an expansion with a record, and of its replay. */
+typedef struct cue_retraced {
+  cue_answer answer;
+  cue_replayed replay;
+} cue_retraced;
+
+/*
+ * cue_expand_recorded, and its record, cut to its pairs, followed from the same cue on by cue_replay, into `again` with the work buffer
+ * `spare`. Where answer.number is 0 and these two buffers are large enough, replay has the same three numbers and `again` starts with the
+ * same words as out. Where answer.number is not 0 there is no replay: replay has the answer's three numbers, and `again` and `spare` are
+ * unchanged.
+ */
+cue_retraced cue_expand_retraced(const uint16_t *book, size_t book_words, const uint16_t *term, size_t term_words, uint32_t limit,
+                                 uint16_t *out, size_t out_words, uint16_t *work, size_t work_words, uint16_t *record,
+                                 size_t record_words, uint16_t *again, size_t again_words, uint16_t *spare, size_t spare_words);
 
 #ifdef __cplusplus
 }

@@ -7,11 +7,15 @@ ghost use Rattle.system.specs.Signature.{span};
 ghost use Rattle.matching.specs.Bindings.{matchIn};
 ghost use Rattle.matching.specs.Safety.{Tells};
 ghost use Rattle.matching.specs.StrategyTest.{testAnswer};
-ghost use Rattle.rewriting.specs.Evaluation.{unrecorded};
-ghost use Rattle.evaluation.specs.Expansion.{result, expansion};
+ghost use lib.ListN.{length};
+ghost use Rattle.rewriting.specs.Evaluation.{unrecorded, recorded};
+ghost use Rattle.evaluation.specs.Expansion.{result, expansion, recordAfter};
+ghost use Rattle.replay.specs.Replaying.{replaying, AcceptsExactly, IsMistold};
 ghost use Rattle.demands.specs.Demand3.{IsDone, IsHandedBack, IsFound, secondly, RestsAgain};
-ghost use Rattle.cue.specs.Exports.{answerFor, asAnswer, shapeFor, partFor, matchFor};
+ghost use Rattle.demands.specs.Retracing.{retracing, IsRetraced};
+ghost use Rattle.cue.specs.Exports.{answerFor, asAnswer, replayedFor, replayedAnswer, shapeFor, partFor, matchFor};
 use matching::FirstRule;
+use replay::Replayed;
 use system::Answer;
 use system::limits::VARIABLES;
 
@@ -68,6 +72,21 @@ pub struct CueTwice {
     pub second: CueAnswer,
 }
 
+// The three numbers of a replay: a record may have more pairs than 32 bits tell.
+#[repr(C)]
+pub struct CueReplayed {
+    pub number: u32,
+    pub place: usize,
+    pub steps: usize,
+}
+
+// The answers of an expansion with a record, and of its replay.
+#[repr(C)]
+pub struct CueRetraced {
+    pub answer: CueAnswer,
+    pub replay: CueReplayed,
+}
+
 fn answer_for(a: Answer) -> CueAnswer
     ensures { λ r. ⌜ r ≡ answerFor a ⌝ }
 {
@@ -75,6 +94,16 @@ fn answer_for(a: Answer) -> CueAnswer
         number: a.number,
         place: a.place,
         steps: a.steps,
+    }
+}
+
+fn replayed_for(e: Replayed) -> CueReplayed
+    ensures { λ r. ⌜ r ≡ replayedFor e ⌝ }
+{
+    CueReplayed {
+        number: e.number,
+        place: e.place,
+        steps: e.steps,
     }
 }
 
@@ -244,5 +273,77 @@ pub extern "C" fn cue_expand_twice(
         test: answer_for(c.test),
         first: answer_for(c.first),
         second: answer_for(c.second),
+    }
+}
+
+// Expands a term over a book with at most `limit` steps, and tells each step in the record: its index in the whole term before it, and the
+// number of its rule.
+#[no_mangle]
+pub extern "C" fn cue_expand_recorded(
+    book: &[u16],
+    term: &[u16],
+    limit: u32,
+    out: &mut [u16],
+    work: &mut [u16],
+    record: &mut [u16],
+) -> CueAnswer
+    ensures expanded { λ r. ⌜ result (asAnswer r) (now (out .exit)) (now (work .exit))
+        ≡ expansion (now (book .entry)) (now (term .entry)) (recorded limit (length (now («record» .entry))))
+        (now (out .entry)) (now (work .entry)) ⌝ }
+    ensures told { λ _. ⌜ now («record» .exit) ≡ recordAfter (now (book .entry)) (now (term .entry))
+        (recorded limit (length (now («record» .entry)))) (now (out .entry)) (now (work .entry)) (now («record» .entry)) ⌝ }
+{
+    answer_for(evaluation::expand_recorded(book, term, limit, out, work, record))
+}
+
+// Follows a record over a book from a term on.
+#[no_mangle]
+pub extern "C" fn cue_replay(
+    book: &[u16],
+    term: &[u16],
+    record: &[u16],
+    out: &mut [u16],
+    work: &mut [u16],
+) -> CueReplayed
+    ensures replayed { λ r. ⌜ result (replayedAnswer r) (now (out .exit)) (now (work .exit))
+        ≡ replaying (now (book .entry)) (now (term .entry)) (now («record» .entry)) (now (out .entry)) (now (work .entry)) ⌝ }
+    ensures exact { λ r. ⌜ AcceptsExactly (now (book .entry)) (now (term .entry)) (now («record» .entry)) (now (out .entry)) (now (work .entry))
+        (result (replayedAnswer r) (now (out .exit)) (now (work .exit))) ⌝ }
+    ensures mistold { λ r. ⌜ IsMistold (now (book .entry)) (now (term .entry)) (now («record» .entry))
+        (result (replayedAnswer r) (now (out .exit)) (now (work .exit))) ⌝ }
+{
+    replayed_for(replay::replay(book, term, record, out, work))
+}
+
+// Expands the term with a record, and follows the record, cut to its pairs, in a second pair of buffers; where nothing is handed back the
+// answer's numbers stand for the replay's.
+#[no_mangle]
+pub extern "C" fn cue_expand_retraced(
+    book: &[u16],
+    term: &[u16],
+    limit: u32,
+    out: &mut [u16],
+    work: &mut [u16],
+    record: &mut [u16],
+    again: &mut [u16],
+    spare: &mut [u16],
+) -> CueRetraced
+    ensures expanded { λ r. ⌜ result (asAnswer (r .answer)) (now (out .exit)) (now (work .exit))
+        ≡ expansion (now (book .entry)) (now (term .entry)) (recorded limit (length (now («record» .entry))))
+        (now (out .entry)) (now (work .entry)) ⌝ }
+    ensures told { λ _. ⌜ now («record» .exit) ≡ recordAfter (now (book .entry)) (now (term .entry))
+        (recorded limit (length (now («record» .entry)))) (now (out .entry)) (now (work .entry)) (now («record» .entry)) ⌝ }
+    ensures replayed { λ r. ⌜ result (replayedAnswer (r .replay)) (now (again .exit)) (now (spare .exit))
+        ≡ retracing (now (book .entry)) (now (term .entry)) (asAnswer (r .answer)) (now («record» .exit))
+        (now (again .entry)) (now (spare .entry)) ⌝ }
+    ensures done { λ r. ⌜ IsDone (now (book .entry)) (now (term .entry)) (recorded limit (length (now («record» .entry))))
+        (result (asAnswer (r .answer)) (now (out .exit)) (now (work .exit))) ⌝ }
+    ensures retraced { λ r. ⌜ IsRetraced (result (asAnswer (r .answer)) (now (out .exit)) (now (work .exit))) (now (again .entry))
+        (now (spare .entry)) (result (replayedAnswer (r .replay)) (now (again .exit)) (now (spare .exit))) ⌝ }
+{
+    let c = demands::expand_retraced(book, term, limit, out, work, record, again, spare);
+    CueRetraced {
+        answer: answer_for(c.answer),
+        replay: replayed_for(c.replay),
     }
 }

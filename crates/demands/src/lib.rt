@@ -1,11 +1,19 @@
-// Demand 3 as contracts: small functions that call the strategy test and the evaluator, and whose contracts are its sentences.
+// Demand 3, and what 02 says of records (F-3), as contracts: small functions that call the strategy test, the evaluator and the replay, and
+// whose contracts are its sentences.
 ghost use mathlib.Core.Path.{_≡_};
 ghost use Rattle.matching.specs.StrategyTest.{testAnswer};
-ghost use Rattle.rewriting.specs.Evaluation.{unrecorded};
-ghost use Rattle.evaluation.specs.Expansion.{result, expansion};
+ghost use lib.ListN.{length};
+ghost use Rattle.rewriting.specs.Evaluation.{unrecorded, recorded};
+ghost use Rattle.evaluation.specs.Expansion.{result, expansion, recordAfter};
+ghost use Rattle.replay.specs.Replaying.{asAnswer};
+ghost use Rattle.demands.specs.Retracing.{retracing, IsRetraced};
 ghost use Rattle.demands.specs.Demand3.{IsDone, IsHandedBack, IsFound, secondly, RestsAgain};
+use evaluation::recording::Bounds;
 use evaluation::scanned::expand_scanned;
+use evaluation::scanned::expand_within;
 use matching::safety::test;
+use replay::Replayed;
+use replay::scanned::replay_scanned;
 use system::Answer;
 use system::numbers::TAKEN;
 use system::reader::scan_book;
@@ -84,4 +92,55 @@ pub fn expand_twice(
         first,
         second,
     }
+}
+
+// The answers of an expansion with a record, and of its replay.
+pub struct Retraced {
+    pub answer: Answer,
+    pub replay: Replayed,
+}
+
+// Expands the term and tells each step in the record; then follows the record, cut to its pairs, from the same term on, in a second pair of
+// buffers. Where nothing is handed back there is no replay, and the answer's numbers stand for it.
+pub fn expand_retraced(
+    book: &[u16],
+    term: &[u16],
+    limit: u32,
+    out: &mut [u16],
+    work: &mut [u16],
+    record: &mut [u16],
+    again: &mut [u16],
+    spare: &mut [u16],
+) -> Retraced
+    ensures expanded { λ r. ⌜ result (r .answer) (now (out .exit)) (now (work .exit))
+        ≡ expansion (now (book .entry)) (now (term .entry)) (recorded limit (length (now («record» .entry))))
+        (now (out .entry)) (now (work .entry)) ⌝ }
+    ensures told { λ _. ⌜ now («record» .exit) ≡ recordAfter (now (book .entry)) (now (term .entry))
+        (recorded limit (length (now («record» .entry)))) (now (out .entry)) (now (work .entry)) (now («record» .entry)) ⌝ }
+    ensures replayed { λ r. ⌜ result (asAnswer (r .replay)) (now (again .exit)) (now (spare .exit))
+        ≡ retracing (now (book .entry)) (now (term .entry)) (r .answer) (now («record» .exit)) (now (again .entry)) (now (spare .entry)) ⌝ }
+    ensures done { λ r. ⌜ IsDone (now (book .entry)) (now (term .entry)) (recorded limit (length (now («record» .entry))))
+        (result (r .answer) (now (out .exit)) (now (work .exit))) ⌝ }
+    ensures retraced { λ r. ⌜ IsRetraced (result (r .answer) (now (out .exit)) (now (work .exit))) (now (again .entry)) (now (spare .entry))
+        (result (asAnswer (r .replay)) (now (again .exit)) (now (spare .exit))) ⌝ }
+{
+    let s = scan_book(book);
+    let bounds = Bounds {
+        limit,
+        recorded: true,
+    };
+    let answer = expand_within(book, s, term, bounds, out, work, record);
+    if answer.number != TAKEN {
+        return Retraced {
+            answer,
+            replay: Replayed {
+                number: answer.number,
+                place: answer.place,
+                steps: answer.steps as usize,
+            },
+        };
+    }
+    let pairs = 2 * (answer.steps as usize);
+    let replay = replay_scanned(book, s, term, &record[0..pairs], again, spare);
+    Retraced { answer, replay }
 }

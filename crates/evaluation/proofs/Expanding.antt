@@ -201,28 +201,38 @@ size-bounded book term limits c e ws = go (evaluation (systemOf book) limits ter
         omega (arith, steps-last (systemOf book) (d .path))
     go (stopped n k) q h = let z = ap (λ y. y .size) (h .0) in omega arith
 
--- the words that are handed back stand at the area's front, whatever comes after it
-ends-words : (r : Config) (e : RunResult) (ws rest : List ℕ) → Ran (finished r) e ws → take (e .size) (ws ++ rest) ≡ r .term
-ends-words r e ws rest h = (λ i. take (h .0 i .size) (h .1 i ++ rest)) ∙ take-pad areaWords (r .term) rest (length (r .term)) refl
+-- so many words at the area's front, and zeros behind them
+pub record Leaves (words : List ℕ) (size : ℕ) (ws : List ℕ) : Type 0 where
+  pub counted : size ≡ length words
+  pub padded : ws ≡ pad areaWords words
 
--- and only zeros behind them
-ends-front : (o : Outcome) (e : RunResult) (ws rest : List ℕ) → Ran o e ws → ws ≡ pad areaWords (take (e .size) (ws ++ rest))
-ends-front (finished r) e ws rest h = h .1 ∙ ap (pad areaWords) (sym (ends-words r e ws rest h))
-ends-front (stopped n k) e ws rest h = h .1 ∙ pad-empty ∙ ap (λ y. pad areaWords (take (y .size) (ws ++ rest))) (sym (h .0))
-  where
-    pad-empty : zeros areaWords ≡ pad areaWords []
-    pad-empty = unfold pad in refl
+pub leaves-none : {size : ℕ} {ws : List ℕ} → size ≡ 0 → ws ≡ zeros areaWords → Leaves [] size ws
+unfolding pad
+leaves-none e w = record { counted = e; padded = w }
+
+-- what a run leaves there: the term, or nothing where it was stopped
+abbrev pub left : Outcome → List ℕ
+left (finished r) = r .term
+left (stopped n h) = []
+
+pub leaves : (o : Outcome) (e : RunResult) (ws : List ℕ) → Ran o e ws → Leaves (left o) (e .size) ws
+leaves (finished r) e ws h = record { counted = ap (λ y. y .size) (h .0); padded = h .1 }
+leaves (stopped n k) e ws h = leaves-none (ap (λ y. y .size) (h .0)) (h .1)
+
+-- these words are handed back, whatever comes after the area
+pub leaves-words : {t : List ℕ} {size : ℕ} {ws : List ℕ} → Leaves t size ws → (rest : List ℕ) → take size (ws ++ rest) ≡ t
+leaves-words {t} l rest = (λ i. take (l .counted i) (l .padded i ++ rest)) ∙ take-pad areaWords t rest (length t) refl
 
 -- the area is lent as the first words of the work buffer; what stands behind it is as it was
 module _ (work ws : List ℕ) (room : areaWords ≤ length work) (size : length ws ≡ areaWords) where
   pub whole-length : length (ws ++ drop areaWords work) ≡ length work
   whole-length = rw (length-append, length-drop, size) (omega arith)
 
-  pub whole-front : (o : Outcome) (e : RunResult) → Ran o e ws → take areaWords (ws ++ drop areaWords work) ≡ pad areaWords (take (e .size) (ws ++ drop areaWords work))
-  whole-front o e h = take-at ws (drop areaWords work) areaWords size ∙ ends-front o e ws (drop areaWords work) h
+  pub whole-front : {t : List ℕ} {n : ℕ} → Leaves t n ws → take areaWords (ws ++ drop areaWords work) ≡ pad areaWords (take n (ws ++ drop areaWords work))
+  whole-front l = take-at ws (drop areaWords work) areaWords size ∙ l .padded ∙ ap (pad areaWords) (sym (leaves-words l (drop areaWords work)))
 
-  zeroed : over (ws ++ drop areaWords work) 0 (zeros areaWords) ≡ over work 0 (zeros areaWords)
-  zeroed =
+  pub whole-zeroed : over (ws ++ drop areaWords work) 0 (zeros areaWords) ≡ over work 0 (zeros areaWords)
+  whole-zeroed =
       let n = length-zeros areaWords in
       let k : 0 + length (zeros areaWords) ≡ areaWords = omega arith in
       sets-eq (zeros areaWords) (ws ++ drop areaWords work) 0 (rw whole-length (omega arith))
@@ -233,5 +243,5 @@ module _ (work ws : List ℕ) (room : areaWords ≤ length work) (size : length 
   pub finishes : (o : Outcome) (e : RunResult) (out : List ℕ) → Ran o e ws →
       result (record { number = e .number; place = e .size; steps = e .steps }) (over out 0 (take (e .size) (ws ++ drop areaWords work)))
       (over (ws ++ drop areaWords work) 0 (zeros areaWords)) ≡ expansionOf out work o
-  finishes (finished r) e out h = same-result (rw (h .0)) (ap (over out 0) (ends-words r e ws (drop areaWords work) h)) zeroed
-  finishes (stopped n k) e out h = same-result (rw (h .0)) (ap (λ y. over out 0 (take (y .size) (ws ++ drop areaWords work))) (h .0)) zeroed
+  finishes (finished r) e out h = same-result (rw (h .0)) (ap (over out 0) (leaves-words (leaves (finished r) e ws h) (drop areaWords work))) whole-zeroed
+  finishes (stopped n k) e out h = same-result (rw (h .0)) (ap (over out 0) (leaves-words (leaves (stopped n k) e ws h) (drop areaWords work))) whole-zeroed

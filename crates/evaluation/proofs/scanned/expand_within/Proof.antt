@@ -10,7 +10,7 @@ use Rattle.rewriting.specs.Evaluation.{Limits, evaluation}
 use Rattle.evaluation.specs.Expansion.{result, expansionOf, checked}
 use Rattle.evaluation.specs.recording.Kept.{limitsOf}
 use Rattle.evaluation.proofs.Expanding.{Checks, checks, checks-accepted, Passed, passed, refuses, evaluates, lent-refused, lent-told}
-use Rattle.evaluation.proofs.Expanding.{size-bounded, whole-length, whole-front, same-result, finishes}
+use Rattle.evaluation.proofs.Expanding.{size-bounded, leaves, whole-length, whole-front, same-result, finishes}
 use Rattle.evaluation.proofs.scanned.expand_within.Statement.{statement}
 use Rattle.evaluation.proofs.scanned.expand_within.Tie as tie
 
@@ -92,8 +92,8 @@ hand-back-requires c κs =
     let ws = q .run .last .1 .1 .1 .1 .0 in
     let l = limits (entry d) in
     let small = size-bounded (a .book .now) (a .term .now) l (good d) (q .run .result) ws (q .run .ensures .0) in
-    let front = whole-front (a .work .now) ws (p .room-work) (ran q) (evaluation (systemOf (a .book .now)) l (a .term .now)) in
-    (omega (arith, p .room-work, whole-length (a .work .now) ws (p .room-work) (ran q)), small, p .room-answer, front (q .run .result) (q .run .ensures .0))
+    let front = whole-front (a .work .now) ws (p .room-work) (ran q) (leaves (evaluation (systemOf (a .book .now)) l (a .term .now)) (q .run .result) ws (q .run .ensures .0)) in
+    (omega (arith, p .room-work, whole-length (a .work .now) ws (p .room-work) (ran q)), small, p .room-answer, front)
 
 returns-2 : tie.Need-returns-2
 returns-2 c =

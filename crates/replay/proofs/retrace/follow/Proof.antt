@@ -1,0 +1,183 @@
+-- `retrace::follow` meets its contract.
+use Prim.Native.Nat.{_-_}
+use native.Mathlib.Omega.{arith}
+use mathlib.Core.Path.{_≡_, sym, ap, _∙_, subst}
+use lib.ListN.{length, take, drop}
+use borrow.Author.Needs.{needs}
+use Rattle.system.specs.Book.{systemOf}
+use Rattle.system.proofs.layout.Books.{well}
+use Rattle.matching.specs.rules.Searches.{ruleNumber}
+use Rattle.machine.specs.advance.Area.{termIn}
+use Rattle.replay.specs.walk.Way.{Points, Found}
+use Rattle.replay.specs.retrace.Retraces.{wrong, long, goes}
+use Rattle.replay.proofs.walk.Pointing.{Bounds, points-bounds}
+use Rattle.replay.proofs.retrace.Following.{missed, other, x, told, reducible, Stepped, stepped}
+use Rattle.replay.proofs.retrace.follow.Statement.{statement}
+use Rattle.replay.proofs.retrace.follow.Tie as tie
+
+-- ---- the places of the code that are behind others: the entry, the walk, the position reached, the rule found, the rewrite
+
+abbrev lent : tie.After-find → tie.After-shared-slice-known2
+lent c = c .before .before .before
+
+abbrev entry : tie.After-find → tie.Start
+entry c = lent c .before .before
+
+abbrev walked : tie.After-struct-known → tie.After-find
+walked c = c .before .before .before
+
+abbrev reached : tie.After-first-rule → tie.Else1
+reached c = c .before .before .before
+
+abbrev searched : tie.After-rule-number → tie.After-first-rule
+searched c = c .before .before
+
+abbrev numbered : tie.Else2 → tie.After-rule-number
+numbered c = c .before .before
+
+abbrev rewriting : tie.After-rewrite → tie.Else2
+rewriting c = c .before .before
+
+-- the walk found the pair's position, or not
+found : (c : tie.After-find) → let a = entry c .args in Found (systemOf (a .book .now)) (termIn (a .area .now) (a .from .n)) (c .find .last .1 .1 .1 .0) (c .find .result) (a .pair .at)
+found c = c .find .ensures
+
+bounds : (c : tie.After-find) → Bounds (c .find .last .1 .1 .1 .0) (c .find .result)
+bounds c =
+    let e = entry c in
+    points-bounds (systemOf (e .args .book .now)) (well (e .args .book .now) (e .args .shape) (e .pre .0)) (found c .points)
+
+-- ---- the needs
+
+find-requires : tie.Need-find-requires
+find-requires c κs = let e = c .before .before .before .before in (e .pre .0, e .pre .1, e .pre .2)
+
+same-length : tie.Need-same-length
+same-length c = walked (c .before .before) .find .kept .1 .1 .1 .0
+
+returns : tie.Need-returns
+returns c =
+    let d = walked (c .before .before) in
+    let e = entry d in
+    let a = e .args in
+    let f = found d in
+    wrong (missed (a .book .now) (a .shape) (e .pre .0) (a .pair) f (c .before .if1 .taken)) (ap (λ y. y .number) (c .outcome .ensures))
+    (subst (Points _ _ _) (sym (ap (λ y. y .finger) (c .outcome .ensures))) (f .points))
+
+mul-first-rule : tie.Need-mul-first-rule
+mul-first-rule c = let b = bounds (walked (c .before)) in omega arith
+
+sub-first-rule : tie.Need-sub-first-rule
+sub-first-rule c = let b = bounds (walked (c .before)) in omega arith
+
+part-first-rule-start : tie.Need-part-first-rule-start
+part-first-rule-start c = let b = bounds (walked (c .before .before)) in omega arith
+
+part-first-rule-end : tie.Need-part-first-rule-end
+part-first-rule-end c = let b = bounds (walked (c .before .before)) in omega arith
+
+first-rule-requires : tie.Need-first-rule-requires
+first-rule-requires c κs = entry (walked (c .before .before .before)) .pre .0
+
+same-length-2 : tie.Need-same-length-2
+same-length-2 c = walked (reached (searched (c .before .before .before)) .before) .find .kept .1 .1 .1 .0
+
+returns-2 : tie.Need-returns-2
+returns-2 c =
+    let n = c .before .before .before in
+    let k = searched n in
+    let b = reached k in
+    let d = walked (b .before) in
+    let e = entry d in
+    let a = e .args in
+    let f = found d in
+    wrong (other (a .book .now) (a .shape) (e .pre .0) (a .pair) f (b .if1 .left) (k .first-rule .result) (k .first-rule .ensures)
+    (λ z. c .before .if2 .taken (n .rule-number .ensures ∙ z))) (ap (λ y. y .number) (c .outcome2 .ensures))
+    (subst (Points _ _ _) (sym (ap (λ y. y .finger) (c .outcome2 .ensures))) (f .points))
+
+rewrite-requires : tie.Need-rewrite-requires
+rewrite-requires c κs =
+    let q = c .before in
+    let n = numbered q in
+    let k = searched n in
+    let b = reached k in
+    let d = walked (b .before) in
+    let e = entry d in
+    let a = e .args in
+    reducible (a .book .now) (a .shape) (e .pre .0) (a .pair) (found d) (b .if1 .left) (k .first-rule .result) (k .first-rule .ensures)
+    (sym (n .rule-number .ensures) ∙ q .if2 .left) (e .pre .3)
+
+-- what came of the step that the pair tells of
+step : (c : tie.After-rewrite) → let q = rewriting c in let n = numbered q in let k = searched n in let b = reached k in let d = walked (b .before) in
+    let e = entry d in let a = e .args in
+    Stepped (a .book .now) (a .shape) (e .pre .0) (a .pair) (found d) (b .if1 .left) (k .first-rule .result) (k .first-rule .ensures)
+    (sym (n .rule-number .ensures) ∙ q .if2 .left) (e .pre .3) (c .rewrite .result) (c .rewrite .last .1 .0)
+step c =
+    let q = rewriting c in
+    let n = numbered q in
+    let k = searched n in
+    let b = reached k in
+    let d = walked (b .before) in
+    let e = entry d in
+    let a = e .args in
+    stepped (a .book .now) (a .shape) (e .pre .0) (a .pair) (found d) (b .if1 .left) (k .first-rule .result) (k .first-rule .ensures)
+    (sym (n .rule-number .ensures) ∙ q .if2 .left) (e .pre .3) (c .rewrite .result) _ (c .rewrite .ensures)
+
+abbrev refused : tie.After-outcome3 → tie.After-rewrite
+refused c = c .before .before .before .before .before
+
+same-length-3 : tie.Need-same-length-3
+same-length-3 c =
+    let r = refused c in
+    r .rewrite .kept .1 .0 ∙ walked (reached (searched (numbered (rewriting r))) .before) .find .kept .1 .1 .1 .0
+
+returns-3 : tie.Need-returns-3
+returns-3 c =
+    let r = refused c in
+    let q = rewriting r in
+    let n = numbered q in
+    let k = searched n in
+    let b = reached k in
+    let d = walked (b .before) in
+    let e = entry d in
+    let a = e .args in
+    let same = sym (n .rule-number .ensures) ∙ q .if2 .left in
+    let z = told (a .book .now) (a .shape) (e .pre .0) (a .pair) (found d) (b .if1 .left) (k .first-rule .result) (k .first-rule .ensures) same (e .pre .3) in
+    let w = subst (λ y. Stepped (a .book .now) (a .shape) (e .pre .0) (a .pair) (found d) (b .if1 .left) (k .first-rule .result) (k .first-rule .ensures)
+    same (e .pre .3) y (r .rewrite .last .1 .0)) (c .before .enum-told .given .1) (step r) in
+    long _ z (w .0) (ap (λ y. y .number) (c .outcome3 .ensures)) (subst (Points _ _ _) (sym (ap (λ y. y .finger) (c .outcome3 .ensures))) (w .1))
+
+abbrev made : tie.After-outcome4 → tie.After-r
+made c = c .before .before
+
+abbrev done : tie.After-r → tie.After-rewrite
+done c = c .before .before .before .before
+
+same-length-4 : tie.Need-same-length-4
+same-length-4 c =
+    let r = done (made c) in
+    r .rewrite .kept .1 .0 ∙ walked (reached (searched (numbered (rewriting r))) .before) .find .kept .1 .1 .1 .0
+
+returns-4 : tie.Need-returns-4
+returns-4 c =
+    let r = done (made c) in
+    let q = rewriting r in
+    let n = numbered q in
+    let k = searched n in
+    let b = reached k in
+    let d = walked (b .before) in
+    let e = entry d in
+    let a = e .args in
+    let same = sym (n .rule-number .ensures) ∙ q .if2 .left in
+    let z = told (a .book .now) (a .shape) (e .pre .0) (a .pair) (found d) (b .if1 .left) (k .first-rule .result) (k .first-rule .ensures) same (e .pre .3) in
+    let w = subst (λ y. Stepped (a .book .now) (a .shape) (e .pre .0) (a .pair) (found d) (b .if1 .left) (k .first-rule .result) (k .first-rule .ensures)
+    same (e .pre .3) y (r .rewrite .last .1 .0)) (made c .r .given .1) (step r) in
+    goes _ z (w .0) (ap (λ y. y .number) (c .outcome4 .ensures)) (subst (Points _ _ _) (sym (ap (λ y. y .finger) (c .outcome4 .ensures))) (w .1))
+
+pub follow-spec : {M : Type 1} → statement M
+follow-spec =
+    tie.close
+    (tie.spec
+    find-requires (λ c κs. search needs) same-length returns mul-first-rule sub-first-rule part-first-rule-start part-first-rule-end
+    first-rule-requires (λ c κs. search needs) (λ c κs. search needs) same-length-2 returns-2 rewrite-requires (λ c. search needs) (λ c. search needs)
+    (λ c κs. search needs) same-length-3 returns-3 (λ c κs. search needs) same-length-4 returns-4)

@@ -1,0 +1,13 @@
+-- Whether a position lies in a subterm, and which argument holds it
+pub mod Insides
+pub mod Hopping
+-- The way to the finger, and the area that holds it
+pub mod Ways
+pub mod Areas
+pub mod Pointing
+-- The walk: up, and down
+pub mod Climbing
+pub mod Descending
+pub mod Finding
+-- What a replay does with the finger: it starts at the root, and stays where a step is
+pub mod Stepping
