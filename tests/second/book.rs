@@ -328,4 +328,10 @@ pub enum Plant {
     Larger,
     /// "higher of" and "lower of" take a step where only one argument is a level
     OneLevel,
+    /// 16 is checked after 12
+    FullLast,
+    /// the replay takes any rule that fits, not the lowest alone
+    AnyRule,
+    /// the replay takes places that are not active
+    AnyPlace,
 }

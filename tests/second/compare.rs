@@ -1,6 +1,7 @@
 //! One case: every operation of the product against what the paper's text gives, whole answers and whole buffers.
 
 use crate::book::{self, is_level, Book, Cue, Plant, HIGHER, HIGHER_RULE, LOWER, LOWER_RULE};
+use crate::compare_records::{compare_records, RECORDED, REPLAYED};
 use crate::demand3;
 use crate::evaluate::{evaluate, evaluate_plainly, first_fit, End, Fit, Outcome, Step};
 use crate::product::{self, Answer, Match, Part, Shape, VARIABLES};
@@ -12,8 +13,8 @@ use std::rc::Rc;
 /// Words before and after each lent buffer, which nobody may touch.
 const MARGIN: usize = 64;
 
-/// The numbers of the table: 0 to 15.
-pub const NUMBERS: usize = 16;
+/// The numbers of the table: 0 to 17.
+pub const NUMBERS: usize = 18;
 
 /// What is counted of levels and built-in words (02, F-2), in cases whose cue was handed back.
 pub const LEVELS: [&str; 6] = [
@@ -33,6 +34,8 @@ pub struct Counts {
     pub check: [u64; NUMBERS],
     pub test: [u64; NUMBERS],
     pub expand: [u64; NUMBERS],
+    pub recorded: [u64; NUMBERS],
+    pub replayed: [u64; NUMBERS],
     /// answers 0 by steps: 0, 1 to 9, 10 to 99, 100 to 999, more
     pub steps: [u64; 5],
     pub most_steps: u32,
@@ -42,6 +45,8 @@ pub struct Counts {
     /// books in which several names fail the order test
     pub several: u64,
     pub levels: [u64; LEVELS.len()],
+    pub recorded_met: [u64; RECORDED.len()],
+    pub replayed_met: [u64; REPLAYED.len()],
     pub arguments: u64,
     pub matches: u64,
     pub listed: u64,
@@ -62,8 +67,12 @@ impl Counts {
         all(&mut self.check, &o.check);
         all(&mut self.test, &o.test);
         all(&mut self.expand, &o.expand);
+        all(&mut self.recorded, &o.recorded);
+        all(&mut self.replayed, &o.replayed);
         all(&mut self.steps, &o.steps);
         all(&mut self.levels, &o.levels);
+        all(&mut self.recorded_met, &o.recorded_met);
+        all(&mut self.replayed_met, &o.replayed_met);
         self.most_steps = self.most_steps.max(o.most_steps);
         self.exact += o.exact;
         self.one_short += o.one_short;
@@ -78,53 +87,66 @@ impl Counts {
     }
 }
 
-type Checked = Result<(), String>;
+pub type Checked = Result<(), String>;
 
-fn same<T: PartialEq + std::fmt::Debug>(what: &str, expected: T, got: T) -> Checked {
+/// Counts what was met of a list.
+pub fn count(counts: &mut [u64], met: &[bool]) {
+    counts.iter_mut().zip(met).for_each(|(c, m)| *c += *m as u64);
+}
+
+pub fn same<T: PartialEq + std::fmt::Debug>(what: &str, expected: T, got: T) -> Checked {
     if expected == got {
         return Ok(());
     }
     Err(format!("{what}: the second evaluator says {expected:?}, the product {got:?}"))
 }
 
-fn answer(number: u32, place: usize, steps: u32) -> Answer {
+pub fn answer(number: u32, place: usize, steps: u32) -> Answer {
     Answer { number, place, steps }
 }
 
-/// What a lent buffer of up to 12,288 words with its margins holds before: one word, or if that is 1 a different one at each place.
+/// What a lent buffer of up to 16,384 words with its margins holds before: one word, or if that is 1 a different one at each place.
 fn dirt(kind: u16) -> Rc<Vec<u16>> {
     thread_local! {
         static MADE: RefCell<HashMap<u16, Rc<Vec<u16>>>> = RefCell::default();
     }
     let make = || {
         let word = |i: usize| if kind == 1 { (i as u16).wrapping_mul(40503) ^ 0x5A5A } else { kind };
-        Rc::new((0..12288 + 2 * MARGIN).map(word).collect())
+        Rc::new((0..16384 + 2 * MARGIN).map(word).collect())
     };
     MADE.with(|m| m.borrow_mut().entry(kind).or_insert_with(make).clone())
 }
 
 /// A lent buffer with its margins.
-struct Lent {
+pub struct Lent {
     before: Rc<Vec<u16>>,
     words: Vec<u16>,
     length: usize,
 }
 
 impl Lent {
-    fn new(length: usize, kind: u16) -> Lent {
+    pub fn new(length: usize, kind: u16) -> Lent {
         let before = dirt(kind);
         Lent { words: before[..length + 2 * MARGIN].to_vec(), before, length }
     }
 
-    fn slice(&mut self) -> &mut [u16] {
+    /// One that is handed over with words in it.
+    pub fn holding(inside: &[u16], kind: u16) -> Lent {
+        let mut lent = Lent::new(inside.len(), kind);
+        lent.slice().copy_from_slice(inside);
+        Lent { before: Rc::new(lent.words.clone()), ..lent }
+    }
+
+    pub fn slice(&mut self) -> &mut [u16] {
         let n = self.length;
         &mut self.words[MARGIN..MARGIN + n]
     }
 
     /// All words are as they were before, margins too, but for the first ones of the buffer.
-    fn check(&self, what: &str, first: &[u16]) -> Checked {
+    pub fn check(&self, what: &str, first: &[u16]) -> Checked {
         let end = MARGIN + first.len();
-        if self.words[..MARGIN] == self.before[..MARGIN] && self.words[MARGIN..end] == *first && self.words[end..] == self.before[end..self.words.len()] {
+        let (words, before) = (&self.words, &self.before[..self.words.len()]);
+        if words[..MARGIN] == before[..MARGIN] && words[MARGIN..end] == *first && words[end..] == before[end..] {
             return Ok(());
         }
         let expected = |i: usize| if (MARGIN..end).contains(&i) { first[i - MARGIN] } else { self.before[i] };
@@ -271,24 +293,24 @@ fn expanded(case: &Case, cue: &[u16], limit: u32, expected: Answer, words: Optio
 }
 
 /// An answer buffer and a work buffer.
-struct Pair {
+pub struct Pair {
     out: Lent,
     work: Lent,
 }
 
 impl Pair {
-    fn new(out_words: usize, work_words: usize, dirt: u16) -> Pair {
+    pub fn new(out_words: usize, work_words: usize, dirt: u16) -> Pair {
         Pair { out: Lent::new(out_words, dirt), work: Lent::new(work_words, dirt) }
     }
 
-    fn slices(&mut self) -> [&mut [u16]; 2] {
+    pub fn slices(&mut self) -> [&mut [u16]; 2] {
         [self.out.slice(), self.work.slice()]
     }
 
-    /// As an expansion leaves them: on 0 the words of the answer, and where the work buffer is zeroed.
-    fn check(&self, number: u32, words: Option<&[u16]>) -> Checked {
+    /// As an expansion or a replay leaves them: on 0 the words of the answer, and where the work buffer is zeroed.
+    pub fn check(&self, number: u32, words: Option<&[u16]>) -> Checked {
         self.out.check("the answer buffer", words.unwrap_or(&[]))?;
-        let zeroed = [0, 11, 12, 13].contains(&number);
+        let zeroed = [0, 11, 12, 13, 16, 17].contains(&number);
         self.work.check("the work buffer", if zeroed { &[0; 8192] } else { &[] })
     }
 }
@@ -324,21 +346,25 @@ fn twice(case: &Case, cue: &[u16], limit: u32, expected: Answer, words: Option<&
     second.check(again.number, if again.number == 0 { Some(&lent.out.slice()[..again.place]) } else { None })
 }
 
-fn expansion(case: &Case, plant: Plant, read: &Result<Book, book::Fault>, cue: &Result<Rc<Cue>, usize>, n: &mut Counts) -> Checked {
-    let mut refused = |number: u32, place: usize| {
-        n.expand[number as usize] += 1;
-        expanded(case, &case.cue, case.limit, answer(number, place, 0), None)
-    };
+/// A book and a cue that are taken, or the answer of an operation that "checks 10, then the book, then the cue".
+pub type Input<'a> = Result<(&'a Book, &'a Rc<Cue>), Answer>;
+
+fn input<'a>(case: &Case, read: &'a Result<Book, book::Fault>, cue: &'a Result<Rc<Cue>, usize>) -> Input<'a> {
     if case.out_words < 4096 || case.work_words < 8192 {
-        return refused(10, 0);
+        return Err(answer(10, 0, 0));
     }
-    let b = match read {
-        Ok(b) => b,
-        Err((number, place)) => return refused(*number, *place),
-    };
-    let c = match cue {
-        Ok(c) => c,
-        Err(place) => return refused(9, *place),
+    let b = read.as_ref().map_err(|(number, place)| answer(*number, *place, 0))?;
+    let c = cue.as_ref().map_err(|place| answer(9, *place, 0))?;
+    Ok((b, c))
+}
+
+fn expansion(case: &Case, plant: Plant, input: &Input, n: &mut Counts) -> Checked {
+    let (b, c) = match input {
+        Ok(both) => *both,
+        Err(refused) => {
+            n.expand[refused.number as usize] += 1;
+            return expanded(case, &case.cue, case.limit, *refused, None);
+        }
     };
     let o = evaluate(b, c, case.limit, plant, true, PATIENCE);
     if plant != Plant::Evaluated {
@@ -372,9 +398,7 @@ fn handed_back(case: &Case, b: &Book, o: &Outcome, words: &[u16], n: &mut Counts
     }] += 1;
     n.most_steps = n.most_steps.max(o.steps);
     n.exact += (o.steps == case.limit) as u64;
-    for (count, met) in n.levels.iter_mut().zip(levels(b, &o.trace, words)) {
-        *count += met as u64;
-    }
+    count(&mut n.levels, &levels(b, &o.trace, words));
     expanded(case, &case.cue, case.limit, answer(0, words.len(), o.steps), Some(words))?;
     // demand 3: the list of steps, for every book
     if o.steps as usize * words.len().max(case.cue.len()) < 400_000 {
@@ -457,5 +481,7 @@ pub fn compare(case: &Case, plant: Plant, n: &mut Counts) -> Checked {
             Err(0)
         }
     };
-    expansion(case, plant, &read, &cue, n)
+    let input = input(case, &read, &cue);
+    expansion(case, plant, &input, n)?;
+    compare_records(case, plant, &input, n)
 }

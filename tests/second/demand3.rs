@@ -89,15 +89,9 @@ fn built_in_instance(part: &[u16]) -> Option<(usize, Vec<u16>)> {
 pub fn check_steps(book: &Book, first: &[u16], steps: &[Step], last: &[u16]) -> Result<(), String> {
     let mut cue = first.to_vec();
     for (n, step) in steps.iter().enumerate() {
-        let mut place = 0;
-        for &i in &step.way {
-            if !book.order(cue[place]).contains(&(i as usize + 1)) {
-                return Err(format!("step {n} is not at an active place"));
-            }
-            place += 1;
-            for _ in 0..i {
-                place = part_end(book, &cue, place);
-            }
+        let place = step.index;
+        if !active_places(book, &cue).get(place).is_some_and(|&active| active) {
+            return Err(format!("step {n} is not at an active place"));
         }
         let end = part_end(book, &cue, place);
         match fitting(book, &cue[place..end]) {

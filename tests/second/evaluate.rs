@@ -1,4 +1,4 @@
-//! Evaluation on trees, recursive, straight from the paper's text (01, "Evaluation"; 02, F-2).
+//! Evaluation on trees, recursive, straight from the paper's text (01, "Evaluation"; 02, F-2 and F-3).
 //!
 //! Orders may repeat an argument, and nested repeats multiply. So a tree remembers the levels at which its evaluation took no step: what fits
 //! in it, and whether an argument is opened from level 64, depends on nothing but the tree and the level, so it takes none there again. The
@@ -7,14 +7,19 @@
 use crate::book::{is_level, Book, Cue, Plant, Side, HIGHER, HIGHER_RULE, LONGEST, LOWER, LOWER_RULE};
 use std::rc::Rc;
 
-/// A step that was taken: the arguments on the way to its place (from 0), and the rule.
-#[derive(Debug, PartialEq)]
+/// A pair of the step record (02, F-3): "the step's index in the whole cue before it and the rule's number".
+#[derive(Clone, Copy, Debug, PartialEq)]
 pub struct Step {
-    pub way: Vec<u8>,
+    pub index: usize,
     pub rule: usize,
 }
 
-/// How an evaluation ended: with a cue, with 11, 12 or 13, or given up here because it takes too long to be of use in a test.
+/// Steps as a record holds them: "for each step two words".
+pub fn pairs(steps: &[Step]) -> Vec<u16> {
+    steps.iter().flat_map(|s| [s.index as u16, s.rule as u16]).collect()
+}
+
+/// How an evaluation ended: with a cue, with 11, 12, 13 or 16, or given up here because it takes too long to be of use in a test.
 pub enum End {
     Cue(Rc<Cue>),
     Stopped(u32),
@@ -25,6 +30,8 @@ pub struct Outcome {
     pub end: End,
     pub steps: u32,
     pub trace: Vec<Step>,
+    /// the step that 11, 12 or 16 stopped, and how many words it would have left
+    pub next: Option<(Step, usize)>,
 }
 
 enum Stop {
@@ -39,8 +46,10 @@ struct Evaluator<'a> {
     /// the words of the whole cue, as it is now
     whole: usize,
     steps: u32,
-    way: Vec<u8>,
     trace: Option<Vec<Step>>,
+    next: Option<(Step, usize)>,
+    /// the words of the record; without one there is always room
+    room: usize,
     /// what may still be spent before the evaluation is given up
     patience: u64,
     remembers: bool,
@@ -72,13 +81,34 @@ pub enum Fit {
     BuiltIn(usize, u16),
 }
 
-/// The lowest-numbered rule that fits here.
-pub fn first_fit(book: &Book, cue: &Rc<Cue>, plant: Plant) -> Option<Fit> {
-    let listed = book.rules.iter().enumerate().find_map(|(number, rule)| {
+impl Fit {
+    pub fn number(&self) -> usize {
+        match self {
+            Fit::Listed(number, _) | Fit::BuiltIn(number, _) => *number,
+        }
+    }
+
+    /// What a step puts for the part.
+    pub fn reduct(&self, book: &Book) -> Rc<Cue> {
+        match self {
+            Fit::Listed(number, filling) => fill(&book.rules[*number].right, filling),
+            Fit::BuiltIn(_, level) => Cue::new(*level, vec![]),
+        }
+    }
+}
+
+/// The rules that fit here, from the lowest-numbered on.
+pub fn all_fits<'a>(book: &'a Book, cue: &'a Rc<Cue>, plant: Plant) -> impl Iterator<Item = Fit> + 'a {
+    let listed = book.rules.iter().enumerate().filter_map(|(number, rule)| {
         let mut filling = vec![];
         fits(&rule.left, cue, &mut filling).then_some(Fit::Listed(number, filling))
     });
-    listed.or_else(|| built_in_fit(cue, plant))
+    listed.chain(built_in_fit(cue, plant))
+}
+
+/// The lowest-numbered rule that fits here.
+pub fn first_fit(book: &Book, cue: &Rc<Cue>, plant: Plant) -> Option<Fit> {
+    all_fits(book, cue, plant).next()
 }
 
 /// "Where both arguments are levels, a step puts the larger or smaller level there" (02, F-2).
@@ -98,7 +128,8 @@ fn built_in_fit(cue: &Cue, plant: Plant) -> Option<Fit> {
 }
 
 impl Evaluator<'_> {
-    fn evaluate(&mut self, cue: &Rc<Cue>, level: u32) -> Result<Rc<Cue>, Stop> {
+    /// Evaluates the part at an index of the whole cue.
+    fn evaluate(&mut self, cue: &Rc<Cue>, index: usize, level: u32) -> Result<Rc<Cue>, Stop> {
         if self.remembers && cue.is_quiet(level) {
             return Ok(cue.clone());
         }
@@ -113,7 +144,7 @@ impl Evaluator<'_> {
                 }
                 self.patience -= cost;
                 if entry == 0 {
-                    if let Some(new) = self.step(&cue)? {
+                    if let Some(new) = self.step(&cue, index)? {
                         cue = new;
                         if self.plant == Plant::OldOrder {
                             continue;
@@ -128,9 +159,8 @@ impl Evaluator<'_> {
                     if self.plant == Plant::OldOrder && i >= cue.arguments.len() {
                         continue;
                     }
-                    self.way.push(i as u8);
-                    let new = self.evaluate(&cue.arguments[i], level + 1)?;
-                    self.way.pop();
+                    let before: usize = cue.arguments[..i].iter().map(|a| a.words).sum();
+                    let new = self.evaluate(&cue.arguments[i], index + 1 + before, level + 1)?;
                     if !Rc::ptr_eq(&new, &cue.arguments[i]) {
                         let mut arguments = cue.arguments.clone();
                         arguments[i] = new;
@@ -145,48 +175,64 @@ impl Evaluator<'_> {
         }
     }
 
-    /// Tries the rules: what the cue becomes by a step, if one fits.
-    fn step(&mut self, cue: &Rc<Cue>) -> Result<Option<Rc<Cue>>, Stop> {
-        let (rule, new) = match first_fit(self.book, cue, self.plant) {
-            None => return Ok(None),
-            Some(Fit::Listed(rule, filling)) => (rule, fill(&self.book.rules[rule].right, &filling)),
-            Some(Fit::BuiltIn(rule, level)) => (rule, Cue::new(level, vec![])),
-        };
+    /// Tries the rules: what the part becomes by a step, if one fits.
+    fn step(&mut self, cue: &Rc<Cue>, index: usize) -> Result<Option<Rc<Cue>>, Stop> {
+        let Some(fit) = first_fit(self.book, cue, self.plant) else { return Ok(None) };
+        let (step, new) = (Step { index, rule: fit.number() }, fit.reduct(self.book));
         let whole = self.whole - cue.words + new.words;
-        let spent = self.steps == self.allowance;
-        let overlong = whole > LONGEST;
-        if spent && !(overlong && self.plant == Plant::OverlongFirst) {
-            return Err(Stop::Number(11));
-        }
-        if overlong {
-            return Err(Stop::Number(12));
+        if let Some(number) = self.stopped(whole) {
+            self.next = Some((step, whole));
+            return Err(Stop::Number(number));
         }
         self.whole = whole;
         self.steps += 1;
         if let Some(trace) = &mut self.trace {
-            trace.push(Step { way: self.way.clone(), rule });
+            trace.push(step);
         }
         Ok(Some(new))
     }
+
+    /// What stops a step that would leave so many words: 11, then 16 ("when a step finds fewer than two words left in the record, between
+    /// 11 and 12"), then 12.
+    fn stopped(&self, whole: usize) -> Option<u32> {
+        let full = self.room - 2 * (self.steps as usize) < 2;
+        let mut checks = [(11, self.steps == self.allowance), (16, full), (12, whole > LONGEST)];
+        match self.plant {
+            Plant::OverlongFirst => checks.rotate_right(1),
+            Plant::FullLast => checks.swap(1, 2),
+            _ => {}
+        }
+        checks.iter().find(|c| c.1).map(|c| c.0)
+    }
+
+    /// Evaluates the whole cue, at level 1.
+    fn run(mut self, cue: &Rc<Cue>) -> Outcome {
+        let end = match self.evaluate(cue, 0, 1) {
+            Ok(c) => End::Cue(c),
+            Err(Stop::Number(n)) => End::Stopped(n),
+            Err(Stop::TooLong) => End::TooLong,
+        };
+        Outcome { end, steps: self.steps, trace: self.trace.unwrap_or_default(), next: self.next }
+    }
 }
 
-/// Evaluates a whole cue at level 1. `patience` bounds the work (entries followed, weighted by the cue's size and the rules tried).
+fn evaluator<'a>(book: &'a Book, cue: &Rc<Cue>, allowance: u32, plant: Plant, traced: bool, patience: u64) -> Evaluator<'a> {
+    let trace = traced.then(Vec::new);
+    let (whole, room) = (cue.words, usize::MAX);
+    Evaluator { book, allowance, plant, whole, steps: 0, trace, next: None, room, patience, remembers: true }
+}
+
+/// Evaluates a whole cue. `patience` bounds the work (entries followed, weighted by the cue's size and the rules tried).
 pub fn evaluate(book: &Book, cue: &Rc<Cue>, allowance: u32, plant: Plant, traced: bool, patience: u64) -> Outcome {
-    run(book, cue, allowance, plant, traced, patience, true)
+    evaluator(book, cue, allowance, plant, traced, patience).run(cue)
 }
 
 /// The same without the memory.
 pub fn evaluate_plainly(book: &Book, cue: &Rc<Cue>, allowance: u32, plant: Plant, traced: bool, patience: u64) -> Outcome {
-    run(book, cue, allowance, plant, traced, patience, false)
+    Evaluator { remembers: false, ..evaluator(book, cue, allowance, plant, traced, patience) }.run(cue)
 }
 
-fn run(book: &Book, cue: &Rc<Cue>, allowance: u32, plant: Plant, traced: bool, patience: u64, remembers: bool) -> Outcome {
-    let trace = traced.then(Vec::new);
-    let mut e = Evaluator { book, allowance, plant, whole: cue.words, steps: 0, way: vec![], trace, patience, remembers };
-    let end = match e.evaluate(cue, 1) {
-        Ok(c) => End::Cue(c),
-        Err(Stop::Number(n)) => End::Stopped(n),
-        Err(Stop::TooLong) => End::TooLong,
-    };
-    Outcome { end, steps: e.steps, trace: e.trace.unwrap_or_default() }
+/// The same with a lent record of `room` words (02, F-3): it holds the pairs of the trace.
+pub fn evaluate_recorded(book: &Book, cue: &Rc<Cue>, allowance: u32, room: usize, plant: Plant, patience: u64) -> Outcome {
+    Evaluator { room, ..evaluator(book, cue, allowance, plant, true, patience) }.run(cue)
 }

@@ -2,22 +2,26 @@
 //!
 //!     second [CASES] [--seed N] [--threads N] [--plant N] [--plain]
 //!
-//! CASES cases (100,000 if not said), from seed 0 (or --seed) on; one thread for each processor, if not said. --plant 1 to 7 plants a fault
+//! CASES cases (100,000 if not said), from seed 0 (or --seed) on; one thread for each processor, if not said. --plant 1 to 10 plants a fault
 //! in the second evaluator, which the run must then find. --plain leaves out what takes too long if nothing is remembered of arguments that
 //! took no step: for a product that remembers nothing. Exit status: 0 no difference; 1 a difference, printed with its seed and cut down; 2 a
-//! number of the table, or a nest of repeats, came too seldom, or bad usage.
+//! number of the table, a nest of repeats, or a kind of record came too seldom, or bad usage.
 
 mod book;
 mod compare;
+mod compare_records;
 mod demand3;
 mod evaluate;
 mod paper;
 mod product;
 mod random;
+mod random_records;
+mod replay;
 mod shrink;
 
 use book::Plant;
 use compare::{compare, Counts, LEVELS, NUMBERS};
+use compare_records::{RECORDED, REPLAYED};
 use random::Case;
 use std::sync::atomic::{AtomicU64, Ordering};
 use std::time::Instant;
@@ -56,6 +60,9 @@ fn options() -> Option<Options> {
                     "5" => Plant::LastFailing,
                     "6" => Plant::Larger,
                     "7" => Plant::OneLevel,
+                    "8" => Plant::FullLast,
+                    "9" => Plant::AnyRule,
+                    "10" => Plant::AnyPlace,
                     _ => return None,
                 }
             }
@@ -90,6 +97,8 @@ fn print_case(case: &Case) {
     }
     println!("  cue ({} words): {}", case.cue.len(), words(&case.cue));
     println!("  allowance {}, answer buffer {}, work buffer {}, filled with {}", case.limit, case.out_words, case.work_words, case.dirt);
+    println!("  record of {} words; then answer buffer {}, work buffer {}", case.room, case.again_words, case.spare_words);
+    println!("  record to be replayed ({} words): {}", case.record.len(), words(&case.record));
 }
 
 fn report(seed: u64, plant: Plant) {
@@ -107,6 +116,10 @@ fn row(label: &str, counts: &[u64; NUMBERS]) {
     println!("  {label:<12}{}", all.join(""));
 }
 
+fn list(whats: &[&str], counts: &[u64]) -> String {
+    whats.iter().zip(counts).map(|(what, c)| format!("{what} {c}")).collect::<Vec<_>>().join(", ")
+}
+
 fn statistics(n: &Counts) {
     let numbers: Vec<String> = (0..NUMBERS).map(|i| format!("{i:>7}")).collect();
     println!("  {:<12}{}", "number", numbers.join(""));
@@ -114,38 +127,48 @@ fn statistics(n: &Counts) {
     row("cue check", &n.check);
     row("order test", &n.test);
     row("expander", &n.expand);
+    row("recorded", &n.recorded);
+    row("replay", &n.replayed);
     println!(
         "  answers 0 by steps: none {}, 1 to 9 {}, 10 to 99 {}, 100 to 999 {}, more {}; the most {}",
         n.steps[0], n.steps[1], n.steps[2], n.steps[3], n.steps[4], n.most_steps
     );
     println!("  allowance just enough {}, one short {}; arguments taken out {}, fits {}", n.exact, n.one_short, n.arguments, n.matches);
     println!("  books in which several names fail the order test {}", n.several);
-    println!("  cases with {}", LEVELS.iter().zip(n.levels).map(|(what, c)| format!("{what} {c}")).collect::<Vec<_>>().join(", "));
+    println!("  cases with {}", list(&LEVELS, &n.levels));
+    println!("  recorded: {}", list(&RECORDED, &n.recorded_met));
+    println!("  replay: {}", list(&REPLAYED, &n.replayed_met));
     println!("  demand 3: lists of steps checked {}, settled cues checked and expanded again {}", n.listed, n.settled);
     println!("  the same without memory {}, too long without it {}; left out as too long {}", n.plain, n.repeats, n.too_long);
 }
 
-/// Every number of the table is to come often, and so are nested repeats, and levels of each kind: at least once in 500 cases.
+/// Every number of each operation is to come often, and so are nested repeats, levels of each kind, and what is counted of records: at least
+/// once in 500 cases.
 fn seldom(n: &Counts, plain: bool) -> Vec<String> {
     let least = n.cases / 500;
     let mut all = vec![];
     if !plain && n.repeats < least {
         all.push(format!("nested repeats came only {} times", n.repeats));
     }
-    for i in 0..NUMBERS {
-        let (name, c) = if i == 14 { ("the order test", n.test[14]) } else { ("the expander", n.expand[i]) };
-        if c < least {
-            all.push(format!("{i} of {name} came only {c} times"));
-        }
-        if (i <= 8 || i == 15) && n.read[i] < least {
-            all.push(format!("{i} of the reader came only {} times", n.read[i]));
+    let operations: [(&str, &[u64; NUMBERS], Vec<usize>); 5] = [
+        ("the reader", &n.read, (0..=8).chain([15]).collect()),
+        ("the order test", &n.test, vec![0, 14]),
+        ("the expander", &n.expand, (0..=13).chain([15]).collect()),
+        ("the recorded expander", &n.recorded, (0..=13).chain([15, 16]).collect()),
+        ("the replay", &n.replayed, (0..=10).chain([12, 15, 17]).collect()),
+    ];
+    for (name, counts, numbers) in operations {
+        for i in numbers.into_iter().filter(|&i| counts[i] < least) {
+            all.push(format!("{i} of {name} came only {} times", counts[i]));
         }
     }
-    for (what, c) in LEVELS.iter().zip(n.levels).filter(|(_, c)| *c < least) {
-        all.push(format!("{what} came only {c} times"));
+    for (whats, counts) in [(&LEVELS[..], &n.levels[..]), (&RECORDED, &n.recorded_met), (&REPLAYED, &n.replayed_met)] {
+        for (what, c) in whats.iter().zip(counts).filter(|(_, c)| **c < least) {
+            all.push(format!("{what} came only {c} times"));
+        }
     }
-    if n.test[0] < least || n.several < least || n.exact < least || n.one_short < least || n.steps[4] == 0 {
-        all.push("passed books, several failing names, allowances met by one, or thousands of steps came too seldom".into());
+    if n.several < least || n.exact < least || n.one_short < least || n.steps[4] == 0 {
+        all.push("several failing names, allowances met by one, or thousands of steps came too seldom".into());
     }
     all
 }
@@ -185,12 +208,13 @@ fn run(o: &Options) -> (Counts, Option<u64>) {
 
 fn all() -> i32 {
     let Some(o) = options() else {
-        eprintln!("second [CASES] [--seed N] [--threads N] [--plant 1|2|3|4|5|6|7] [--plain]");
+        eprintln!("second [CASES] [--seed N] [--threads N] [--plant 1 to 10] [--plain]");
         return 2;
     };
     if o.plant == Plant::Nothing {
         let mut faults = paper::paper();
         faults.extend(paper::levels());
+        faults.extend(paper::records());
         if !o.plain {
             faults.extend(paper::repeats());
         }
@@ -200,7 +224,7 @@ fn all() -> i32 {
         if !faults.is_empty() {
             return 1;
         }
-        println!("second: the paper's cases C1 to C15 and F-2's{} hold for both", if o.plain { "" } else { ", and nested repeats," });
+        println!("second: the paper's cases C1 to C15, F-2's and F-3's{} hold for both", if o.plain { "" } else { ", and nested repeats," });
     }
     let start = Instant::now();
     let (n, found) = run(&o);

@@ -1,11 +1,13 @@
-//! The papers' own cases (01, "Rehearsal cues"; 02, F-1 and F-2), typed in by hand: what they expect is held against the second evaluator
+//! The papers' own cases (01, "Rehearsal cues"; 02, F-1 to F-3), typed in by hand: what they expect is held against the second evaluator
 //! and the product.
 
 use crate::book::{self, Plant};
 use crate::compare::{compare, Counts};
-use crate::evaluate::{evaluate, End};
+use crate::compare_records::numbers;
+use crate::evaluate::{evaluate, evaluate_recorded, pairs, End};
 use crate::product;
 use crate::random::Case;
+use crate::replay::replay;
 
 const B: [u16; 39] = [
     5, 0, 2, 1, 1, 0, 5, 0, 1, 1, 2, 1, 0, 2, 1, 0, 1, 0, 3, 1, 4, 3, 1, 0, 4, 4, 2, 1, 32768, 32769, 1, 32768, 4, 3, 1, 32768, 32769, 1, 32769,
@@ -20,6 +22,21 @@ fn nested(name: u16, times: usize, around: u16) -> Vec<u16> {
     let mut v = vec![name; times];
     v.push(around);
     v
+}
+
+fn case(book: &[u16], cue: &[u16], limit: u32) -> Case {
+    Case {
+        book: book.to_vec(),
+        cue: cue.to_vec(),
+        limit,
+        out_words: 4096,
+        work_words: 8192,
+        dirt: 1,
+        room: 99,
+        record: vec![],
+        again_words: 4096,
+        spare_words: 8192,
+    }
 }
 
 struct Check {
@@ -69,12 +86,60 @@ impl Check {
                 self.faults.push(format!("{label}: the second evaluator's answer is {second_words:?}"));
             }
         }
-        let case = Case { book: book.to_vec(), cue: cue.to_vec(), limit, out_words: 4096, work_words: 8192, dirt: 1 };
-        if let Err(e) = compare(&case, Plant::Nothing, &mut Counts::default()) {
-            self.faults.push(format!("{label}: {e}"));
-        }
+        self.compares(label, &case(book, cue, limit));
         let a = product::expand(book, cue, limit, &mut [7; 4096], &mut [7; 8192]);
         self.hold(&format!("{label}, product"), expected, (a.number, a.place, a.steps));
+    }
+
+    /// Every operation, with all that it leaves in the lent buffers.
+    fn compares(&mut self, label: &str, case: &Case) {
+        if let Err(e) = compare(case, Plant::Nothing, &mut Counts::default()) {
+            self.faults.push(format!("{label}: {e}"));
+        }
+    }
+
+    fn words(&mut self, label: &str, expected: &[u16], got: &[u16]) {
+        if expected != got {
+            self.faults.push(format!("{label}: the paper says {expected:?}, got {got:?}"));
+        }
+    }
+
+    /// An expansion with a record of `room` words, and the pairs in it.
+    fn records(&mut self, label: &str, book: &[u16], cue: &[u16], (limit, room): (u32, usize), expected: (u32, usize, u32), record: &[u16]) {
+        let b = book::read(book).expect(label);
+        let o = evaluate_recorded(&b, &b.cue(cue).expect(label), limit, room, Plant::Nothing, u64::MAX);
+        let second = match o.end {
+            End::Cue(c) => (0, c.words, o.steps),
+            End::Stopped(n) => (n, 0, o.steps),
+            End::TooLong => panic!("{label}: too long"),
+        };
+        self.hold(&format!("{label}, second evaluator"), expected, second);
+        self.words(&format!("{label}, second evaluator's record"), record, &pairs(&o.trace));
+        self.compares(label, &Case { room, ..case(book, cue, limit) });
+        let mut lent = vec![7; room];
+        let a = product::expand_recorded(book, cue, limit, [&mut [7; 4096], &mut [7; 8192], &mut lent]);
+        self.hold(&format!("{label}, product"), expected, (a.number, a.place, a.steps));
+        let all = [record, &vec![7; room - record.len()]].concat();
+        self.words(&format!("{label}, product's record"), &all, &lent);
+    }
+
+    /// A record that is replayed: the three numbers, and on 0 the cue at its end.
+    fn replays(&mut self, label: &str, book: &[u16], cue: &[u16], record: &[u16], expected: (u32, usize, usize), last: &[u16]) {
+        let narrow = |(number, place, steps): (u32, usize, usize)| (number, place, steps as u32);
+        let b = book::read(book).expect(label);
+        let played = replay(&b, &b.cue(cue).expect(label), record, Plant::Nothing);
+        let n = numbers(&played);
+        self.hold(&format!("{label}, second evaluator"), narrow(expected), narrow((n.number, n.place, n.steps)));
+        if expected.0 == 0 {
+            self.words(&format!("{label}, second evaluator's cue"), last, &played.cue.to_words());
+        }
+        self.compares(label, &Case { record: record.to_vec(), ..case(book, cue, 0) });
+        let mut out = [7; 4096];
+        let n = product::replay(book, cue, &mut record.to_vec(), [&mut out, &mut [7; 8192]]);
+        self.hold(&format!("{label}, product"), narrow(expected), narrow((n.number, n.place, n.steps)));
+        if expected.0 == 0 {
+            self.words(&format!("{label}, product's cue"), last, &out[..last.len()]);
+        }
     }
 }
 
@@ -108,9 +173,8 @@ pub fn paper() -> Vec<String> {
     t.expands("C13 with allowance 63", &then12, &[4], 63, (11, 0, 63), None);
     t.expands("C14", &B, &nested(2, 63, 0), 9, (0, 64, 0), None);
     t.expands("C14 with 64 heads", &B, &nested(2, 64, 0), 9, (13, 0, 0), None);
-    let doubles = [3, 0, 2, 1, 3, 0, 0, 2, 1, 0, 1, 2, 2, 32768, 3, 1, 32768, 32768];
-    t.expands("C15", &doubles, &nested(2, 11, 0), 99, (0, 4095, 11), None);
-    t.expands("C15 with twelve", &doubles, &nested(2, 12, 0), 99, (12, 0, 11), None);
+    t.expands("C15", &DOUBLES, &nested(2, 11, 0), 99, (0, 4095, 11), None);
+    t.expands("C15 with twelve", &DOUBLES, &nested(2, 12, 0), 99, (12, 0, 11), None);
     t.faults
 }
 
@@ -185,6 +249,115 @@ fn sides(t: &mut Check) {
     t.reads("F-2, 16642 on the right", &book(&[0], &[1, 1, 0, 1, 16642]), 4, 11);
     t.reads("F-2, 16642 inside a left side", &book(&[0], &[1, 2, 1, 16642, 1, 0]), 4, 10);
     t.reads("F-2, a side without an argument of a built-in word", &book(&[0], &[1, 1, 0, 2, 16640, 16384]), 5, 13);
+}
+
+/// d(a) to p(a, a), rule 0 of C15's book: only d's order is not empty.
+const DOUBLES: [u16; 18] = [3, 0, 2, 1, 3, 0, 0, 2, 1, 0, 1, 2, 2, 32768, 3, 1, 32768, 32768];
+
+/// higher of(lower of(level 255, level 3), lower of(level 200, higher of(level 0, level 2))): argument 1 first, at index 1, by rule 129.
+const GROUP: [u16; 9] = [16640, 16641, 16639, 16387, 16641, 16584, 16640, 16384, 16386];
+
+/// The step record (02, F-3). In B chase is rule 0, head rule 1, rest rule 2.
+pub fn records() -> Vec<String> {
+    let mut t = Check { faults: vec![] };
+    t.records("F-3, C7", &B, &[4], (1, 2), (0, 3, 1), &[0, 0]);
+    t.records("F-3, C7 with allowance 0", &B, &[4], (0, 2), (11, 0, 0), &[]);
+    t.records("F-3, a cue without steps", &B, &[0], (9, 0), (0, 1, 0), &[]);
+    // head(rest(chase)): chase at 2, rest at 1, then head(chase): chase at 1, head at 0
+    let c8 = [2, 0, 1, 2, 1, 0, 0, 1];
+    t.records("F-3, C8", &B, &[2, 3, 4], (4, 8), (0, 1, 4), &c8);
+    t.records("F-3, C8 with words to spare", &B, &[2, 3, 4], (4, 11), (0, 1, 4), &c8);
+    t.records("F-3, C9", &B, &[2, 3, 4], (3, 8), (11, 0, 3), &c8[..6]);
+    t.records("F-3, C9, 11 before 16", &B, &[2, 3, 4], (3, 6), (11, 0, 3), &c8[..6]);
+    for room in [0, 1] {
+        t.records(&format!("F-3, C8 in {room} words"), &B, &[2, 3, 4], (4, room), (16, 0, 0), &[]);
+    }
+    for room in [6, 7] {
+        t.records(&format!("F-3, C8 in {room} words"), &B, &[2, 3, 4], (4, room), (16, 0, 3), &c8[..6]);
+    }
+    // then's order 1 2: chase at 0, at 2, .. at 126, which is level 64
+    let then12 = changed(8, &[1, 1], &[2, 1, 2]);
+    let chases: Vec<u16> = (0..64).flat_map(|k| [2 * k, 0]).collect();
+    t.records("F-3, C13", &then12, &[4], (64, 128), (13, 0, 64), &chases);
+    t.records("F-3, C13 with allowance 63", &then12, &[4], (63, 128), (11, 0, 63), &chases[..126]);
+    // the innermost d first
+    let inner = |n: u16| (0..n).rev().flat_map(|k| [k, 0]).collect::<Vec<u16>>();
+    t.records("F-3, C15", &DOUBLES, &nested(2, 11, 0), (99, 22), (0, 4095, 11), &inner(11));
+    t.records("F-3, C15 with twelve", &DOUBLES, &nested(2, 12, 0), (99, 24), (12, 0, 11), &inner(12)[..22]);
+    t.records("F-3, C15 with twelve, 16 before 12", &DOUBLES, &nested(2, 12, 0), (99, 23), (16, 0, 11), &inner(12)[..22]);
+    t.records("F-3, C15 with twelve, 11 before 16", &DOUBLES, &nested(2, 12, 0), (11, 23), (11, 0, 11), &inner(12)[..22]);
+    t.records("F-3, levels", &B, &GROUP, (4, 8), (0, 1, 4), &[1, 129, 4, 128, 2, 129, 0, 128]);
+    replays(&mut t, &c8, &then12);
+    overlong(&mut t, &inner(12));
+    refusals(&mut t);
+    t.faults
+}
+
+/// The replay, of C8's record and of others.
+fn replays(t: &mut Check, c8: &[u16], then12: &[u16]) {
+    let cue = [2, 3, 4];
+    t.replays("F-3, C8 again", &B, &cue, c8, (0, 1, 4), &[0]);
+    t.replays("F-3, no pairs", &B, &cue, &[], (0, 3, 0), &cue);
+    t.replays("F-3, three of C8's pairs", &B, &cue, &c8[..6], (0, 4, 3), &[2, 1, 0, 4]);
+    t.replays("F-3, half of the last pair", &B, &cue, &c8[..7], (17, 3, 3), &[]);
+    t.replays("F-3, half a pair", &B, &cue, &[2], (17, 0, 0), &[]);
+    t.replays("F-3, a pair more", &B, &cue, &[c8, &[0, 0]].concat(), (17, 4, 4), &[]);
+    t.replays("F-3, head's rule at chase", &B, &cue, &[2, 1], (17, 0, 0), &[]);
+    t.replays("F-3, head's rule at rest", &B, &cue, &[2, 0, 1, 1], (17, 1, 1), &[]);
+    t.replays("F-3, no rule fits", &B, &cue, &[1, 2], (17, 0, 0), &[]);
+    t.replays("F-3, the cue's length for an index", &B, &cue, &[3, 0], (17, 0, 0), &[]);
+    t.replays("F-3, the largest words", &B, &cue, &[65535, 65535], (17, 0, 0), &[]);
+    t.replays("F-3, pairs changed about", &B, &cue, &[1, 2, 2, 0], (17, 0, 0), &[]);
+    // head(rest(then(flash, chase))): then holds back chase at 4, unless its order is 1 2
+    t.replays("F-3, held back", &B, &cue, &[2, 0, 4, 0], (17, 1, 1), &[]);
+    t.replays("F-3, opened", then12, &cue, &[2, 0, 4, 0], (0, 7, 2), &[2, 3, 1, 0, 1, 0, 4]);
+    // the expander answers 13 here
+    t.replays("F-3, not in our order", then12, &cue, &[2, 0, 4, 0, 1, 2, 0, 1], (0, 1, 4), &[0]);
+    // a hundred heads round then(flash, flash): 13 for the expander, as an argument would be opened from level 64
+    let deep = [&[2; 100][..], &[1, 0, 0]].concat();
+    t.replays("F-3, at level 100", &B, &deep, &[99, 1], (0, 100, 1), &nested(2, 99, 0));
+    // one name without an order, and its rule twice: index 0 is active all the same, and the lowest rule is 0
+    let same = [1, 0, 1, 0, 2, 1, 0, 1, 0, 1, 0, 1, 0];
+    t.replays("F-3, the lowest rule", &same, &[0], &[0, 0, 0, 0], (0, 1, 2), &[0]);
+    t.replays("F-3, a higher rule that fits", &same, &[0], &[0, 0, 0, 1], (17, 1, 1), &[]);
+    // the innermost group first: 6, then lower of at 4, lower of at 1, higher of at 0
+    t.replays("F-3, levels in another order", &B, &GROUP, &[6, 128, 4, 129, 1, 129, 0, 128], (0, 1, 4), &[16387]);
+    t.replays("F-3, higher of for lower of", &B, &GROUP, &[6, 128, 4, 128], (17, 1, 1), &[]);
+    t.replays("F-3, one argument is no level", &B, &GROUP, &[4, 129], (17, 0, 0), &[]);
+}
+
+/// Replays round 12: twelve d, of which the last step at 0 would leave 8,191 words.
+fn overlong(t: &mut Check, twelve: &[u16]) {
+    let cue = nested(2, 12, 0);
+    let mut play = |label: &str, record: &[u16], expected: (u32, usize, usize), last: &[u16]| {
+        t.replays(&format!("F-3, twelve doublings, {label}"), &DOUBLES, &cue, record, expected, last);
+    };
+    play("all", twelve, (12, 0, 11), &[]);
+    play("a wrong pair behind", &[twelve, &[9, 9]].concat(), (12, 0, 11), &[]);
+    play("half a pair behind", &[twelve, &[9]].concat(), (12, 0, 11), &[]);
+    play("another rule for the last", &[&twelve[..23], &[1]].concat(), (17, 11, 11), &[]);
+    play("half of the last", &twelve[..23], (17, 11, 11), &[]);
+    play("a wrong pair before", &[&twelve[..20], &[0, 1], &twelve[20..]].concat(), (17, 10, 10), &[]);
+    // p(d^11(z), d^11(z)), where p's order is empty
+    play("the outermost first", &[0, 0], (0, 25, 1), &[&[1][..], &nested(2, 11, 0), &nested(2, 11, 0)].concat());
+    play("an argument of p", &[0, 0, 1, 0], (17, 1, 1), &[]);
+}
+
+/// "It checks 10, book and cue first", in this order: C2's book and C12's cue 2, with half a pair for a record.
+fn refusals(t: &mut Check) {
+    for (label, book, cue, out, expected) in [
+        ("10 before the book", &B[..38], &[2][..], 4095, (10, 0, 0)),
+        ("the book before the cue", &B[..38], &[2], 4096, (1, 38, 0)),
+        ("the cue before the record", &B, &[2], 4096, (9, 1, 0)),
+        ("the record", &B, &[4], 4096, (17, 0, 0)),
+    ] {
+        let n = product::replay(book, cue, &mut [0], [&mut vec![7; out], &mut [7; 8192]]);
+        t.hold(&format!("F-3, replay, {label}"), expected, (n.number, n.place, n.steps as u32));
+        let expected = if expected.0 == 17 { (16, 0, 0) } else { expected };
+        let n = product::expand_recorded(book, cue, 9, [&mut vec![7; out], &mut [7; 8192], &mut [7]]);
+        t.hold(&format!("F-3, expansion, {label}"), expected, (n.number, n.place, n.steps));
+        t.compares(&format!("F-3, {label}"), &Case { out_words: out, room: 1, record: vec![0], ..case(book, cue, 9) });
+    }
 }
 
 /// Orders that repeat an argument, nested, as crates/rehearsal has them; what they expect is worked out there by hand.

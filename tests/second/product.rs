@@ -53,6 +53,22 @@ pub struct Twice {
     pub second: Answer,
 }
 
+/// A replay's three numbers: its steps are the pairs, of which a record may hold more than 32 bits count.
+#[repr(C)]
+#[derive(Clone, Copy, Debug, PartialEq)]
+pub struct Replayed {
+    pub number: u32,
+    pub place: usize,
+    pub steps: usize,
+}
+
+#[repr(C)]
+#[derive(Clone, Copy, Debug, PartialEq)]
+pub struct Retraced {
+    pub answer: Answer,
+    pub replay: Replayed,
+}
+
 pub mod c {
     use super::*;
     #[link(name = "cue", kind = "static")]
@@ -101,6 +117,48 @@ pub mod c {
             spare: *mut u16,
             spare_words: usize,
         ) -> Twice;
+        pub fn cue_expand_recorded(
+            book: *const u16,
+            book_words: usize,
+            term: *const u16,
+            term_words: usize,
+            limit: u32,
+            out: *mut u16,
+            out_words: usize,
+            work: *mut u16,
+            work_words: usize,
+            record: *mut u16,
+            record_words: usize,
+        ) -> Answer;
+        pub fn cue_replay(
+            book: *const u16,
+            book_words: usize,
+            term: *const u16,
+            term_words: usize,
+            record: *const u16,
+            record_words: usize,
+            out: *mut u16,
+            out_words: usize,
+            work: *mut u16,
+            work_words: usize,
+        ) -> Replayed;
+        pub fn cue_expand_retraced(
+            book: *const u16,
+            book_words: usize,
+            term: *const u16,
+            term_words: usize,
+            limit: u32,
+            out: *mut u16,
+            out_words: usize,
+            work: *mut u16,
+            work_words: usize,
+            record: *mut u16,
+            record_words: usize,
+            again: *mut u16,
+            again_words: usize,
+            spare: *mut u16,
+            spare_words: usize,
+        ) -> Retraced;
     }
 }
 
@@ -181,6 +239,70 @@ pub fn expand_twice(book: &[u16], term: &[u16], limit: u32, first: [&mut [u16]; 
             out.len(),
             work.as_mut_ptr(),
             work.len(),
+            again.as_mut_ptr(),
+            again.len(),
+            spare.as_mut_ptr(),
+            spare.len(),
+        )
+    }
+}
+
+/// The buffers: answer, work and record.
+pub fn expand_recorded(book: &[u16], term: &[u16], limit: u32, lent: [&mut [u16]; 3]) -> Answer {
+    let [out, work, record] = lent;
+    unsafe {
+        c::cue_expand_recorded(
+            book.as_ptr(),
+            book.len(),
+            term.as_ptr(),
+            term.len(),
+            limit,
+            out.as_mut_ptr(),
+            out.len(),
+            work.as_mut_ptr(),
+            work.len(),
+            record.as_mut_ptr(),
+            record.len(),
+        )
+    }
+}
+
+/// The record is only read. It is handed over as one that may be written, so that a caller who looks for a change would see it.
+pub fn replay(book: &[u16], term: &[u16], record: &mut [u16], lent: [&mut [u16]; 2]) -> Replayed {
+    let [out, work] = lent;
+    unsafe {
+        c::cue_replay(
+            book.as_ptr(),
+            book.len(),
+            term.as_ptr(),
+            term.len(),
+            record.as_mut_ptr(),
+            record.len(),
+            out.as_mut_ptr(),
+            out.len(),
+            work.as_mut_ptr(),
+            work.len(),
+        )
+    }
+}
+
+/// The buffers of the expansion: answer, work and record; and of the replay: answer and work.
+pub fn expand_retraced(book: &[u16], term: &[u16], limit: u32, first: [&mut [u16]; 3], second: [&mut [u16]; 2]) -> Retraced {
+    let [out, work, record] = first;
+    let [again, spare] = second;
+    unsafe {
+        c::cue_expand_retraced(
+            book.as_ptr(),
+            book.len(),
+            term.as_ptr(),
+            term.len(),
+            limit,
+            out.as_mut_ptr(),
+            out.len(),
+            work.as_mut_ptr(),
+            work.len(),
+            record.as_mut_ptr(),
+            record.len(),
             again.as_mut_ptr(),
             again.len(),
             spare.as_mut_ptr(),

@@ -1,7 +1,9 @@
 //! Random books and cues. Each case comes from its own seed alone, so that it can be made again.
 
-use crate::book::{self, Book, Plant, HIGHER, HOLE, LEVEL, LOWER};
-use crate::evaluate::{evaluate, End};
+use crate::book::{self, Book, Cue, Plant, HIGHER, HOLE, LEVEL, LOWER};
+use crate::evaluate::{evaluate, End, Outcome};
+use crate::random_records::{noise, record, room};
+use std::rc::Rc;
 
 /// A small generator of random numbers (xorshift64*), so that the cases are the same on every machine.
 pub struct Random(u64);
@@ -105,6 +107,13 @@ pub struct Case {
     pub work_words: usize,
     /// what the buffers are filled with before: one word, or if it is 1 a different one at each place
     pub dirt: u16,
+    /// the words of the record that the expander is lent
+    pub room: usize,
+    /// the record that is replayed
+    pub record: Vec<u16>,
+    /// answer buffer and work buffer of the replay that follows an expansion
+    pub again_words: usize,
+    pub spare_words: usize,
 }
 
 /// More work than this is too much for one case.
@@ -992,28 +1001,33 @@ pub fn case(seed: u64) -> Case {
     }
     let (out_words, work_words) = buffers(r);
     let dirt = *r.pick(&[0, 1, 1, 0xAAAA, 65535]);
-    let limit = limit(r, scale, &book, &cue);
-    Case { book, cue, limit, out_words, work_words, dirt }
+    let read = book::read(&book).ok().and_then(|b| b.cue(&cue).ok().map(|c| (b, c)));
+    let (limit, room, record) = match &read {
+        Some((b, c)) => {
+            let (limit, o) = limit(r, scale, b, c);
+            (limit, room(r, &o, limit), record(r, b, c, &o))
+        }
+        None => (r.below(10) as u32, r.below(10), noise(r)),
+    };
+    let (again_words, spare_words) = buffers(r);
+    Case { book, cue, limit, out_words, work_words, dirt, room, record, again_words, spare_words }
 }
 
-/// An allowance that is met by one more or less, or far from being met.
-fn limit(r: &mut Random, scale: Scale, book: &[u16], cue: &[u16]) -> u32 {
+/// An allowance that is met by one more or less, or far from being met, and an expansion with at least that.
+fn limit(r: &mut Random, scale: Scale, b: &Book, c: &Rc<Cue>) -> (u32, Outcome) {
     let most = scale.of(64 + r.below(60) as u32, 700, 6000);
     let patience = scale.of(PATIENCE / 50, PATIENCE / 5, PATIENCE);
-    let Ok(b) = book::read(book) else {
-        return r.below(10) as u32;
-    };
-    let Ok(c) = b.cue(cue) else {
-        return r.below(10) as u32;
-    };
-    let o = evaluate(&b, &c, most, Plant::Nothing, false, patience);
+    let o = evaluate(b, c, most, Plant::Nothing, true, patience);
     let n = o.steps;
-    match o.end {
+    let limit = match o.end {
         End::TooLong => n / 2,
         End::Stopped(11) => {
             let some = r.below(most as usize) as u32;
             *r.pick(&[most, most, most / 2, 0, 1, some])
         }
+        // mostly not spent just there, so that 12 comes
+        End::Stopped(12) => *r.pick(&[n, n, n / 2, n + 1, n + 1, n + 1, n + 2, u32::MAX, u32::MAX]),
         _ => *r.pick(&[n, n, n, n + 1, n + 1, n.wrapping_sub(1), n.saturating_sub(1), n / 2, 0, u32::MAX, u32::MAX - 1, 1000.max(n)]),
-    }
+    };
+    (limit, o)
 }

@@ -1,9 +1,10 @@
 //! Cutting a case down while it still shows a difference.
 
-use crate::book;
+use crate::book::{self, Book, Cue, Plant};
 use crate::compare::{compare, Counts};
 use crate::random::{Case, Draft};
-use crate::book::Plant;
+use crate::replay::replay;
+use std::rc::Rc;
 
 fn differs(case: &Case, plant: Plant) -> bool {
     compare(case, plant, &mut Counts::default()).is_err()
@@ -27,18 +28,32 @@ fn smaller(case: &Case) -> Vec<Case> {
     if case.work_words > 8192 {
         put(&|c| c.work_words = 8192);
     }
+    if (case.again_words, case.spare_words) != (4096, 8192) {
+        put(&|c| (c.again_words, c.spare_words) = (4096, 8192));
+    }
     for l in [0, case.limit / 2, case.limit.wrapping_sub(1)] {
         if l < case.limit {
             put(&|c| c.limit = l);
         }
     }
+    for room in [0, case.room / 2, case.room.saturating_sub(1)] {
+        if room < case.room {
+            put(&|c| c.room = room);
+        }
+    }
+    for record in shorter(&case.record) {
+        put(&|c| c.record = record.clone());
+    }
     if let Ok(b) = book::read(&case.book) {
         let d = Draft::of(&b);
-        // rules
+        // rules, and their numbers in the record
         for k in 0..d.rules.len() {
             let mut e = d.clone();
             e.rules.remove(k);
-            put(&|c| c.book = e.write());
+            put(&|c| {
+                c.book = e.write();
+                c.record.iter_mut().skip(1).step_by(2).filter(|w| (k + 1..128).contains(&(**w as usize))).for_each(|w| *w -= 1);
+            });
         }
         // the last name, where nothing uses it
         let last = d.counts.len() as u16 - 1;
@@ -81,9 +96,12 @@ fn smaller(case: &Case) -> Vec<Case> {
             }
         }
         // parts of the cue
-        if b.cue(&case.cue).is_ok() && case.cue.len() < 600 {
+        if let Some(cue) = b.cue(&case.cue).ok().filter(|c| c.words < 600) {
             for w in parts(&d, &case.cue) {
                 put(&|c| c.cue = w.clone());
+            }
+            for (cue, record) in onward(&b, &cue, &case.record) {
+                put(&|c| (c.cue, c.record) = (cue.clone(), record.clone()));
             }
         }
     } else {
@@ -105,6 +123,45 @@ fn smaller(case: &Case) -> Vec<Case> {
             }
             size /= 2;
         }
+    }
+    all
+}
+
+/// Records with some pairs less (of a long one many at once), without a half pair, and with a smaller word.
+fn shorter(record: &[u16]) -> Vec<Vec<u16>> {
+    let mut all = vec![];
+    let mut size = record.len().next_power_of_two();
+    while size > record.len() / 64 && size > 1 {
+        for at in (0..record.len()).step_by(size) {
+            let end = (at + size).min(record.len());
+            all.push([&record[..at], &record[end..]].concat());
+        }
+        size /= 2;
+    }
+    if record.len() % 2 == 1 {
+        all.push(record[..record.len() - 1].to_vec());
+    }
+    for at in (0..record.len().min(100)).filter(|&at| record[at] > 0) {
+        for w in [0, record[at] / 2, record[at] - 1] {
+            all.push([&record[..at], &[w], &record[at + 1..]].concat());
+        }
+    }
+    all
+}
+
+/// A cue and its record with the first pair done already, or with an argument for the whole cue.
+fn onward(b: &Book, cue: &Rc<Cue>, record: &[u16]) -> Vec<(Vec<u16>, Vec<u16>)> {
+    let mut all = vec![];
+    if record.len() >= 2 {
+        let first = replay(b, cue, &record[..2], Plant::Nothing);
+        if first.stop.is_none() {
+            all.push((first.cue.to_words(), record[2..].to_vec()));
+        }
+    }
+    for (start, argument) in (1..=cue.arguments.len()).filter_map(|i| Book::argument(cue, i)) {
+        let inside = |pair: &&[u16]| pair[0] as usize >= start;
+        let moved = |pair: &[u16]| [&[pair[0] - start as u16], &pair[1..]].concat();
+        all.push((argument.to_words(), record.chunks(2).filter(inside).flat_map(moved).collect()));
     }
     all
 }
