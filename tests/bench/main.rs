@@ -1,6 +1,6 @@
 //! The product, another archive of it if there is one, and the second evaluator on the same inputs in one run: how long each takes, steps
 //! for each second, and the ratios. Where the command `maude` is present it evaluates the same systems with its `strat` attributes; all must
-//! agree on the answers.
+//! agree on the answers. Then what a step record costs the product, and its replay.
 //!
 //!     bench [SECONDS for each measurement; 0.3 if not said]
 //!
@@ -17,6 +17,7 @@ mod evaluate;
 mod product;
 mod archives;
 mod maude;
+mod records;
 
 use archives::{Archive, OTHER, PRODUCT};
 use book::{Book, Plant, HIGHER, HOLE, LEVEL, LOWER};
@@ -299,14 +300,16 @@ fn all() -> i32 {
     heading();
     let (few, many) = (small("small cue", 0, 40), small("small cue, 254 names", 250, 40));
     let (higher, both) = (group("group, higher of", &[HIGHER], 1000), group("group, both in turn", &[HIGHER, LOWER], 1000));
-    for w in [counting(1500), few, many, chase(400), wide(10), doubling(), repeats(4), repeats(62), higher, both] {
-        expansion(&w, least, &mut agree);
+    let works = [counting(1500), few, many, chase(400), wide(10), doubling(), repeats(4), repeats(62), higher, both];
+    for w in &works {
+        expansion(w, least, &mut agree);
     }
     agree &= largest_book("reading, largest book", least, Archive::read, |b| book::read(b).is_ok(), largest().len());
     agree &= largest_book("order test, largest book", least, Archive::test, |b| book::read(b).unwrap().test(Plant::Nothing) == (0, 0), 0);
     println!("(ratio: the product's time by the second evaluator's, which works on shared trees with a heap; both from words to words.");
     println!(" With another archive: the product's time by the other's. A nest of repeats that it would not end is left out there, and so is a");
     println!(" group of levels that it does not know.)");
+    agree &= records::table(&works, least);
     if !maude::present() {
         println!("(maude is not installed: its runs are skipped)");
     }

@@ -75,13 +75,18 @@ fn cramped(case: &Case) -> bool {
     case.again_words < 4096 || case.spare_words < 8192
 }
 
+/// A fault of a buffer, with the operation that left it so.
+fn of(operation: &'static str) -> impl Fn(String) -> String {
+    move |fault| format!("{operation}: {fault}")
+}
+
 /// The product's recorded expansion: "after any answer the record holds the pairs of the steps reported, its other words unchanged".
 fn expanded(case: &Case, expected: &Recorded) -> Checked {
     let (mut lent, mut record) = (Pair::new(case.out_words, case.work_words, case.dirt), Lent::new(case.room, case.dirt));
     let [out, work] = lent.slices();
     let got = product::expand_recorded(&case.book, &case.cue, case.limit, [out, work, record.slice()]);
     same("expanding with a record", expected.answer, got)?;
-    lent.check(got.number, expected.words.as_deref())?;
+    lent.check(got.number, expected.words.as_deref()).map_err(of("expanding with a record"))?;
     record.check("the record", &expected.pairs)
 }
 
@@ -94,7 +99,7 @@ fn retraced(case: &Case, expected: &Recorded) -> Checked {
     let got = product::expand_retraced(&case.book, &case.cue, case.limit, [out, work, record.slice()], second.slices());
     let a = expected.answer;
     same("expanding, to be replayed", a, got.answer)?;
-    first.check(a.number, expected.words.as_deref())?;
+    first.check(a.number, expected.words.as_deref()).map_err(of("expanding, to be replayed"))?;
     record.check("the record to be replayed", &expected.pairs)?;
     let finished = expected.words.as_deref().filter(|_| !cramped(case));
     let replay = match finished {
@@ -103,7 +108,7 @@ fn retraced(case: &Case, expected: &Recorded) -> Checked {
     };
     same("replaying what was expanded", replay, got.replay)?;
     // untouched, as on 10, where nothing was replayed
-    second.check(if finished.is_some() { 0 } else { 10 }, finished)
+    second.check(if finished.is_some() { 0 } else { 10 }, finished).map_err(of("replaying what was expanded"))
 }
 
 /// The three numbers of a replay.
@@ -132,7 +137,7 @@ fn replayed(case: &Case, plant: Plant, input: &Input, n: &mut Counts) -> Checked
     let (mut lent, mut record) = (Pair::new(case.out_words, case.work_words, case.dirt), Lent::holding(&case.record, case.dirt));
     let got = product::replay(&case.book, &case.cue, record.slice(), lent.slices());
     same("replaying", expected, got)?;
-    lent.check(got.number, words.as_deref())?;
+    lent.check(got.number, words.as_deref()).map_err(of("replaying"))?;
     record.check("the record that was read", &[])
 }
 
