@@ -5,12 +5,16 @@
 #include "cue.h"
 
 #define ROOM (CUE_BOOK_WORDS + 1)
+#define PAIRS 70000 /* more than a word counts */
 
 static uint16_t book[ROOM];
 static size_t words;
 static uint16_t term[CUE_TERM_WORDS + 1];
 static uint16_t out[CUE_TERM_WORDS];
 static uint16_t work[CUE_WORK_WORDS];
+static uint16_t again[CUE_TERM_WORDS];
+static uint16_t spare[CUE_WORK_WORDS];
+static uint16_t record[2 * PAIRS + 2];
 static int wrong;
 
 static void check(const char *what, unsigned long got, unsigned long expected) {
@@ -115,9 +119,67 @@ static void levels(void) {
   check("a left side of the word after lower of", starts(CUE_LOWER_OF + 1), CUE_STRANGER);
 }
 
+/* names 0 and 1 without arguments; rule 0 puts name 0 for name 1, whose order is 0, and rule 1, which is never the lowest, name 1 */
+static void one_step(void) {
+  words = 0;
+  put(2), put(0), put(0), put(2), put(0), put(1), put(0);
+  put(2), put(1), put(1), put(1), put(0), put(1), put(1), put(1), put(1);
+  term[0] = 1;
+}
+
+static cue_answer recorded(uint32_t limit, size_t record_words) {
+  return cue_expand_recorded(book, words, term, 1, limit, out, CUE_TERM_WORDS, work, CUE_WORK_WORDS, record, record_words);
+}
+
+static cue_replayed replayed(size_t record_words) {
+  return cue_replay(book, words, term, 1, record, record_words, out, CUE_TERM_WORDS, work, CUE_WORK_WORDS);
+}
+
+static void replay_is(const char *what, cue_replayed r, uint32_t number, size_t place, size_t steps) {
+  check(what, r.number, number);
+  check(what, r.place, place);
+  check(what, r.steps, steps);
+}
+
+/* 02, F-3: the step record and its replay */
+static void records(void) {
+  size_t i;
+  cue_retraced t;
+  check("the size of a replay's numbers", sizeof(cue_replayed), 3 * sizeof(size_t));
+  check("the size of both answers", sizeof(cue_retraced), sizeof(cue_answer) + sizeof(cue_replayed));
+  one_step();
+  record[0] = record[1] = 9;
+  check("a record of one word", recorded(1, 1).number, CUE_RECORD_FULL);
+  check("a word of a record that is too short", record[0], 9);
+  check("no allowance comes before no room", recorded(0, 1).number, CUE_SPENT);
+  check("a record of two words", recorded(1, 2).number, CUE_TAKEN);
+  check("the step's index", record[0], 0);
+  check("the step's rule", record[1], 0);
+  replay_is("the replay of a step", replayed(2), CUE_TAKEN, 1, 1);
+  replay_is("the replay of half a pair", replayed(1), CUE_NO_STEP, 0, 0);
+  record[1] = 1;
+  replay_is("the replay of a higher rule", replayed(2), CUE_NO_STEP, 0, 0);
+  t = cue_expand_retraced(book, words, term, 1, 1, out, CUE_TERM_WORDS, work, CUE_WORK_WORDS, record, 4, again, CUE_TERM_WORDS, spare,
+                          CUE_WORK_WORDS);
+  check("the steps before a replay", t.answer.steps, 1);
+  replay_is("the replay after an expansion", t.replay, CUE_TAKEN, 1, 1);
+  t = cue_expand_retraced(book, words, term, 1, 0, out, CUE_TERM_WORDS, work, CUE_WORK_WORDS, record, 4, again, CUE_TERM_WORDS, spare,
+                          CUE_WORK_WORDS);
+  replay_is("no replay", t.replay, CUE_SPENT, 0, 0);
+
+  /* without its first rule the name stays as it is, as often as anyone likes */
+  words -= 9;
+  put(1), put(1), put(1), put(1), put(1);
+  for (i = 0; i < 2 * PAIRS; i++) record[i] = 0;
+  replay_is("many pairs", replayed(2 * PAIRS), CUE_TAKEN, 1, PAIRS);
+  record[2 * PAIRS] = 1;
+  replay_is("a wrong pair behind many", replayed(2 * PAIRS + 2), CUE_NO_STEP, PAIRS, PAIRS);
+}
+
 int main(void) {
   static const char *const table[] = {"taken",      "short",   "count", "entry",    "stranger", "ragged",    "headless", "stray", "surplus",
-                                      "broken cue", "cramped", "spent", "overlong", "nested",   "unsettled", "builtin"};
+                                      "broken cue", "cramped", "spent", "overlong", "nested",   "unsettled", "builtin",
+                                      "full",       "pair"};
   size_t i;
   make(CUE_SYMBOLS, CUE_ARGUMENTS, CUE_ENTRIES, 0, 1);
   check("the most names, arguments and entries", reads(), CUE_TAKEN);
@@ -163,10 +225,11 @@ int main(void) {
   check("a level too deep", cue_expand(book, words, term, CUE_LEVELS + 1, 0, out, CUE_TERM_WORDS, work, CUE_WORK_WORDS).number, CUE_NESTED);
 
   levels();
+  records();
 
   /* the words of 01's table, by the numbers' names */
   for (i = 0; i < sizeof table / sizeof table[0]; i++) check(table[i], strcmp(cue_word((uint32_t)i), table[i]) == 0, 1);
-  check("a number that is not in the table", strcmp(cue_word(CUE_BUILTIN + 1), "?") == 0, 1);
+  check("a number that is not in the table", strcmp(cue_word(CUE_NO_STEP + 1), "?") == 0, 1);
   if (!wrong) printf("outside: the header's sizes, limits and words are those of the functions\n");
   return wrong;
 }
