@@ -1,7 +1,7 @@
 #!/usr/bin/env bash
 # The checks from outside: the C interface and its header, the stack of each operation, the C example, random books against the second
-# evaluator (which must also find ten planted faults), the words tool, the examples, and the programs' files. Everything is written under
-# target/outside.
+# evaluator (which must also find ten planted faults), the words tool, the examples, the programs' files, and the steps tool. Everything is
+# written under target/outside.
 #     tests/run.sh [CASES of the random run; 100000 if not said]
 set -euo pipefail
 cd "$(dirname "$0")/.."
@@ -96,13 +96,28 @@ for folder in examples/*/; do
     say "example $name prints what it should"
 done
 prints() { # SCRIPT PROGRAM
-    said=$(bash "$1" "target/bin/$2") || { printf '%s\n' "$said"; fail "$2 prints something else for its files"; }
+    said=$(bash "$1" "$2") || { printf '%s\n' "$said"; fail "$2 prints something else for its files"; }
     say "$said"
 }
-prints tests/program.sh expand
-prints tests/check_book.sh check_book
+prints tests/program.sh target/bin/expand
+prints tests/check_book.sh target/bin/check_book
 
-# 7. the benchmark builds, for one archive and for two, and all agree (its times are not looked at here)
+# 7. the steps tool: an example with the expander's own record, one in another order and one with a wrong pair; and its files
+quiet gcc -std=c99 -Wall -Wextra -pedantic -Werror -Iinclude tools/steps.c "$archive" -o "$to/steps"
+example=examples/step-record
+files=("$to/step-record/show.book" "$to/step-record/show.cue")
+for record in ours other held; do
+    tools/words pack "$example/record-$record.txt" "$to/step-record/$record"
+    "$to/steps" "${files[@]}" "$to/step-record/$record" > "$to/step-record/steps" || [ "$record" = held ] || fail "the record $record is refused"
+    diff "$example/steps-$record" "$to/step-record/steps" || fail "the steps of record $record are others"
+done
+"$to/steps" -o "$to/step-record/written" "${files[@]}" > "$to/step-record/steps" || fail "the example is not expanded"
+diff "$example/steps-ours" "$to/step-record/steps" || fail "the example's steps are others"
+cmp "$to/step-record/ours" "$to/step-record/written" || fail "the example's record is another"
+say "the steps tool shows the example's three records"
+prints tests/steps.sh "$to/steps"
+
+# 8. the benchmark builds, for one archive and for two, and all agree (its times are not looked at here)
 quiet env BUILT=1 bash tests/bench/run.sh 0
 quiet env BUILT=1 bash tests/bench/run.sh 0 "$archive"
 say "the benchmark agrees; tests/bench/run.sh shows its times"
