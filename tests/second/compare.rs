@@ -51,6 +51,8 @@ pub struct Counts {
     pub matches: u64,
     pub listed: u64,
     pub settled: u64,
+    /// replays held to demand 3's words
+    pub followed: u64,
     pub too_long: u64,
     /// evaluated without the memory as well; too long without it
     pub plain: u64,
@@ -81,6 +83,7 @@ impl Counts {
         self.matches += o.matches;
         self.listed += o.listed;
         self.settled += o.settled;
+        self.followed += o.followed;
         self.too_long += o.too_long;
         self.plain += o.plain;
         self.repeats += o.repeats;

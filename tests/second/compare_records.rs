@@ -3,7 +3,8 @@
 
 use crate::book::{Book, Cue, Plant, LONGEST};
 use crate::compare::{answer, count, same, Checked, Counts, Input, Lent, Pair};
-use crate::evaluate::{all_fits, evaluate, evaluate_recorded, pairs, End, Fit};
+use crate::demand3;
+use crate::evaluate::{all_fits, evaluate, evaluate_recorded, pairs, End, Fit, Step};
 use crate::product::{self, Answer, Replayed};
 use crate::random::{Case, PATIENCE};
 use crate::replay::{replay, Place, Replay, Stop, Wrong};
@@ -130,6 +131,10 @@ fn replayed(case: &Case, plant: Plant, input: &Input, n: &mut Counts) -> Checked
         Ok((b, c)) => {
             let played = replay(b, c, &case.record, plant);
             count(&mut n.replayed_met, &met(b, c, &case.record, &played));
+            if plant == Plant::Nothing && (1 + played.steps) * case.cue.len().max(played.cue.words) < 20_000 {
+                n.followed += 1;
+                by_definition(b, case, &played).map_err(of("demand 3's words"))?;
+            }
             (numbers(&played), played.stop.is_none().then(|| played.cue.to_words()))
         }
     };
@@ -139,6 +144,20 @@ fn replayed(case: &Case, plant: Plant, input: &Input, n: &mut Counts) -> Checked
     same("replaying", expected, got)?;
     lent.check(got.number, words.as_deref()).map_err(of("replaying"))?;
     record.check("the record that was read", &[])
+}
+
+/// The second evaluator's own replay against the definitions on words: the steps completed lead to its cue, and the pair that it stopped at is
+/// no step from there.
+fn by_definition(b: &Book, case: &Case, played: &Replay) -> Checked {
+    let steps: Vec<Step> = case.record.chunks_exact(2).map(|p| Step { index: p[0] as usize, rule: p[1] as usize }).collect();
+    let cue = demand3::after(b, &case.cue, &steps[..played.steps])?;
+    if cue != played.cue.to_words() {
+        return Err("the steps lead to another cue".into());
+    }
+    match steps.get(played.steps) {
+        Some(&next) if demand3::after(b, &cue, &[next]).is_ok() => Err(format!("pair {} is a step", played.steps)),
+        _ => Ok(()),
+    }
 }
 
 /// What of REPLAYED is met.

@@ -84,9 +84,8 @@ fn built_in_instance(part: &[u16]) -> Option<(usize, Vec<u16>)> {
     }
 }
 
-/// "That the list of steps leads from the cue handed in to the cue handed back": each step at an active place, with the first rule that
-/// fits, leaving a whole cue of at most 4,096 words.
-pub fn check_steps(book: &Book, first: &[u16], steps: &[Step], last: &[u16]) -> Result<(), String> {
+/// The cue after a list of steps, each at an active place, with the first rule that fits, leaving a whole cue of at most 4,096 words.
+pub fn after(book: &Book, first: &[u16], steps: &[Step]) -> Result<Vec<u16>, String> {
     let mut cue = first.to_vec();
     for (n, step) in steps.iter().enumerate() {
         let place = step.index;
@@ -102,7 +101,12 @@ pub fn check_steps(book: &Book, first: &[u16], steps: &[Step], last: &[u16]) -> 
             return Err(format!("step {n} leaves no whole cue of at most 4,096 words"));
         }
     }
-    if cue != last {
+    Ok(cue)
+}
+
+/// "That the list of steps leads from the cue handed in to the cue handed back."
+pub fn check_steps(book: &Book, first: &[u16], steps: &[Step], last: &[u16]) -> Result<(), String> {
+    if after(book, first, steps)? != last {
         return Err(format!("the {} steps do not lead to the cue handed back", steps.len()));
     }
     Ok(())

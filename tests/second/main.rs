@@ -138,7 +138,8 @@ fn statistics(n: &Counts) {
     println!("  cases with {}", list(&LEVELS, &n.levels));
     println!("  recorded: {}", list(&RECORDED, &n.recorded_met));
     println!("  replay: {}", list(&REPLAYED, &n.replayed_met));
-    println!("  demand 3: lists of steps checked {}, settled cues checked and expanded again {}", n.listed, n.settled);
+    print!("  demand 3: lists of steps checked {}, settled cues checked and expanded again {}", n.listed, n.settled);
+    println!(", replays checked {}", n.followed);
     println!("  the same without memory {}, too long without it {}; left out as too long {}", n.plain, n.repeats, n.too_long);
 }
 
