@@ -81,6 +81,7 @@ fn wander(r: &mut Random, book: &Book, from: &Rc<Cue>, steps: &mut Vec<Step>) ->
     cue
 }
 
+/// A rule's number, of the book mostly, or one on either side of where its rules and the built-in ones end.
 fn any_rule(r: &mut Random, book: &Book) -> u16 {
     let edges = [HIGHER_RULE, LOWER_RULE, LOWER_RULE + 1, HIGHER_RULE - 1, book.rules.len(), 65535];
     (if r.percent(60) { r.below(book.rules.len() + 1) } else { *r.pick(&edges) }) as u16
@@ -137,11 +138,11 @@ fn damage(r: &mut Random, book: &Book, record: &mut Vec<u16>) {
 fn round_overlong(r: &mut Random, book: &Book, own: &[Step]) -> Vec<u16> {
     let mut record = pairs(own);
     let last = record.len() - 1;
-    match r.below(8) {
+    match r.below(9) {
         0..=1 => record.extend(noise(r)),
         2 => record.push(0),
-        3..=5 => record[last] = any_rule(r, book),
-        6 => damage(r, book, &mut record),
+        3..=6 => record[last] = any_rule(r, book),
+        7 => damage(r, book, &mut record),
         _ => {}
     }
     record
