@@ -4,7 +4,7 @@ ghost use Prim.Native.Nat.{_+_, _-_, _≤_};
 ghost use lib.ListN.{length, drop};
 ghost use Rattle.buffers.specs.moves.Parts.{part};
 ghost use Rattle.buffers.specs.Words.{over, zeros};
-ghost use Rattle.machine.specs.reducts.Reduct.{Writable, reduct, stretchesOf};
+ghost use Rattle.machine.specs.reducts.Reduct.{Writable, reduct};
 ghost use Rattle.machine.specs.reducts.Replaced.{Replaceable, Replaced, Puttable, Put};
 ghost use Rattle.machine.specs.reducts.Rewritten.{Reducible, Rewrites};
 use buffers::clear;
@@ -101,14 +101,19 @@ fn replace_subterm(side: &[u16], area: &mut [u16], n: usize, u: Subterm, c: Stre
     clear(area, base, width);
 }
 
-// Puts the reduct of a right side, filled by the match m, in the place of the subterm u of a term of n words. The area is unchanged where the
-// term would be too long.
-fn put_reduct(side: &[u16], area: &mut [u16], n: usize, u: Subterm, m: Match) -> Reduced
-    requires { ⌜ Puttable (now side) (now area) n u (stretchesOf m) ⌝ }
-    ensures { λ r. ⌜ Put (now (side .entry)) (now (area .entry)) n u (stretchesOf m) r (now (area .exit)) ⌝ }
+// Puts the reduct of a right side, its variables filled with these stretches, in the place of the subterm u of a term of n words. The area is
+// unchanged where the term would be too long.
+fn put_reduct(
+    side: &[u16],
+    area: &mut [u16],
+    n: usize,
+    u: Subterm,
+    starts: [usize; VARIABLES],
+    lengths: [usize; VARIABLES],
+) -> Reduced
+    requires { ⌜ Puttable (now side) (now area) n u (record { starts = starts; lengths = lengths }) ⌝ }
+    ensures { λ r. ⌜ Put (now (side .entry)) (now (area .entry)) n u (record { starts = starts; lengths = lengths }) r (now (area .exit)) ⌝ }
 {
-    let starts = m.starts;
-    let lengths = m.lengths;
     let k = reduct_length(side, lengths);
     let after = n - u.width + k;
     if TERM_WORDS < after {
@@ -127,6 +132,8 @@ pub fn rewrite(book: &[u16], area: &mut [u16], n: usize, u: Subterm, m: Match) -
     ensures { λ r. ⌜ Rewrites (now (book .entry)) (now (area .entry)) n u r (now (area .exit)) ⌝ }
 {
     let found = m.rule;
+    let starts = m.starts;
+    let lengths = m.lengths;
     match found {
         // It never is: the caller found a rule.
         FirstRule::Nothing => {
@@ -138,11 +145,11 @@ pub fn rewrite(book: &[u16], area: &mut [u16], n: usize, u: Subterm, m: Match) -
             size,
         } => {
             let end = rhs + size;
-            return put_reduct(&book[rhs..end], area, n, u, m);
+            return put_reduct(&book[rhs..end], area, n, u, starts, lengths);
         }
         FirstRule::Computed { number: _, word } => {
             let side = [word; 1];
-            return put_reduct(&side, area, n, u, m);
+            return put_reduct(&side, area, n, u, starts, lengths);
         }
     }
 }

@@ -7,10 +7,10 @@ use Rattle.machine.proofs.reducts.put_reduct.Tie as tie
 
 -- the place of the code that is behind others: its entry
 abbrev entry : tie.After-reduct-length → tie.Start
-entry c = c .before .before .before .before .before
+entry c = c .before .before .before
 
 reduct-length-requires : tie.Need-reduct-length-requires
-reduct-length-requires c κs = let p = c .before .before .before .before .pre in (p .right, stretch-bound p)
+reduct-length-requires c κs = let p = c .before .before .pre in (p .right, stretch-bound p)
 
 sub-after : tie.Need-sub-after
 sub-after c = omega (arith, entry (c .before) .pre .within)

@@ -11,11 +11,14 @@ use Rattle.machine.proofs.reducts.rewrite.Tie as tie
 
 -- ---- the places of the code that are behind others: the entry, where a listed rule is found, and where a built-in one is
 
+abbrev entry : tie.After-lengths → tie.Start
+entry c = c .before .before .before .before
+
 abbrev listed : tie.After-found → tie.Start
-listed c = c .before .before .before .before
+listed c = entry (c .before .before)
 
 abbrev built : tie.After-found2 → tie.Start
-built c = c .before .before .before .before
+built c = entry (c .before .before)
 
 -- as many words as the code counts
 count : (rhs size : ℕ) → size ≡ rhs + size - rhs
@@ -27,7 +30,7 @@ inside c = let f = c .before in listed-side (listed f .pre) (f .found .given .1)
 -- ---- the needs
 
 returns : tie.Need-returns
-returns c = absurd (none-found (c .before .before .before .before .pre) (c .enum-told .given .1))
+returns c = absurd (none-found (entry (c .before .before) .pre) (c .enum-told .given .1))
 
 add-end : tie.Need-add-end
 add-end c = let w = inside c in omega arith
