@@ -5,7 +5,6 @@ use Rattle.system.specs.declared.ArgumentSpan.{ArgumentSpan}
 use Rattle.matching.specs.declared.Match.{Match}
 use Rattle.matching.specs.declared.FirstRule.the-variants.{Nothing, First, Computed}
 use Rattle.cue.specs.declared.CueAnswer.{CueAnswer}
-use Rattle.replay.specs.declared.Replayed.{Replayed}
 use Rattle.cue.specs.declared.CueReplayed.{CueReplayed}
 use Rattle.cue.specs.declared.CueShape.{CueShape}
 use Rattle.cue.specs.declared.CuePart.{CuePart}
@@ -20,9 +19,6 @@ abbrev pub asAnswer : CueAnswer → Answer
 asAnswer a = record { number = a .number; place = a .place; steps = a .steps }
 
 -- of a replay
-abbrev pub replayedFor : Replayed → CueReplayed
-replayedFor a = record { number = a .number; place = a .place; steps = a .steps }
-
 abbrev pub replayedAnswer : CueReplayed → Answer
 replayedAnswer a = record { number = a .number; place = a .place; steps = a .steps }
 

@@ -13,7 +13,7 @@ ghost use Rattle.evaluation.specs.Expansion.{result, expansion, recordAfter};
 ghost use Rattle.replay.specs.Replaying.{replaying, AcceptsExactly, IsMistold};
 ghost use Rattle.demands.specs.Demand3.{IsDone, IsHandedBack, IsFound, secondly, RestsAgain};
 ghost use Rattle.demands.specs.Retracing.{retracing, IsRetraced};
-ghost use Rattle.cue.specs.Exports.{answerFor, asAnswer, replayedFor, replayedAnswer, shapeFor, partFor, matchFor};
+ghost use Rattle.cue.specs.Exports.{answerFor, asAnswer, replayedAnswer, shapeFor, partFor, matchFor};
 use matching::FirstRule;
 use replay::Replayed;
 use system::Answer;
@@ -98,7 +98,7 @@ fn answer_for(a: Answer) -> CueAnswer
 }
 
 fn replayed_for(e: Replayed) -> CueReplayed
-    ensures { λ r. ⌜ r ≡ replayedFor e ⌝ }
+    ensures { λ r. ⌜ r ≡ record { number = e .number; place = e .place; steps = e .steps } ⌝ }
 {
     CueReplayed {
         number: e.number,

@@ -13,8 +13,12 @@ use Rattle.matching.specs.Cases.{strategyCases}
 use Rattle.matching.specs.Matching.{bind, firstMatch, operation, applied, computed, contraction}
 use Rattle.system.specs.Cases.{Hold, bookB, readerCases}
 use Rattle.rewriting.specs.Evaluation.{hasRoom, rewrite, follow, atRoot, evaluate, evaluation}
-use Rattle.evaluation.specs.Expansion.{room, earlier, afterChecks}
-use Rattle.demands.specs.Cases.{expanding, evaluatorCases, starred, literalCases}
+use Rattle.evaluation.specs.Expansion.{room, earlier, afterChecks, keep, recordAfter}
+use Rattle.rewriting.specs.Trace.{inOrder}
+use Rattle.system.specs.Terms.{among}
+use Rattle.replay.specs.Activity.{flags, pending, activeAt}
+use Rattle.replay.specs.Replay.{toldBy, replay}
+use Rattle.demands.specs.Cases.{expanding, recording, following, evaluatorCases, starred, literalCases, recordCases}
 
 pub starred-cases : Hold starred
 unfolding starred readerCases strategyCases evaluatorCases testAnswer firstFailing passes every closes idles idleTest isVariable constructs
@@ -32,3 +36,13 @@ unfolding literalCases
     symbolFault variableFault outside each times termFault termAnswer isSymbol arity isLiteral isBuiltIn isOperator builtInArity builtInStrategy
     computed applied operation larger smaller
 literal-cases = refl
+
+-- and those of records
+pub record-cases : Hold recordCases
+unfolding recordCases
+    recording following bookB zeros afterChecks recordAfter keep inOrder replay toldBy activeAt pending flags among
+    room earlier evaluation evaluate atRoot follow rewrite hasRoom systemOf contraction firstMatch bind instance
+    span argument replace strategy read readSystem readRules readEnd readRule readSide readWords readStrategy number word learn sideFault
+    symbolFault variableFault outside each times termFault termAnswer isSymbol arity isLiteral isBuiltIn isOperator builtInArity builtInStrategy
+    computed applied operation larger smaller
+record-cases = refl

@@ -1,12 +1,13 @@
 -- The starred cases of the evaluator (01: "Rehearsal cues"), which carry on the table of the layers below. What is expected is written from 01.
 use Prim.Native.Nat.{ℕ, zero, suc}
 use mathlib.Core.List.{List, [], _∷_, _++_}
-use lib.ListN.{set}
+use lib.ListN.{length, set}
 use Rattle.buffers.specs.Words.{zeros}
 use Rattle.system.specs.Cases.{Case, numbers, bookB, earlyB, readerCases}
 use Rattle.matching.specs.Cases.{strategyCases}
-use Rattle.rewriting.specs.Evaluation.{unrecorded}
-use Rattle.evaluation.specs.Expansion.{Expansion, expansion, handedBack}
+use Rattle.rewriting.specs.Evaluation.{unrecorded, recorded}
+use Rattle.evaluation.specs.Expansion.{Expansion, expansion, recordAfter, handedBack}
+use Rattle.replay.specs.Replaying.{replaying}
 use Rattle.system.specs.Limits.{areaWords, termWords}
 
 -- the three numbers, and on 0 the words that are handed back
@@ -67,4 +68,42 @@ literalCases =
     ∷ record { label = 2; got = expanding (startsWith 16384) (0 ∷ []) 9; expected = 15 ∷ 20 ∷ 0 ∷ [] }
     ∷ record { label = 2; got = expanding (startsWith 16641) (0 ∷ []) 9; expected = 15 ∷ 20 ∷ 0 ∷ [] }
     ∷ record { label = 2; got = expanding alsoUnbound (0 ∷ []) 9; expected = 15 ∷ 26 ∷ 0 ∷ [] }
+    ∷ []
+
+-- ---- the step record and its replay (02, F-3), over book B. What is expected is written from 01 and 02
+
+-- the answer of an expansion with a record of these words, and the record afterwards
+unfoldable pub recording : List ℕ → List ℕ → ℕ → List ℕ → List ℕ
+recording book term limit words =
+    let limits = recorded limit (length words) in
+    told (expansion book term limits (zeros termWords) (zeros areaWords)) ++ recordAfter book term limits (zeros termWords) (zeros areaWords) words
+
+unfoldable pub following : List ℕ → List ℕ → List ℕ → List ℕ
+following book term words = told (replaying book term words (zeros termWords) (zeros areaWords))
+
+-- head(rest(chase)) takes four steps: chase at index 2 by rule 0, rest at 1 by rule 2, chase at 1 by rule 0, head at 0 by rule 1
+abbrev pub fourSteps : List ℕ
+fourSteps = 2 ∷ 0 ∷ 1 ∷ 2 ∷ 1 ∷ 0 ∷ 0 ∷ 1 ∷ []
+
+unfoldable pub recordCases : List Case
+recordCases =
+    -- "for each step two words, the step's index in the whole cue before it and the rule's number"; "its other words unchanged"
+    record { label = 3; got = recording bookB (4 ∷ []) 1 (7 ∷ 7 ∷ 7 ∷ []); expected = 0 ∷ 3 ∷ 1 ∷ 1 ∷ 0 ∷ 4 ∷ 0 ∷ 0 ∷ 7 ∷ [] }
+    ∷ record { label = 3; got = recording bookB (2 ∷ 3 ∷ 4 ∷ []) 4 (zeros 8); expected = 0 ∷ 1 ∷ 4 ∷ 0 ∷ fourSteps }
+    ∷ record { label = 3; got = recording bookB (16640 ∷ 16387 ∷ 16584 ∷ []) 1 (zeros 2); expected = 0 ∷ 1 ∷ 1 ∷ 16584 ∷ 0 ∷ 128 ∷ [] }
+    -- "16 when a step finds fewer than two words left in the record, between 11 and 12"; it reports "the steps completed"
+    ∷ record { label = 3; got = recording bookB (2 ∷ 3 ∷ 4 ∷ []) 4 (9 ∷ 9 ∷ 9 ∷ []); expected = 16 ∷ 0 ∷ 1 ∷ 2 ∷ 0 ∷ 9 ∷ [] }
+    ∷ record { label = 3; got = recording bookB (2 ∷ 3 ∷ 4 ∷ []) 1 (9 ∷ 9 ∷ 9 ∷ []); expected = 11 ∷ 0 ∷ 1 ∷ 2 ∷ 0 ∷ 9 ∷ [] }
+    ∷ record { label = 3; got = recording bookB (0 ∷ []) 4 []; expected = 0 ∷ 1 ∷ 0 ∷ 0 ∷ [] }
+    -- no step is reported where the cue is refused
+    ∷ record { label = 3; got = recording bookB (2 ∷ []) 4 (9 ∷ 9 ∷ []); expected = 9 ∷ 1 ∷ 0 ∷ 9 ∷ 9 ∷ [] }
+    -- "It gives the final cue, its three numbers .. as the expander's, steps being the pairs"
+    ∷ record { label = 3; got = following bookB (2 ∷ 3 ∷ 4 ∷ []) fourSteps; expected = 0 ∷ 1 ∷ 4 ∷ 0 ∷ [] }
+    -- "an accepted record need not be in our order": head(then(chase, flash)) by rule 1 at once
+    ∷ record { label = 3; got = following bookB (2 ∷ 1 ∷ 4 ∷ 0 ∷ []) (0 ∷ 1 ∷ []); expected = 0 ∷ 1 ∷ 1 ∷ 4 ∷ [] }
+    -- "17, place the pair's number from 0, at the first pair that is wrong or half": another rule, half a pair, a held-back argument, no word
+    ∷ record { label = 3; got = following bookB (2 ∷ 3 ∷ 4 ∷ []) (2 ∷ 0 ∷ 1 ∷ 1 ∷ []); expected = 17 ∷ 1 ∷ 1 ∷ [] }
+    ∷ record { label = 3; got = following bookB (2 ∷ 3 ∷ 4 ∷ []) (2 ∷ 0 ∷ 1 ∷ []); expected = 17 ∷ 1 ∷ 1 ∷ [] }
+    ∷ record { label = 3; got = following bookB (1 ∷ 0 ∷ 4 ∷ []) (2 ∷ 0 ∷ []); expected = 17 ∷ 0 ∷ 0 ∷ [] }
+    ∷ record { label = 3; got = following bookB (4 ∷ []) (1 ∷ 0 ∷ []); expected = 17 ∷ 0 ∷ 0 ∷ [] }
     ∷ []

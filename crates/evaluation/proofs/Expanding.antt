@@ -22,7 +22,7 @@ use Rattle.system.proofs.Answering as answering
 use Rattle.system.proofs.TermChecks.{fault-whole}
 use Rattle.system.specs.Book.{systemOf, Accepted}
 use Rattle.evaluation.specs.declared.run.RunResult.{RunResult}
-use Rattle.rewriting.specs.Evaluation.{Limits, Config, Outcome, finished, stopped, evaluation}
+use Rattle.rewriting.specs.Evaluation.{Limits, Outcome, finished, stopped, evaluation}
 use Rattle.evaluation.specs.run.RunResult.{Ran}
 use Rattle.evaluation.specs.recording.Kept.{kept}
 use Rattle.evaluation.specs.Expansion.{Expansion, result, expansionOf, room, earlier, checked, afterChecks, traceOf, keep, recordAfter}

@@ -5,32 +5,20 @@ use native.Mathlib.Omega.{arith}
 use native.Mathlib.Decide.{decLt}
 use mathlib.Core.Path.{_≡_, refl, sym, ap, _∙_, subst}
 use mathlib.Core.Logic.{_↔_}
-use mathlib.Core.Bool.{Bool, true, false, _&&_, _||_}
+use mathlib.Core.Bool.{Bool, true, false, _&&_}
 use mathlib.Core.List.{List, [], _∷_, _++_, append-assoc}
 use lib.ListN.{length, getD, drop, length-append, replicate, replicate-append-replicate, List·getD-append}
 use lib.Seq.{drop-cons, drop-append-add, getD-append-add}
-use lib.Dec.{eqb}
-use borrow.Author.Tests.{eq-eqb}
 use Rattle.system.specs.Signature.{Signature, arity, span, argument}
 use Rattle.system.specs.System.{System, strategy}
-use Rattle.system.specs.Terms.{Forest, empty, more, Whole, Member, first, later, WellFormed}
-use Rattle.system.specs.layout.Entries.{among}
+use Rattle.system.specs.Terms.{Forest, empty, more, Whole, WellFormed, among}
 use Rattle.system.proofs.Forests.{span-zero}
-use Rattle.system.proofs.layout.entries.Repeats.{among-member}
+use Rattle.system.proofs.layout.entries.Repeats.{among-member, member-among}
 use Rattle.rewriting.specs.Rewriting.{Active, root, below}
 use Rattle.rewriting.proofs.Laws.{next-entry}
 use Rattle.rewriting.proofs.Actives.{active-whole, at-parted}
 use Rattle.replay.specs.Activity.{flags, pending, front, activeAt}
 use Rattle.replay.proofs.Arguments.{argument-of, argument-position}
-
-pub member-among : {e : ℕ} {ds : List ℕ} → Member e ds → among e ds ≡ true
-unfolding among
-member-among {e} first = rw (eq-eqb e e refl)
-member-among {e} (later {d} {es} h) = or-true (eqb e d) (among e es) (member-among h)
-  where
-    or-true : (b c : Bool) → c ≡ true → b || c ≡ true
-    or-true true c h = refl
-    or-true false c h = h
 
 both-true : (b c : Bool) → b && c ≡ true → (b ≡ true) × (c ≡ true)
 both-true true c h = (refl, h)

@@ -10,8 +10,7 @@ use lib.ListN.{length, getD, take, drop, length-drop}
 use lib.Seq.{split-at, length-take-le}
 use Rattle.system.specs.Signature.{Signature, Symbol, arity, span, argument, replace}
 use Rattle.system.specs.System.{System, strategy}
-use Rattle.system.specs.Terms.{Whole, Member, WellFormed}
-use Rattle.system.specs.layout.Entries.{among}
+use Rattle.system.specs.Terms.{Whole, Member, WellFormed, among}
 use Rattle.system.proofs.Forests.{span-forest}
 use Rattle.system.proofs.words.SpanSteps.{span-le}
 use Rattle.system.proofs.layout.entries.Repeats.{among-member}

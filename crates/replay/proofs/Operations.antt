@@ -13,9 +13,7 @@ use Rattle.system.specs.TermCheck.{termFault}
 use Rattle.system.proofs.FaultNumbers.{fault-range}
 use Rattle.system.specs.Book.{systemOf}
 use Rattle.system.specs.Limits.{areaWords, termWords}
-use Rattle.system.specs.Numbers.{untrue, numberOf}
 use Rattle.system.specs.System.{System}
-use Rattle.system.specs.Terms.{WellFormed}
 use Rattle.rewriting.specs.Trace.{Trace, inOrder}
 use Rattle.rewriting.specs.Evaluation.{Config, recorded, start}
 use Rattle.rewriting.specs.Rewriting.{Path}
@@ -23,7 +21,7 @@ use Rattle.rewriting.proofs.Done.{path-last}
 use Rattle.evaluation.specs.Expansion.{Expansion, expansion, traceOf, keep, recordAfter, handedBack}
 use Rattle.evaluation.proofs.Expanding.{Checks, checks, checks-well, Course, narrow, wrong, runs, course, Passed, evaluates, record-told}
 use Rattle.evaluation.proofs.Records.{written, keep-cut}
-use Rattle.evaluation.proofs.Handed.{Handed, handed, handed-checks, handed-done, handed-numbers, handed-words}
+use Rattle.evaluation.proofs.Handed.{handed, handed-checks, handed-done, handed-numbers, handed-words}
 use Rattle.replay.specs.Replay.{Replay, followed, mistold, exceeded, replay, Verdict, accepted}
 use Rattle.replay.specs.Replaying.{replayOf, replaying, AcceptsExactly, NoStep, IsMistold}
 use Rattle.replay.proofs.Replays.{replay-verdict, replay-accepts, recorded-accepted}

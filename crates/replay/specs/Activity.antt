@@ -4,7 +4,7 @@ use mathlib.Core.Bool.{Bool, true, false, _&&_}
 use mathlib.Core.List.{List, [], _∷_, _++_}
 use Rattle.system.specs.Signature.{arity}
 use Rattle.system.specs.System.{System, strategy}
-use Rattle.system.specs.layout.Entries.{among}
+use Rattle.system.specs.Terms.{among}
 
 -- for each of k arguments, the first of which has i others before it, whether it is active, where b says whether its symbol is:
 -- "every argument on the way to it stands in the order of the name holding it"

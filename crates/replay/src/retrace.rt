@@ -145,7 +145,8 @@ pub fn retrace(
         steps += 1;
     }
     let size = f.n;
-    buffers::clear(area, TERM_WORDS, f.level);
+    let level = f.level;
+    buffers::clear(area, TERM_WORDS, level);
     Retraced {
         number: TAKEN,
         size,

@@ -2,8 +2,10 @@
 use Prim.Native.Nat.{ℕ, zero, suc, _+_, _≤_, _<_}
 use mathlib.Core.Path.{_≡_}
 use mathlib.Core.Logic.{_⊎_}
+use mathlib.Core.Bool.{Bool, false, _||_}
 use mathlib.Core.List.{List, [], _∷_}
 use lib.ListN.{length, getD}
+use lib.Dec.{eqb}
 use Rattle.system.specs.Limits.{maxSymbols, maxArity, maxEntries, maxRules, sideWords, variable, variables}
 use Rattle.system.specs.Signature.{Signature, Symbol, Listed, arity}
 use Rattle.system.specs.System.{System, Rule, rule, strategy}
@@ -29,6 +31,11 @@ Side g ws = Forest g (Word g) 1 ws
 pub data Member : ℕ → List ℕ → Type 0 where
   first : {e : ℕ} {es : List ℕ} → Member e (e ∷ es)
   later : {e d : ℕ} {es : List ℕ} → Member e es → Member e (d ∷ es)
+
+-- whether it does, by computing
+unfoldable pub among : ℕ → List ℕ → Bool
+among e [] = false
+among e (d ∷ ds) = eqb e d || among e ds
 
 -- `Numbered n m ws`: the variables of ws are number n, n + 1, .. up to m - 1, in this order, each once
 -- ("its placeholders appear as 0, 1, 2, .. in reading order, each once")

@@ -1,8 +1,8 @@
 -- `expand_retraced` meets its contract.
-use Prim.Native.Nat.{_*_, _-_, _≤_}
+use Prim.Native.Nat.{_*_, _≤_}
 use native.Mathlib.Nat.{sub-zero}
 use native.Mathlib.Omega.{arith}
-use mathlib.Core.Path.{_≡_, sym, ap, _∙_, subst}
+use mathlib.Core.Path.{sym, ap, _∙_, subst}
 use lib.ListN.{length, take}
 use borrow.Author.Needs.{needs}
 use Rattle.rewriting.specs.Evaluation.{Limits, recorded}

@@ -13,11 +13,11 @@ use lib.Seq.{take-append-le, take-append-seam, getD-append-seam}
 use borrow.Author.Tests.{lt-ltb, le-ltb}
 use Rattle.system.specs.Signature.{argument}
 use Rattle.system.specs.System.{System}
-use Rattle.system.specs.Terms.{Member, first, later}
+use Rattle.system.specs.Terms.{Member, first, later, among}
 use Rattle.matching.specs.Matching.{contraction}
 use Rattle.rewriting.specs.Machine.{strategyAt, down, position, final, around, scan, enter}
 use Rattle.machine.specs.advance.Area.{level, Opened}
-use Rattle.system.specs.layout.Entries.{between, among}
+use Rattle.system.specs.layout.Entries.{between}
 use Rattle.machine.specs.advance.Transition.{sinceAt}
 use Rattle.rewriting.proofs.Laws.{position-snoc}
 use Rattle.rewriting.proofs.Iterate.{scan-pass}

@@ -22,7 +22,7 @@ use Rattle.matching.specs.rules.Searches.{searchOf, ruleNumber}
 use Rattle.matching.proofs.Reducts.{match-number}
 use Rattle.matching.proofs.rules.Fits.{fit-match, fit-some, fit-width}
 use Rattle.rewriting.specs.Rewriting.{Active}
-use Rattle.rewriting.proofs.Actives.{At, active-whole, at-parted}
+use Rattle.rewriting.proofs.Actives.{active-whole, at-parted}
 use Rattle.rewriting.proofs.Contractions.{first-there, replaced-whole}
 use Rattle.machine.specs.declared.reducts.Reduced.{Reduced}
 use Rattle.machine.specs.declared.reducts.Reduced.the-variants.{Done, TooLong}

@@ -19,7 +19,7 @@ use Rattle.replay.specs.declared.walk.Finger.{Finger}
 use Rattle.replay.specs.declared.retrace.Pair.{Pair}
 use Rattle.replay.specs.declared.retrace.Followed.{Followed}
 use Rattle.replay.specs.declared.retrace.Retraced.{Retraced}
-use Rattle.replay.specs.Replay.{Replay, replay}
+use Rattle.replay.specs.Replay.{replay}
 use Rattle.replay.specs.walk.Way.{Points}
 use Rattle.replay.specs.retrace.Retraces.{placeOf, Clearable, Follows, wrong, long, goes, Retraces}
 use Rattle.replay.proofs.Pairs.{replay-end, replay-half, replay-wrong, replay-long, replay-goes}

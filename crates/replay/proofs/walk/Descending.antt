@@ -11,17 +11,15 @@ use Rattle.system.specs.declared.Shape.{Shape}
 use Rattle.system.specs.Book.{systemOf, Accepted}
 use Rattle.system.specs.Limits.{termWords, maxArity}
 use Rattle.system.specs.System.{System, strategy}
-use Rattle.system.specs.Terms.{Member, WellFormed}
-use Rattle.system.specs.layout.Entries.{among}
+use Rattle.system.specs.Terms.{Member, WellFormed, among}
 use Rattle.system.proofs.layout.Books.{well}
-use Rattle.system.proofs.layout.entries.Repeats.{among-member}
+use Rattle.system.proofs.layout.entries.Repeats.{among-member, member-among}
 use Rattle.machine.specs.advance.Area.{termIn}
 use Rattle.replay.specs.declared.walk.Argument.{Argument}
 use Rattle.replay.specs.declared.walk.Finger.{Finger}
 use Rattle.replay.specs.walk.Descent.{Above, Held}
 use Rattle.replay.specs.walk.Way.{Over, Found}
 use Rattle.replay.proofs.Arguments.{argument-behind}
-use Rattle.replay.proofs.Activities.{member-among}
 use Rattle.replay.proofs.Descent.{above-here, above-out, above-down}
 use Rattle.replay.proofs.walk.Pointing.{Bounds, points-term, points-bounds, points-down}
 

@@ -1,9 +1,10 @@
 -- The entries of a strategy: what each asks for.
 use Prim.Native.Nat.{ℕ, zero, suc, _-_}
-use mathlib.Core.Bool.{Bool, true, false, _||_}
-use mathlib.Core.List.{List, [], _∷_}
+use mathlib.Core.Bool.{true, false}
+use mathlib.Core.List.{List}
 use lib.ListN.{length, getD, take, drop}
-use lib.Dec.{ltb, eqb}
+use lib.Dec.{ltb}
+use Rattle.system.specs.Terms.{among}
 use Rattle.system.specs.declared.layout.entries.Entry.{Entry}
 use Rattle.system.specs.declared.layout.entries.Entry.the-variants.{End, Repeated, Rules, Argument}
 
@@ -15,11 +16,6 @@ entryFrom (suc i) = Argument i
 -- the entries from index f up to c
 abbrev pub between : List ℕ → ℕ → ℕ → List ℕ
 between es f c = take (c - f) (drop f es)
-
--- whether e is one of them
-unfoldable pub among : ℕ → List ℕ → Bool
-among e [] = false
-among e (d ∷ ds) = eqb e d || among e ds
 
 -- An entry that stood before, from index f on, asks for nothing again: with no step since then it would find what it found
 unfoldable pub entryOf : List ℕ → ℕ → ℕ → Entry

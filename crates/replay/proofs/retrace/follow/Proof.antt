@@ -1,17 +1,14 @@
 -- `retrace::follow` meets its contract.
-use Prim.Native.Nat.{_-_}
 use native.Mathlib.Omega.{arith}
-use mathlib.Core.Path.{_≡_, sym, ap, _∙_, subst}
-use lib.ListN.{length, take, drop}
+use mathlib.Core.Path.{sym, ap, _∙_, subst}
 use borrow.Author.Needs.{needs}
 use Rattle.system.specs.Book.{systemOf}
 use Rattle.system.proofs.layout.Books.{well}
-use Rattle.matching.specs.rules.Searches.{ruleNumber}
 use Rattle.machine.specs.advance.Area.{termIn}
 use Rattle.replay.specs.walk.Way.{Points, Found}
 use Rattle.replay.specs.retrace.Retraces.{wrong, long, goes}
 use Rattle.replay.proofs.walk.Pointing.{Bounds, points-bounds}
-use Rattle.replay.proofs.retrace.Following.{missed, other, x, told, reducible, Stepped, stepped}
+use Rattle.replay.proofs.retrace.Following.{missed, other, told, reducible, Stepped, stepped}
 use Rattle.replay.proofs.retrace.follow.Statement.{statement}
 use Rattle.replay.proofs.retrace.follow.Tie as tie
 

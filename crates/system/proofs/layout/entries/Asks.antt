@@ -18,7 +18,8 @@ use Rattle.system.proofs.Rules.{strategy-unlisted}
 use Rattle.system.proofs.layout.Suffixes.{strategy-count}
 use Rattle.system.specs.declared.layout.entries.Entry.{Entry}
 use Rattle.system.specs.declared.layout.entries.Entry.the-variants.{End, Repeated, Rules, Argument}
-use Rattle.system.specs.layout.Entries.{entryFrom, between, among, entryOf}
+use Rattle.system.specs.Terms.{among}
+use Rattle.system.specs.layout.Entries.{entryFrom, between, entryOf}
 use Rattle.system.proofs.layout.entries.Repeats.{between-take}
 
 -- ---- what an entry asks for

@@ -10,8 +10,8 @@ use lib.ListN.{length, getD, take, drop, length-drop}
 use lib.Seq.{take-nil, take-all, take-suc, take-take, drop-cons, getD-drop}
 use lib.Dec.{eqb}
 use borrow.Author.Tests.{eqb-true, eq-eqb, ne-eqb}
-use Rattle.system.specs.Terms.{Member, first, later}
-use Rattle.system.specs.layout.Entries.{between, among}
+use Rattle.system.specs.Terms.{Member, first, later, among}
+use Rattle.system.specs.layout.Entries.{between}
 use Rattle.system.proofs.Members.{member-nil, member-snoc}
 
 pub among-member : (e : ℕ) (ds : List ℕ) → among e ds ≡ true → Member e ds
@@ -22,6 +22,15 @@ among-member e (d ∷ ds) q = go (λ k. among-member e ds k) (eqb e d) refl q
     go : (among e ds ≡ true → Member e ds) → (b : Bool) → eqb e d ≡ b → b || among e ds ≡ true → Member e (d ∷ ds)
     go on true h k = subst (λ y. Member e (y ∷ ds)) (eqb-true e d h) first
     go on false h k = later (on k)
+
+pub member-among : {e : ℕ} {ds : List ℕ} → Member e ds → among e ds ≡ true
+unfolding among
+member-among {e} first = rw (eq-eqb e e refl)
+member-among {e} (later {d} {es} h) = or-true (eqb e d) (among e es) (member-among h)
+  where
+    or-true : (b c : Bool) → c ≡ true → b || c ≡ true
+    or-true true c h = refl
+    or-true false c h = h
 
 -- none between f and what is not above it
 pub between-none {ℓ} : {X : Type ℓ} (es : List ℕ) (f c e : ℕ) → c ≤ f → Member e (between es f c) → X

@@ -14,7 +14,7 @@ use Rattle.system.specs.BuiltIns.{isOperator, builtInStrategy}
 use Rattle.system.specs.System.{strategy}
 use Rattle.system.specs.Book.{systemOf, Accepted}
 use Rattle.system.specs.layout.Accepted.{StrategyAt}
-use Rattle.system.specs.layout.Entries.{among}
+use Rattle.system.specs.Terms.{among}
 use Rattle.system.proofs.BuiltIns.{operator-strategy, plain-strategy}
 use Rattle.system.proofs.Rules.{strategy-unlisted}
 use Rattle.system.proofs.layout.Suffixes.{strategy-count}

@@ -4,7 +4,7 @@ use native.Mathlib.Omega.{arith}
 use mathlib.Core.Path.{_≡_, refl, sym, _∙_}
 use lib.ListN.{length, drop}
 use borrow.Author.Needs.{needs}
-use Rattle.system.specs.layout.Entries.{among}
+use Rattle.system.specs.Terms.{among}
 use Rattle.system.proofs.layout.entries.Standing.{among-end, among-here, among-next}
 use Rattle.system.proofs.layout.entries.among.Statement.{statement}
 use Rattle.system.proofs.layout.entries.among.Tie as tie

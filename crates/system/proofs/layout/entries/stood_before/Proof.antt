@@ -5,7 +5,8 @@ use native.Mathlib.Omega.{arith}
 use mathlib.Core.Path.{_≡_, refl, _∙_}
 use lib.ListN.{getD, drop}
 use borrow.Author.Needs.{needs}
-use Rattle.system.specs.layout.Entries.{between, among}
+use Rattle.system.specs.Terms.{among}
+use Rattle.system.specs.layout.Entries.{between}
 use Rattle.system.proofs.layout.entries.Repeats.{stood-end, stood-found, stood-next}
 use Rattle.system.proofs.layout.entries.stood_before.Statement.{statement}
 use Rattle.system.proofs.layout.entries.stood_before.Tie as tie
