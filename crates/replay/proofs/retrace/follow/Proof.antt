@@ -1,14 +1,16 @@
 -- `retrace::follow` meets its contract.
 use native.Mathlib.Omega.{arith}
-use mathlib.Core.Path.{sym, ap, _∙_, subst}
+use Prim.Native.Nat.{_≤_}
+use mathlib.Core.Path.{_≡_, sym, ap, _∙_, subst}
 use borrow.Author.Needs.{needs}
 use Rattle.system.specs.Book.{systemOf}
+use Rattle.matching.specs.rules.Searches.{ruleNumber}
 use Rattle.system.proofs.layout.Books.{well}
 use Rattle.machine.specs.advance.Area.{termIn}
-use Rattle.replay.specs.walk.Way.{Points, Found}
+use Rattle.replay.specs.walk.Way.{Points}
 use Rattle.replay.specs.retrace.Retraces.{wrong, long, goes}
 use Rattle.replay.proofs.walk.Pointing.{Bounds, points-bounds}
-use Rattle.replay.proofs.retrace.Following.{missed, other, told, reducible, Stepped, stepped}
+use Rattle.replay.proofs.retrace.Following.{missed, Searched, other, told, reducible, Stepped, stepped}
 use Rattle.replay.proofs.retrace.follow.Statement.{statement}
 use Rattle.replay.proofs.retrace.follow.Tie as tie
 
@@ -35,14 +37,38 @@ numbered c = c .before .before
 abbrev rewriting : tie.After-rewrite → tie.Else2
 rewriting c = c .before .before
 
--- the walk found the pair's position, or not
-found : (c : tie.After-find) → let a = entry c .args in Found (systemOf (a .book .now)) (termIn (a .area .now) (a .from .n)) (c .find .last .1 .1 .1 .0) (c .find .result) (a .pair .at)
-found c = c .find .ensures
-
 bounds : (c : tie.After-find) → Bounds (c .find .last .1 .1 .1 .0) (c .find .result)
 bounds c =
     let e = entry c in
-    points-bounds (systemOf (e .args .book .now)) (well (e .args .book .now) (e .args .shape) (e .pre .0)) (found c .points)
+    points-bounds (systemOf (e .args .book .now)) (well (e .args .book .now) (e .args .shape) (e .pre .0)) (c .find .ensures .points)
+
+-- what was found at the pair's position, read once
+abbrev found : tie.After-first-rule → Searched
+found c =
+    let b = reached c in
+    let d = walked (b .before) in
+    let e = entry d in
+    let a = e .args in
+    record {
+      book = a .book .now;
+      shape = a .shape;
+      accepted = e .pre .0;
+      t = termIn (a .area .now) (a .from .n);
+      ws = d .find .last .1 .1 .1 .0;
+      f = d .find .result;
+      p = a .pair;
+      found = d .find .ensures;
+      here = b .if1 .left;
+      fit = c .first-rule .result;
+      fits = c .first-rule .ensures;
+    }
+
+-- the rule is the pair's, and that a word
+same : (q : tie.Else2) → let k = found (searched (numbered q)) in ruleNumber (k .fit .matched .rule) ≡ k .p .number
+same q = sym (numbered q .rule-number .ensures) ∙ q .if2 .left
+
+word : (c : tie.After-first-rule) → found c .p .number ≤ 65535
+word c = entry (walked (reached c .before)) .pre .3
 
 -- ---- the needs
 
@@ -55,10 +81,9 @@ same-length c = walked (c .before .before) .find .kept .1 .1 .1 .0
 returns : tie.Need-returns
 returns c =
     let d = walked (c .before .before) in
-    let e = entry d in
-    let a = e .args in
-    let f = found d in
-    wrong (missed (a .book .now) (a .shape) (e .pre .0) (a .pair) f (c .before .if1 .taken)) (ap (λ y. y .number) (c .outcome .ensures))
+    let a = entry d .args in
+    let f = d .find .ensures in
+    wrong (missed (systemOf (a .book .now)) (a .pair) f (c .before .if1 .taken)) (ap (λ y. y .number) (c .outcome .ensures))
     (subst (Points _ _ _) (sym (ap (λ y. y .finger) (c .outcome .ensures))) (f .points))
 
 mul-first-rule : tie.Need-mul-first-rule
@@ -82,43 +107,17 @@ same-length-2 c = walked (reached (searched (c .before .before .before)) .before
 returns-2 : tie.Need-returns-2
 returns-2 c =
     let n = c .before .before .before in
-    let k = searched n in
-    let b = reached k in
-    let d = walked (b .before) in
-    let e = entry d in
-    let a = e .args in
-    let f = found d in
-    wrong (other (a .book .now) (a .shape) (e .pre .0) (a .pair) f (b .if1 .left) (k .first-rule .result) (k .first-rule .ensures)
-    (λ z. c .before .if2 .taken (n .rule-number .ensures ∙ z))) (ap (λ y. y .number) (c .outcome2 .ensures))
-    (subst (Points _ _ _) (sym (ap (λ y. y .finger) (c .outcome2 .ensures))) (f .points))
+    let k = found (searched n) in
+    wrong (other k (λ z. c .before .if2 .taken (n .rule-number .ensures ∙ z))) (ap (λ y. y .number) (c .outcome2 .ensures))
+    (subst (Points _ _ _) (sym (ap (λ y. y .finger) (c .outcome2 .ensures))) (k .found .points))
 
 rewrite-requires : tie.Need-rewrite-requires
-rewrite-requires c κs =
-    let q = c .before in
-    let n = numbered q in
-    let k = searched n in
-    let b = reached k in
-    let d = walked (b .before) in
-    let e = entry d in
-    let a = e .args in
-    reducible (a .book .now) (a .shape) (e .pre .0) (a .pair) (found d) (b .if1 .left) (k .first-rule .result) (k .first-rule .ensures)
-    (sym (n .rule-number .ensures) ∙ q .if2 .left) (e .pre .3)
+rewrite-requires c κs = let k = searched (numbered (c .before)) in reducible (found k) (same (c .before)) (word k)
 
 -- what came of the step that the pair tells of
-step : (c : tie.After-rewrite) → let q = rewriting c in let n = numbered q in let k = searched n in let b = reached k in let d = walked (b .before) in
-    let e = entry d in let a = e .args in
-    Stepped (a .book .now) (a .shape) (e .pre .0) (a .pair) (found d) (b .if1 .left) (k .first-rule .result) (k .first-rule .ensures)
-    (sym (n .rule-number .ensures) ∙ q .if2 .left) (e .pre .3) (c .rewrite .result) (c .rewrite .last .1 .0)
-step c =
-    let q = rewriting c in
-    let n = numbered q in
-    let k = searched n in
-    let b = reached k in
-    let d = walked (b .before) in
-    let e = entry d in
-    let a = e .args in
-    stepped (a .book .now) (a .shape) (e .pre .0) (a .pair) (found d) (b .if1 .left) (k .first-rule .result) (k .first-rule .ensures)
-    (sym (n .rule-number .ensures) ∙ q .if2 .left) (e .pre .3) (c .rewrite .result) _ (c .rewrite .ensures)
+step : (c : tie.After-rewrite) → let q = rewriting c in let k = searched (numbered q) in
+    Stepped (found k) (same q) (word k) (c .rewrite .result) (c .rewrite .last .1 .0)
+step c = let q = rewriting c in let k = searched (numbered q) in stepped (found k) (same q) (word k) (c .rewrite .result) _ (c .rewrite .ensures)
 
 abbrev refused : tie.After-outcome3 → tie.After-rewrite
 refused c = c .before .before .before .before .before
@@ -132,17 +131,10 @@ returns-3 : tie.Need-returns-3
 returns-3 c =
     let r = refused c in
     let q = rewriting r in
-    let n = numbered q in
-    let k = searched n in
-    let b = reached k in
-    let d = walked (b .before) in
-    let e = entry d in
-    let a = e .args in
-    let same = sym (n .rule-number .ensures) ∙ q .if2 .left in
-    let z = told (a .book .now) (a .shape) (e .pre .0) (a .pair) (found d) (b .if1 .left) (k .first-rule .result) (k .first-rule .ensures) same (e .pre .3) in
-    let w = subst (λ y. Stepped (a .book .now) (a .shape) (e .pre .0) (a .pair) (found d) (b .if1 .left) (k .first-rule .result) (k .first-rule .ensures)
-    same (e .pre .3) y (r .rewrite .last .1 .0)) (c .before .enum-told .given .1) (step r) in
-    long _ z (w .0) (ap (λ y. y .number) (c .outcome3 .ensures)) (subst (Points _ _ _) (sym (ap (λ y. y .finger) (c .outcome3 .ensures))) (w .1))
+    let k = searched (numbered q) in
+    let w = subst (λ y. Stepped (found k) (same q) (word k) y (r .rewrite .last .1 .0)) (c .before .enum-told .given .1) (step r) in
+    long _ (told (found k) (same q) (word k)) (w .0) (ap (λ y. y .number) (c .outcome3 .ensures))
+    (subst (Points _ _ _) (sym (ap (λ y. y .finger) (c .outcome3 .ensures))) (w .1))
 
 abbrev made : tie.After-outcome4 → tie.After-r
 made c = c .before .before
@@ -159,17 +151,10 @@ returns-4 : tie.Need-returns-4
 returns-4 c =
     let r = done (made c) in
     let q = rewriting r in
-    let n = numbered q in
-    let k = searched n in
-    let b = reached k in
-    let d = walked (b .before) in
-    let e = entry d in
-    let a = e .args in
-    let same = sym (n .rule-number .ensures) ∙ q .if2 .left in
-    let z = told (a .book .now) (a .shape) (e .pre .0) (a .pair) (found d) (b .if1 .left) (k .first-rule .result) (k .first-rule .ensures) same (e .pre .3) in
-    let w = subst (λ y. Stepped (a .book .now) (a .shape) (e .pre .0) (a .pair) (found d) (b .if1 .left) (k .first-rule .result) (k .first-rule .ensures)
-    same (e .pre .3) y (r .rewrite .last .1 .0)) (made c .r .given .1) (step r) in
-    goes _ z (w .0) (ap (λ y. y .number) (c .outcome4 .ensures)) (subst (Points _ _ _) (sym (ap (λ y. y .finger) (c .outcome4 .ensures))) (w .1))
+    let k = searched (numbered q) in
+    let w = subst (λ y. Stepped (found k) (same q) (word k) y (r .rewrite .last .1 .0)) (made c .r .given .1) (step r) in
+    goes _ (told (found k) (same q) (word k)) (w .0) (ap (λ y. y .number) (c .outcome4 .ensures))
+    (subst (Points _ _ _) (sym (ap (λ y. y .finger) (c .outcome4 .ensures))) (w .1))
 
 pub follow-spec : {M : Type 1} → statement M
 follow-spec =
