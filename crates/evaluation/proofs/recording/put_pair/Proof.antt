@@ -15,7 +15,7 @@ slice-write-record-2 : tie.Need-slice-write-record-2
 slice-write-record-2 c =
     let a = c .before .args in
     let p = c .before .pre .0 (c .if1 .taken) in
-    rw (length-set (a .«record» .now) (2 * a .k) (a .at)) (omega arith)
+    rw length-set (omega arith)
 
 mul-record : tie.Need-mul-record
 mul-record c = let p = c .before .pre .0 (c .if1 .taken) in omega arith
