@@ -3,6 +3,7 @@ pub mod Actives
 pub mod Walks
 pub mod Done
 pub mod Contractions
+pub mod Rooms
 pub mod Inert
 pub mod Found
 -- The machine: its laws, and its theorem

@@ -1,7 +1,6 @@
 -- `recording::put_pair` meets its contract.
 use native.Mathlib.Omega.{arith}
 use mathlib.Core.Path.{sym}
-use Prim.Native.Nat.{_*_}
 use lib.ListN.{length-set}
 use borrow.Author.Needs.{needs}
 use Rattle.evaluation.proofs.Records.{paired-told, paired-none}
