@@ -57,7 +57,9 @@ module _ (s : System) (limit n : ℕ) where
         elim (decLe (2 * steps r + 2) n) [
           | no m ↦ rw (rewrite-full s roomy p r x l (no-room (steps r) (omega arith)) on) (fills (r .trace) (rewrite s free p r x on′) l (omega arith))
           | yes m ↦ elim (decLe (length (stepped s p r x .term)) termWords) [
-            | no k ↦ rw (rewrite-long s roomy p r x l (has-room (steps r) m) (omega arith) on, rewrite-long s free p r x l (free-room (steps r)) (omega arith) on′) (same (stopped overlong (r .trace)))
+            | no k ↦
+                rw (rewrite-long s roomy p r x l (has-room (steps r) m) (omega arith) on, rewrite-long s free p r x l (free-room (steps r)) (omega arith) on′)
+                (same (stopped overlong (r .trace)))
             | yes k ↦ rw (rewrite-goes s roomy p r x l (has-room (steps r) m) k on, rewrite-goes s free p r x l (free-room (steps r)) k on′) (c (stepped s p r x))
           ]
         ]
@@ -73,7 +75,8 @@ module _ (s : System) (limit n : ℕ) where
         go none e ih = rw (follow-pass s roomy inner again es p r e, follow-pass s free inner′ again′ es p r e) ih
         go (some x) e ih = rw (follow-fire s roomy inner again es p r x e, follow-fire s free inner′ again′ es p r x e) (rewrite-cut p r x (again p) (again′ p) (ha p))
     follow-cut (suc i ∷ es) p r = rw (follow-open s roomy inner again i es p r, follow-open s free inner′ again′ i es p r)
-        (after-cut _ _ (λ r′. follow s roomy inner again es p r′) (λ r′. follow s free inner′ again′ es p r′) (hi (argument (s .arities) (r .term) p i) r) (λ r′. follow-cut es p r′))
+        (after-cut _ _ (λ r′. follow s roomy inner again es p r′) (λ r′. follow s free inner′ again′ es p r′)
+        (hi (argument (s .arities) (r .term) p i) r) (λ r′. follow-cut es p r′))
 
   atRoot-cut : (inner inner′ : ℕ → Config → Outcome) → ((p : ℕ) → Cuts (inner p) (inner′ p)) → (left p : ℕ) → Cuts (atRoot s roomy inner left p) (atRoot s free inner′ left p)
   unfolding atRoot
