@@ -1,7 +1,7 @@
 -- All starred cases, computed: one fact for the whole table.
 use mathlib.Core.Path.{refl}
 use Rattle.buffers.specs.Words.{zeros}
-use Rattle.system.specs.BuiltIns.{isLiteral, isBuiltIn, isOperator, builtInArity, builtInStrategy, larger, smaller}
+use Rattle.system.specs.BuiltIns.{isLiteral, isBuiltIn, isBinary, builtInArity, builtInStrategy, larger, smaller, squareLaw}
 use Rattle.system.specs.Signature.{isSymbol, arity, span, argument, replace}
 use Rattle.system.specs.System.{strategy, instance}
 use Rattle.system.specs.Parser.{read, readSystem, readRules, readEnd, readRule, readSide, readWords, readStrategy, number, word, learn, sideFault, symbolFault, variableFault, outside, each, times}
@@ -10,7 +10,7 @@ use Rattle.system.specs.Answers.{termAnswer}
 use Rattle.system.specs.Book.{systemOf}
 use Rattle.matching.specs.StrategyTest.{passes, every, closes, idles, idleTest, isVariable, constructs, firstFailing, testAnswer}
 use Rattle.matching.specs.Cases.{strategyCases}
-use Rattle.matching.specs.Matching.{bind, firstMatch, operation, applied, computed, contraction}
+use Rattle.matching.specs.Matching.{bind, firstMatch, operation, applied, curved, computed, contraction}
 use Rattle.system.specs.Cases.{Hold, bookB, readerCases}
 use Rattle.rewriting.specs.Evaluation.{hasRoom, rewrite, follow, atRoot, evaluate, evaluation}
 use Rattle.evaluation.specs.Expansion.{room, earlier, afterChecks, keep, recordAfter}
@@ -18,31 +18,22 @@ use Rattle.rewriting.specs.Trace.{inOrder}
 use Rattle.system.specs.Terms.{among}
 use Rattle.replay.specs.Activity.{flags, pending, activeAt}
 use Rattle.replay.specs.Replay.{toldBy, replay}
-use Rattle.demands.specs.Cases.{expanding, recording, following, evaluatorCases, starred, literalCases, recordCases}
+use Rattle.demands.specs.Cases.{expanding, recording, following, evaluatorCases, starred, literalCases, recordCases, curveCases, requestCases}
 
 pub starred-cases : Hold starred
 unfolding starred readerCases strategyCases evaluatorCases testAnswer firstFailing passes every closes idles idleTest isVariable constructs
     expanding bookB zeros afterChecks room earlier evaluation evaluate atRoot follow rewrite hasRoom systemOf contraction firstMatch bind instance
     span argument replace strategy read readSystem readRules readEnd readRule readSide readWords readStrategy number word learn sideFault
-    symbolFault variableFault outside each times termFault termAnswer isSymbol arity isLiteral isBuiltIn isOperator builtInArity builtInStrategy
-    computed applied operation larger smaller
+    symbolFault variableFault outside each times termFault termAnswer isSymbol arity isLiteral isBuiltIn isBinary builtInArity builtInStrategy
+    computed applied operation curved larger smaller squareLaw
 starred-cases = refl
 
--- and those of levels
-pub literal-cases : Hold literalCases
-unfolding literalCases
-    expanding bookB zeros afterChecks room earlier evaluation evaluate atRoot follow rewrite hasRoom systemOf contraction firstMatch bind instance
-    span argument replace strategy read readSystem readRules readEnd readRule readSide readWords readStrategy number word learn sideFault
-    symbolFault variableFault outside each times termFault termAnswer isSymbol arity isLiteral isBuiltIn isOperator builtInArity builtInStrategy
-    computed applied operation larger smaller
-literal-cases = refl
-
--- and those of records
-pub record-cases : Hold recordCases
-unfolding recordCases
-    recording following bookB zeros afterChecks recordAfter keep inOrder replay toldBy activeAt pending flags among
+-- and those of the requests
+pub request-cases : Hold requestCases
+unfolding requestCases literalCases recordCases curveCases
+    expanding recording following bookB zeros afterChecks recordAfter keep inOrder replay toldBy activeAt pending flags among
     room earlier evaluation evaluate atRoot follow rewrite hasRoom systemOf contraction firstMatch bind instance
     span argument replace strategy read readSystem readRules readEnd readRule readSide readWords readStrategy number word learn sideFault
-    symbolFault variableFault outside each times termFault termAnswer isSymbol arity isLiteral isBuiltIn isOperator builtInArity builtInStrategy
-    computed applied operation larger smaller
-record-cases = refl
+    symbolFault variableFault outside each times termFault termAnswer isSymbol arity isLiteral isBuiltIn isBinary builtInArity builtInStrategy
+    computed applied operation curved larger smaller squareLaw
+request-cases = refl

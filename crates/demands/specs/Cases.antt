@@ -1,7 +1,7 @@
 -- The starred cases of the evaluator (01: "Rehearsal cues"), which carry on the table of the layers below. What is expected is written from 01.
 use Prim.Native.Nat.{ℕ, zero, suc}
 use mathlib.Core.List.{List, [], _∷_, _++_}
-use lib.ListN.{length, set}
+use lib.ListN.{length, take, drop, set}
 use Rattle.buffers.specs.Words.{zeros}
 use Rattle.system.specs.Cases.{Case, numbers, bookB, earlyB, readerCases}
 use Rattle.matching.specs.Cases.{strategyCases}
@@ -60,10 +60,10 @@ literalCases =
     ∷ record { label = 2; got = expanding bookB (16640 ∷ 16387 ∷ 0 ∷ []) 9; expected = 0 ∷ 3 ∷ 0 ∷ 16640 ∷ 16387 ∷ 0 ∷ [] }
     -- levels as arguments of names: head(then(level 16, chase))
     ∷ record { label = 2; got = expanding bookB (2 ∷ 1 ∷ 16400 ∷ 4 ∷ []) 9; expected = 0 ∷ 1 ∷ 1 ∷ 16400 ∷ [] }
-    -- "Words 16384 to 16639 stand for levels 0 to 255": what is behind 16641 is no word of a cue, and none of a side
-    ∷ record { label = 2; got = expanding bookB (16642 ∷ []) 9; expected = 9 ∷ 0 ∷ 0 ∷ [] }
+    -- what is behind the built-in words is no word of a cue, and none of a side
+    ∷ record { label = 2; got = expanding bookB (16643 ∷ []) 9; expected = 9 ∷ 0 ∷ 0 ∷ [] }
     ∷ record { label = 2; got = expanding bookB (16640 ∷ 16639 ∷ []) 9; expected = 9 ∷ 2 ∷ 0 ∷ [] }
-    ∷ record { label = 2; got = expanding (startsWith 16642) (0 ∷ []) 9; expected = 4 ∷ 20 ∷ 0 ∷ [] }
+    ∷ record { label = 2; got = expanding (startsWith 16643) (0 ∷ []) 9; expected = 4 ∷ 20 ∷ 0 ∷ [] }
     -- "15, place that word's index and 0 steps, where a left side starts with a level or either of these words, checked where 6 is"
     ∷ record { label = 2; got = expanding (startsWith 16384) (0 ∷ []) 9; expected = 15 ∷ 20 ∷ 0 ∷ [] }
     ∷ record { label = 2; got = expanding (startsWith 16641) (0 ∷ []) 9; expected = 15 ∷ 20 ∷ 0 ∷ [] }
@@ -107,3 +107,45 @@ recordCases =
     ∷ record { label = 3; got = following bookB (1 ∷ 0 ∷ 4 ∷ []) (2 ∷ 0 ∷ []); expected = 17 ∷ 0 ∷ 0 ∷ [] }
     ∷ record { label = 3; got = following bookB (4 ∷ []) (1 ∷ 0 ∷ []); expected = 17 ∷ 0 ∷ 0 ∷ [] }
     ∷ []
+
+-- ---- the curve (02, F-4), over book B. What is expected is written from 02
+
+-- curve(higher of(level 12, level 200))
+abbrev pub dimmed : List ℕ
+dimmed = 16642 ∷ 16640 ∷ 16396 ∷ 16584 ∷ []
+
+-- rule 1, head(then(a, b)) to a (words 25 to 31), made head(then(a, b)) to curve(a), and made head(curve(a)) to a
+abbrev pub curveRight : List ℕ
+curveRight = take 30 bookB ++ ((2 ∷ 16642 ∷ 32768 ∷ []) ++ drop 32 bookB)
+
+abbrev pub curveLeft : List ℕ
+curveLeft = take 25 bookB ++ ((3 ∷ 2 ∷ 16642 ∷ 32768 ∷ []) ++ drop 30 bookB)
+
+unfoldable pub curveCases : List Case
+curveCases =
+    -- "level n becomes (n × n + 127) divided by 255, whole part": 11 to 0 (248 / 255), 12 to 1 (271 / 255), 200 to 157 (40,127 / 255), 255 to 255
+    record { label = 4; got = expanding bookB (16642 ∷ 16395 ∷ []) 1; expected = 0 ∷ 1 ∷ 1 ∷ 16384 ∷ [] }
+    ∷ record { label = 4; got = expanding bookB (16642 ∷ 16396 ∷ []) 1; expected = 0 ∷ 1 ∷ 1 ∷ 16385 ∷ [] }
+    ∷ record { label = 4; got = expanding bookB (16642 ∷ 16584 ∷ []) 1; expected = 0 ∷ 1 ∷ 1 ∷ 16541 ∷ [] }
+    ∷ record { label = 4; got = expanding bookB (16642 ∷ 16639 ∷ []) 1; expected = 0 ∷ 1 ∷ 1 ∷ 16639 ∷ [] }
+    -- "one argument, order 1 0"
+    ∷ record { label = 4; got = expanding bookB dimmed 2; expected = 0 ∷ 1 ∷ 2 ∷ 16541 ∷ [] }
+    ∷ record { label = 4; got = expanding bookB dimmed 1; expected = 11 ∷ 0 ∷ 1 ∷ [] }
+    ∷ record { label = 4; got = expanding bookB (16642 ∷ 0 ∷ []) 9; expected = 0 ∷ 2 ∷ 0 ∷ 16642 ∷ 0 ∷ [] }
+    -- "rule 130", in a record and its replay
+    ∷ record { label = 4; got = recording bookB dimmed 2 (zeros 4); expected = 0 ∷ 1 ∷ 2 ∷ 16541 ∷ 1 ∷ 128 ∷ 0 ∷ 130 ∷ [] }
+    ∷ record { label = 4; got = following bookB dimmed (1 ∷ 128 ∷ 0 ∷ 130 ∷ []); expected = 0 ∷ 1 ∷ 2 ∷ 16541 ∷ [] }
+    ∷ record { label = 4; got = following bookB dimmed (0 ∷ 130 ∷ []); expected = 17 ∷ 0 ∷ 0 ∷ [] }
+    -- "Cue reading, rule sides and 15 treat the word as they do 16640"
+    ∷ record { label = 4; got = expanding bookB (16642 ∷ []) 9; expected = 9 ∷ 1 ∷ 0 ∷ [] }
+    ∷ record { label = 4; got = expanding bookB (16642 ∷ 0 ∷ 0 ∷ []) 9; expected = 9 ∷ 2 ∷ 0 ∷ [] }
+    ∷ record { label = 4; got = expanding (startsWith 16642) (0 ∷ []) 9; expected = 15 ∷ 20 ∷ 0 ∷ [] }
+    -- on the right: head(then(level 200, chase)); on the left: of head(curve(flash)) the argument stays, of head(curve(level 200)) it does not
+    ∷ record { label = 4; got = expanding curveRight (2 ∷ 1 ∷ 16584 ∷ 4 ∷ []) 9; expected = 0 ∷ 1 ∷ 2 ∷ 16541 ∷ [] }
+    ∷ record { label = 4; got = expanding curveLeft (2 ∷ 16642 ∷ 0 ∷ []) 9; expected = 0 ∷ 1 ∷ 1 ∷ 0 ∷ [] }
+    ∷ record { label = 4; got = expanding curveLeft (2 ∷ 16642 ∷ 16584 ∷ []) 9; expected = 0 ∷ 2 ∷ 1 ∷ 2 ∷ 16541 ∷ [] }
+    ∷ []
+
+-- all cases of the requests
+unfoldable pub requestCases : List Case
+requestCases = literalCases ++ (recordCases ++ curveCases)

@@ -2,26 +2,28 @@
 use Prim.Native.Nat.{ℕ, zero, suc, _+_, _-_, _≤_, _<_}
 use native.Mathlib.Nat.{add-sub-cancel-left}
 use native.Mathlib.Omega.{arith}
+use native.Mathlib.Decide.{ℕ-discrete}
 use mathlib.Core.Path.{_≡_, refl, sym, ap, _∙_, subst}
 use mathlib.Core.Logic.{_⊎_, inl, inr}
-use mathlib.Core.Bool.{Bool, true, false, cond, _&&_, _||_}
+use mathlib.Core.Bool.{Bool, true, false, cond, _&&_}
 use mathlib.Core.Option.{Option, none, some}
 use mathlib.Core.List.{List, [], _∷_, _++_}
-use lib.ListN.{length, getD, List·getD-append}
-use lib.Dec.{eqb}
+use lib.ListN.{length, getD, List·getD-append, List·getD-eq-default}
+use borrow.Author.Tests.{eq-eqb, ne-eqb}
 use Rattle.system.specs.Limits.{variable}
-use Rattle.system.specs.BuiltIns.{literal, literals, maximum, minimum, isLiteral, isOperator, larger, smaller}
+use Rattle.system.specs.BuiltIns.{literal, literals, maximum, minimum, curve, isLiteral, larger, smaller, squareLaw}
 use Rattle.system.specs.Signature.{Signature, Symbol, arity}
-use Rattle.system.specs.System.{Rule}
-use Rattle.system.specs.Rules.{BuiltIn, max, min, maximumRule, minimumRule}
+use Rattle.system.specs.System.{Rule, head}
+use Rattle.system.specs.Rules.{BuiltIn, max, min, square, maximumRule, minimumRule, curveRule}
 use Rattle.system.specs.Terms.{Forest, more, Whole}
-use Rattle.system.proofs.BuiltIns.{literal-is, is-literal, number-of, literal-operator, operator-cases, maximum-operator, minimum-operator}
-use Rattle.system.proofs.BuiltIns.{operator-arity, plain-arity, larger-words, smaller-words, larger-below, smaller-below}
+use Rattle.system.proofs.BuiltIns.{literal-is, is-literal, number-of, Operands, binary, unary, nullary, operands, arity-two, arity-one, arity-none}
+use Rattle.system.proofs.BuiltIns.{larger-words, smaller-words, larger-below, smaller-below}
+use Rattle.system.proofs.SquareLaw.{square-below}
 use Rattle.system.proofs.Signatures.{arity-unlisted}
 use Rattle.system.proofs.Forests.{forest-length, forest-none}
-use Rattle.matching.specs.Matching.{Computation, operation, applied, computed}
+use Rattle.matching.specs.Matching.{Computation, operation, applied, curved, computed}
 
--- ---- an operator before two words
+-- ---- what an operator makes of the words behind it
 
 operation-maximum : (m n : ℕ) → operation maximum m n ≡ some (record { number = maximumRule; word = literal + larger m n })
 unfolding operation
@@ -31,129 +33,162 @@ operation-minimum : (m n : ℕ) → operation minimum m n ≡ some (record { num
 unfolding operation
 operation-minimum m n = refl
 
-operation-plain : (f m n : ℕ) → isOperator f ≡ false → operation f m n ≡ none
-unfolding operation isOperator
-operation-plain f m n o = go (eqb f maximum) (eqb f minimum) o
-  where
-    go : (p q : Bool) → (p || q) ≡ false → _≡_ {A = Option Computation}
-        (cond p (some (record { number = maximumRule; word = literal + larger m n })) (cond q (some (record { number = minimumRule; word = literal + smaller m n })) none)) none
-    go true q o = absurd (let z : _≡_ {A = ℕ} 0 1 = cc in omega arith)
-    go false true o = absurd (let z : _≡_ {A = ℕ} 0 1 = cc in omega arith)
-    go false false o = refl
+operation-plain : (f m n : ℕ) → (f ≡ maximum → ⊥) → (f ≡ minimum → ⊥) → operation f m n ≡ none
+unfolding operation
+operation-plain f m n a b = rw (ne-eqb f maximum a, ne-eqb f minimum b)
 
-applied-literals : (f m n : ℕ) → m < literals → n < literals → applied f (literal + m) (literal + n) ≡ operation f m n
+applied-literals : (f a b : ℕ) → isLiteral a ≡ true → isLiteral b ≡ true → applied f a b ≡ operation f (a - literal) (b - literal)
 unfolding applied
-applied-literals f m n a b = rw (literal-is m a, literal-is n b, add-sub-cancel-left literal m, add-sub-cancel-left literal n)
+applied-literals f a b u v = rw (u, v)
 
--- which operator it was, and that its arguments are literals
-pub record Operates (f a b : ℕ) : Type 0 where
-  pub operator : (f ≡ maximum) ⊎ (f ≡ minimum)
-  pub left : isLiteral a ≡ true
-  pub right : isLiteral b ≡ true
+curved-literal : (a : ℕ) → isLiteral a ≡ true → curved a ≡ some (record { number = curveRule; word = literal + squareLaw (a - literal) })
+unfolding curved
+curved-literal a u = rw u
 
-pub applied-operates : (f a b : ℕ) (x : Computation) → applied f a b ≡ some x → Operates f a b
+-- by the first word
+module _ (ws : List ℕ) where
+  computed-unary : getD ws 0 0 ≡ curve → computed ws ≡ curved (getD ws 1 0)
+  unfolding computed
+  computed-unary q = rw (eq-eqb (getD ws 0 0) curve q)
+
+  computed-binary : (getD ws 0 0 ≡ curve → ⊥) → computed ws ≡ applied (getD ws 0 0) (getD ws 1 0) (getD ws 2 0)
+  unfolding computed
+  computed-binary q = rw (ne-eqb (getD ws 0 0) curve q)
+
+-- ---- what is computed, and of which words
+
+pub data Operates (f a b : ℕ) (x : Computation) : Type 0 where
+  by-max : f ≡ maximum → isLiteral a ≡ true → isLiteral b ≡ true →
+      x ≡ record { number = maximumRule; word = literal + larger (a - literal) (b - literal) } → Operates f a b x
+  by-min : f ≡ minimum → isLiteral a ≡ true → isLiteral b ≡ true →
+      x ≡ record { number = minimumRule; word = literal + smaller (a - literal) (b - literal) } → Operates f a b x
+  by-square : f ≡ curve → isLiteral a ≡ true → x ≡ record { number = curveRule; word = literal + squareLaw (a - literal) } → Operates f a b x
+
+applied-operates : (f a b : ℕ) (x : Computation) → applied f a b ≡ some x → Operates f a b x
 unfolding applied
 applied-operates f a b x e = go (isLiteral a) refl (isLiteral b) refl e
   where
-    by : (b′ : ((f ≡ maximum) ⊎ (f ≡ minimum)) ⊎ (isOperator f ≡ false)) → (m n : ℕ) → operation f m n ≡ some x → (f ≡ maximum) ⊎ (f ≡ minimum)
-    by (inl o) m n e = o
-    by (inr o) m n e = absurd (let z : _≡_ {A = ℕ} 0 1 = cc (operation-plain f m n o) in omega arith)
+    by : isLiteral a ≡ true → isLiteral b ≡ true → operation f (a - literal) (b - literal) ≡ some x → Operates f a b x
+    by u v e = elim (ℕ-discrete f maximum) [
+      | yes q ↦ by-max q u v (let z = operation-maximum (a - literal) (b - literal) in let y = ap (λ f. operation f (a - literal) (b - literal)) q in cc)
+      | no p ↦
+          elim (ℕ-discrete f minimum) [
+            | yes q ↦ by-min q u v (let z = operation-minimum (a - literal) (b - literal) in let y = ap (λ f. operation f (a - literal) (b - literal)) q in cc)
+            | no q ↦ absurd (let z : _≡_ {A = ℕ} 0 1 = cc (operation-plain f (a - literal) (b - literal) p q) in omega arith)
+          ]
+    ]
 
-    go : (p : Bool) → isLiteral a ≡ p → (q : Bool) → isLiteral b ≡ q → cond (p && q) (operation f (a - literal) (b - literal)) none ≡ some x → Operates f a b
-    go true u true v e = record { operator = by (operator-cases f) _ _ e; left = u; right = v }
+    go : (p : Bool) → isLiteral a ≡ p → (q : Bool) → isLiteral b ≡ q → cond (p && q) (operation f (a - literal) (b - literal)) none ≡ some x → Operates f a b x
+    go true u true v e = by u v e
     go true u false v e = absurd (let z : _≡_ {A = ℕ} 0 1 = cc in omega arith)
     go false u q v e = absurd (let z : _≡_ {A = ℕ} 0 1 = cc in omega arith)
 
-applied-plain : (f a b : ℕ) → isOperator f ≡ false → applied f a b ≡ none
-unfolding applied
-applied-plain f a b o = rw (operation-plain f (a - literal) (b - literal) o) (go (isLiteral a && isLiteral b))
+curved-operates : (f a b : ℕ) (x : Computation) → f ≡ curve → curved a ≡ some x → Operates f a b x
+unfolding curved
+curved-operates f a b x q e = go (isLiteral a) refl e
   where
-    go : (p : Bool) → _≡_ {A = Option Computation} (cond p none none) none
-    go true = refl
-    go false = refl
-
--- ---- in the terms of the code
+    go : (p : Bool) → isLiteral a ≡ p → cond p (some (record { number = curveRule; word = literal + squareLaw (a - literal) })) none ≡ some x → Operates f a b x
+    go true u e = by-square q u cc
+    go false u e = absurd (let z : _≡_ {A = ℕ} 0 1 = cc in omega arith)
 
 module _ (ws : List ℕ) where
-  pub computed-first : isLiteral (getD ws 1 0) ≡ false → computed ws ≡ none
-  unfolding computed applied
-  computed-first u = rw u
+  abbrev Found : Computation → Type 0
+  Found x = Operates (getD ws 0 0) (getD ws 1 0) (getD ws 2 0) x
 
-  pub computed-second : isLiteral (getD ws 2 0) ≡ false → computed ws ≡ none
-  unfolding computed applied
-  computed-second u = rw u (go (isLiteral (getD ws 1 0)) _)
+  pub operates : (x : Computation) → computed ws ≡ some x → Found x
+  operates x e = elim (ℕ-discrete (getD ws 0 0) curve) [
+    | yes q ↦ curved-operates _ _ _ x q (sym (computed-unary ws q) ∙ e)
+    | no q ↦ applied-operates _ _ _ x (sym (computed-binary ws q) ∙ e)
+  ]
+
+  -- nothing, where no operator stands or an argument is no literal
+  unless : ((x : Computation) → Found x → ⊥) → computed ws ≡ none
+  unless un = go (computed ws) refl
     where
-      go : (a : Bool) (x : Option Computation) → cond (a && false) x none ≡ none
-      go true x = refl
-      go false x = refl
-
-  computed-both : isLiteral (getD ws 1 0) ≡ true → isLiteral (getD ws 2 0) ≡ true →
-      computed ws ≡ operation (getD ws 0 0) (getD ws 1 0 - literal) (getD ws 2 0 - literal)
-  unfolding computed applied
-  computed-both u v = rw (u, v)
-
-  -- the operators compute with the words themselves
-  pub computed-maximum : getD ws 0 0 ≡ maximum → isLiteral (getD ws 1 0) ≡ true → isLiteral (getD ws 2 0) ≡ true →
-      computed ws ≡ some (record { number = maximumRule; word = larger (getD ws 1 0) (getD ws 2 0) })
-  computed-maximum q u v =
-      computed-both u v ∙ ap (λ f. operation f (getD ws 1 0 - literal) (getD ws 2 0 - literal)) q ∙ operation-maximum _ _
-      ∙ ap (λ w. some (record { number = maximumRule; word = w })) (sym (larger-words literal _ _ (is-literal _ u .0) (is-literal _ v .0)))
-
-  pub computed-minimum : getD ws 0 0 ≡ minimum → isLiteral (getD ws 1 0) ≡ true → isLiteral (getD ws 2 0) ≡ true →
-      computed ws ≡ some (record { number = minimumRule; word = smaller (getD ws 1 0) (getD ws 2 0) })
-  computed-minimum q u v =
-      computed-both u v ∙ ap (λ f. operation f (getD ws 1 0 - literal) (getD ws 2 0 - literal)) q ∙ operation-minimum _ _
-      ∙ ap (λ w. some (record { number = minimumRule; word = w })) (sym (smaller-words literal _ _ (is-literal _ u .0) (is-literal _ v .0)))
-
-  -- a word that is not there is no literal
-  pub computed-short : length ws < 3 → computed ws ≡ none
-  unfolding computed
-  computed-short h = go (computed ws) refl
-    where
-      none-there : getD ws 2 0 ≡ 0
-      none-there = past ws 2 (omega arith)
-        where
-          past : (xs : List ℕ) (i : ℕ) → length xs ≤ i → getD xs i 0 ≡ 0
-          past [] i h = refl
-          past (x ∷ xs) zero h = absurd (omega arith)
-          past (x ∷ xs) (suc i) h = past xs i (omega arith)
-
       go : (o : Option Computation) → computed ws ≡ o → computed ws ≡ none
       go none e = e
-      go (some x) e = absurd (let l = is-literal _ (applied-operates _ _ _ x e .right) .0 in omega (arith, none-there))
+      go (some x) e = absurd (un x (operates x e))
 
-  -- only an operator computes
-  pub computed-plain : isOperator (getD ws 0 0) ≡ false → computed ws ≡ none
-  unfolding computed
-  computed-plain o = applied-plain (getD ws 0 0) (getD ws 1 0) (getD ws 2 0) o
+  clash : {b : Bool} → b ≡ true → b ≡ false → ⊥
+  clash u v = let z : _≡_ {A = ℕ} 0 1 = cc in omega arith
+
+  pub computed-first : isLiteral (getD ws 1 0) ≡ false → computed ws ≡ none
+  computed-first l = unless (λ x. elim [ by-max q u v e ↦ clash u l | by-min q u v e ↦ clash u l | by-square q u e ↦ clash u l ])
+
+  pub computed-second : (getD ws 0 0 ≡ curve → ⊥) → isLiteral (getD ws 2 0) ≡ false → computed ws ≡ none
+  computed-second n l = unless (λ x. elim [ by-max q u v e ↦ clash v l | by-min q u v e ↦ clash v l | by-square q u e ↦ n q ])
+
+  pub computed-plain : (getD ws 0 0 ≡ maximum → ⊥) → (getD ws 0 0 ≡ minimum → ⊥) → (getD ws 0 0 ≡ curve → ⊥) → computed ws ≡ none
+  computed-plain a b c = unless (λ x. elim [ by-max q u v e ↦ a q | by-min q u v e ↦ b q | by-square q u e ↦ c q ])
 
   pub computed-low : getD ws 0 0 < literal → computed ws ≡ none
-  computed-low h = computed-plain (literal-operator (getD ws 0 0) (omega arith))
+  computed-low h = computed-plain (λ q. omega arith) (λ q. omega arith) (λ q. omega arith)
+
+  -- a word that is not there is no literal
+  absent : (i : ℕ) → length ws ≤ i → isLiteral (getD ws i 0) ≡ false
+  unfolding isLiteral
+  absent i h = rw (List·getD-eq-default ws 0 {n = i} h)
+
+  pub computed-one : length ws < 2 → computed ws ≡ none
+  computed-one h = computed-first (absent 1 (omega arith))
+
+  pub computed-two : (getD ws 0 0 ≡ curve → ⊥) → length ws < 3 → computed ws ≡ none
+  computed-two n h = computed-second n (absent 2 (omega arith))
+
+  -- the operators on two literals compute with the words themselves
+  module _ (u : isLiteral (getD ws 1 0) ≡ true) where
+    pub computed-square : getD ws 0 0 ≡ curve → computed ws ≡ some (record { number = curveRule; word = literal + squareLaw (getD ws 1 0 - literal) })
+    computed-square q = computed-unary ws q ∙ curved-literal (getD ws 1 0) u
+
+    module _ (v : isLiteral (getD ws 2 0) ≡ true) where
+      computed-both : (f : ℕ) → getD ws 0 0 ≡ f → (f ≡ curve → ⊥) → computed ws ≡ operation f (getD ws 1 0 - literal) (getD ws 2 0 - literal)
+      computed-both f q n =
+          computed-binary ws (λ e. n (sym q ∙ e)) ∙ applied-literals _ _ _ u v ∙ ap (λ f. operation f (getD ws 1 0 - literal) (getD ws 2 0 - literal)) q
+
+      pub computed-maximum : getD ws 0 0 ≡ maximum → computed ws ≡ some (record { number = maximumRule; word = larger (getD ws 1 0) (getD ws 2 0) })
+      computed-maximum q =
+          computed-both maximum q (λ e. omega arith) ∙ operation-maximum _ _
+          ∙ ap (λ w. some (record { number = maximumRule; word = w })) (sym (larger-words literal _ _ (is-literal _ u .0) (is-literal _ v .0)))
+
+      pub computed-minimum : getD ws 0 0 ≡ minimum → computed ws ≡ some (record { number = minimumRule; word = smaller (getD ws 1 0) (getD ws 2 0) })
+      computed-minimum q =
+          computed-both minimum q (λ e. omega arith) ∙ operation-minimum _ _
+          ∙ ap (λ w. some (record { number = minimumRule; word = w })) (sym (smaller-words literal _ _ (is-literal _ u .0) (is-literal _ v .0)))
+
+pub computed-empty : computed [] ≡ none
+computed-empty = computed-one [] (omega arith)
 
 -- ---- a left side that stands there is found
 
+-- a rule puts one word there
+lone : {k : ℕ} {r : Rule} → BuiltIn k r → head (r .rhs) ∷ [] ≡ r .rhs
+lone (max a b) = refl
+lone (min a b) = refl
+lone (square a) = refl
+
+two-of : (f m n : ℕ) → m < literals → n < literals → applied f (literal + m) (literal + n) ≡ operation f m n
+two-of f m n a b =
+    applied-literals f _ _ (literal-is m a) (literal-is n b) ∙ (λ i. operation f (add-sub-cancel-left literal m i) (add-sub-cancel-left literal n i))
+
+computed-lhs : {k : ℕ} {r : Rule} → BuiltIn k r → computed (r .lhs) ≡ some (record { number = k; word = head (r .rhs) })
+computed-lhs (max {m} {n} a b) = computed-binary (maximum ∷ (literal + m) ∷ (literal + n) ∷ []) (λ e. omega arith) ∙ two-of maximum m n a b ∙ operation-maximum m n
+computed-lhs (min {m} {n} a b) = computed-binary (minimum ∷ (literal + m) ∷ (literal + n) ∷ []) (λ e. omega arith) ∙ two-of minimum m n a b ∙ operation-minimum m n
+computed-lhs (square {n} a) =
+    computed-unary (curve ∷ (literal + n) ∷ []) refl ∙ curved-literal (literal + n) (literal-is n a)
+    ∙ ap (λ n. some (record { number = curveRule; word = literal + squareLaw n })) (add-sub-cancel-left literal n)
+
 pub computed-left : {k : ℕ} {r : Rule} → BuiltIn k r → (x : Computation) → computed (r .lhs) ≡ some x → (x .number ≡ k) × (x .word ∷ [] ≡ r .rhs)
-unfolding computed
-computed-left (max {m} {n} a b) x e =
-    let d = applied-literals maximum m n a b ∙ operation-maximum m n in
-    let q : x ≡ record { number = maximumRule; word = literal + larger m n } = cc in
-    (ap (λ y. y .number) q, ap (λ y. y .word ∷ []) q)
-computed-left (min {m} {n} a b) x e =
-    let d = applied-literals minimum m n a b ∙ operation-minimum m n in
-    let q : x ≡ record { number = minimumRule; word = literal + smaller m n } = cc in
-    (ap (λ y. y .number) q, ap (λ y. y .word ∷ []) q)
+computed-left {k} {r} d x e =
+    let z = computed-lhs d in
+    let q : x ≡ record { number = k; word = head (r .rhs) } = cc in
+    (ap (λ y. y .number) q, ap (λ y. y .word ∷ []) q ∙ lone d)
 
 pub left-computed : {k : ℕ} {r : Rule} → BuiltIn k r → computed (r .lhs) ≡ none → ⊥
-unfolding computed
-left-computed (max {m} {n} a b) e = let d = applied-literals maximum m n a b ∙ operation-maximum m n in let z : _≡_ {A = ℕ} 0 1 = cc in omega arith
-left-computed (min {m} {n} a b) e = let d = applied-literals minimum m n a b ∙ operation-minimum m n in let z : _≡_ {A = ℕ} 0 1 = cc in omega arith
+left-computed d e = let q = computed-lhs d in let z : _≡_ {A = ℕ} 0 1 = cc in omega arith
+
+-- ---- of a whole term
 
 module _ (g : Signature) (few : length g ≤ literal) where
-  -- the arguments of an operator, which are two literals
-  operator-two : (w : ℕ) → (w ≡ maximum) ⊎ (w ≡ minimum) → arity g w ≡ 2
-  operator-two w (inl e) = arity-unlisted g w (omega arith) ∙ operator-arity w (ap isOperator e ∙ maximum-operator)
-  operator-two w (inr e) = arity-unlisted g w (omega arith) ∙ operator-arity w (ap isOperator e ∙ minimum-operator)
-
   -- a literal at the front of a forest is its first term
   record Front (P : ℕ → Type 0) (k : ℕ) (ws : List ℕ) : Type 0 where
     rest : List ℕ
@@ -163,19 +198,20 @@ module _ (g : Signature) (few : length g ≤ literal) where
   front : {P : ℕ → Type 0} {k : ℕ} {ws : List ℕ} → Forest g P (suc k) ws → isLiteral (getD ws 0 0) ≡ true → Front P k ws
   front {P} (more {w} {k} {ws} h f) e =
       let c = is-literal w e in
-      let none = arity-unlisted g w (omega arith) ∙ plain-arity w (literal-operator w (c .1)) in
+      let none = arity-unlisted g w (omega arith) ∙ arity-none w (inl (c .1)) in
       record { rest = ws; equal = refl; forest = subst (λ n. Forest g P n ws) (omega arith) f }
+
+  one-literal : {P : ℕ → Type 0} {ws : List ℕ} → Forest g P 1 ws → isLiteral (getD ws 0 0) ≡ true → ws ≡ getD ws 0 0 ∷ []
+  one-literal {ws} f a = let c = front f a in c .equal ∙ ap (λ r. getD ws 0 0 ∷ r) (forest-none (c .forest))
 
   two-literals : {P : ℕ → Type 0} {ws : List ℕ} → Forest g P 2 ws → isLiteral (getD ws 0 0) ≡ true → isLiteral (getD ws 1 0) ≡ true →
       ws ≡ getD ws 0 0 ∷ getD ws 1 0 ∷ []
   two-literals {ws} f a b =
       let c = front f a in
       let q : getD ws 1 0 ≡ getD (c .rest) 0 0 = ap (λ r. getD r 1 0) (c .equal) in
-      let d = front (c .forest) (sym (ap isLiteral q) ∙ b) in
-      c .equal ∙ ap (λ r. getD ws 0 0 ∷ r) (d .equal ∙ ap (λ r. getD (c .rest) 0 0 ∷ r) (forest-none (d .forest)) ∙ ap (λ y. y ∷ []) (sym q))
+      c .equal ∙ ap (λ r. getD ws 0 0 ∷ r) (one-literal (c .forest) (sym (ap isLiteral q) ∙ b) ∙ ap (λ y. y ∷ []) (sym q))
 
-  -- ---- what is found is a built-in rule whose left side is the term
-
+  -- what is found is a built-in rule whose left side is the term
   pub record Redex (u : List ℕ) (x : Computation) : Type 0 where
     pub chosen : Rule
     pub built : BuiltIn (x .number) chosen
@@ -183,8 +219,7 @@ module _ (g : Signature) (few : length g ≤ literal) where
     pub right : x .word ∷ [] ≡ chosen .rhs
 
   pub computed-built : {u : List ℕ} → Whole g u → (x : Computation) → computed u ≡ some x → Redex u x
-  unfolding computed
-  computed-built (more {w} {ws} h f) x e = go (o .operator)
+  computed-built (more {w} {ws} h f) x e = go (operates (w ∷ ws) x e)
     where
       a : ℕ
       a = getD ws 0 0
@@ -192,63 +227,54 @@ module _ (g : Signature) (few : length g ≤ literal) where
       b : ℕ
       b = getD ws 1 0
 
-      o : Operates w a b
-      o = applied-operates w a b x e
+      under : {n : ℕ} → arity g w ≡ n → Forest g (Symbol g) n ws
+      under q = subst (λ n. Forest g (Symbol g) n ws) (omega (arith, q)) f
 
-      words : (w ≡ maximum) ⊎ (w ≡ minimum) → ws ≡ (literal + (a - literal)) ∷ (literal + (b - literal)) ∷ []
-      words q =
-          two-literals (subst (λ n. Forest g (Symbol g) n ws) (omega (arith, operator-two w q)) f) (o .left) (o .right)
-          ∙ (λ i. number-of a (o .left) .0 i ∷ number-of b (o .right) .0 i ∷ [])
+      two : maximum ≤ w → w ≤ minimum → isLiteral a ≡ true → isLiteral b ≡ true → ws ≡ (literal + (a - literal)) ∷ (literal + (b - literal)) ∷ []
+      two l h u v =
+          two-literals (under (arity-unlisted g w (omega arith) ∙ arity-two w l h)) u v ∙ (λ i. number-of a u .0 i ∷ number-of b v .0 i ∷ [])
 
-      by : {k : ℕ} {r : Rule} → BuiltIn k r → w ∷ ws ≡ r .lhs → Redex (w ∷ ws) x
-      by {k} {r} d l =
-          let c = computed-left d x (sym (ap computed l) ∙ e) in
-          record { chosen = r; built = subst (λ n. BuiltIn n r) (sym (c .0)) d; left = l; right = c .1 }
+      one : w ≡ curve → isLiteral a ≡ true → ws ≡ (literal + (a - literal)) ∷ []
+      one q u = one-literal (under (arity-unlisted g w (omega arith) ∙ arity-one w q)) u ∙ (λ i. number-of a u .0 i ∷ [])
 
-      go : (w ≡ maximum) ⊎ (w ≡ minimum) → Redex (w ∷ ws) x
-      go (inl q) = by (max (number-of a (o .left) .1) (number-of b (o .right) .1)) (λ i. q i ∷ words (inl q) i)
-      go (inr q) = by (min (number-of a (o .left) .1) (number-of b (o .right) .1)) (λ i. q i ∷ words (inr q) i)
+      by : {k v : ℕ} {r : Rule} → BuiltIn k r → x ≡ record { number = k; word = v } → v ∷ [] ≡ r .rhs → w ∷ ws ≡ r .lhs → Redex (w ∷ ws) x
+      by {r} d e q l =
+          record { chosen = r; built = subst (λ y. BuiltIn (y .number) r) (sym e) d; left = l; right = ap (λ y. y .word ∷ []) e ∙ q }
 
-  -- ---- what follows the term does not count
+      go : Operates w a b x → Redex (w ∷ ws) x
+      go (by-max q u v e) = by (max (number-of a u .1) (number-of b v .1)) e refl (λ i. q i ∷ two (omega arith) (omega arith) u v i)
+      go (by-min q u v e) = by (min (number-of a u .1) (number-of b v .1)) e refl (λ i. q i ∷ two (omega arith) (omega arith) u v i)
+      go (by-square q u e) = by (square (number-of a u .1)) e refl (λ i. q i ∷ one q u i)
 
+  -- what follows the term does not count
   pub computed-rest : {u : List ℕ} (b : List ℕ) → Whole g u → computed (u ++ b) ≡ computed u
-  unfolding computed
-  computed-rest b (more {w} {ws} h f) = go (operator-cases w)
+  computed-rest b (more {w} {ws} h f) = elim (operands w) [
+    | binary l u ↦
+        let k = forest-length f in
+        let two = arity-unlisted g w (omega arith) ∙ arity-two w l u in
+        computed-binary (w ∷ ws ++ b) (λ e. omega arith)
+        ∙ (λ i. applied w (List·getD-append ws b 0 0 (omega arith) i) (List·getD-append ws b 0 1 (omega arith) i))
+        ∙ sym (computed-binary (w ∷ ws) (λ e. omega arith))
+    | unary q ↦
+        let k = forest-length f in
+        let one = arity-unlisted g w (omega arith) ∙ arity-one w q in
+        computed-unary (w ∷ ws ++ b) q ∙ ap curved (List·getD-append ws b 0 0 (omega arith)) ∙ sym (computed-unary (w ∷ ws) q)
+    | nullary n ↦ nothing n (w ∷ ws ++ b) refl ∙ sym (nothing n (w ∷ ws) refl)
+  ]
     where
-      go : ((w ≡ maximum) ⊎ (w ≡ minimum)) ⊎ (isOperator w ≡ false) → computed (w ∷ ws ++ b) ≡ computed (w ∷ ws)
-      go (inr o) = applied-plain w _ _ o ∙ sym (applied-plain w _ _ o)
-      go (inl q) =
-          let l = forest-length f in
-          let two = operator-two w q in
-          rw (List·getD-append ws b 0 0 (omega arith), List·getD-append ws b 0 1 (omega arith))
+      nothing : (w < maximum) ⊎ (curve < w) → (us : List ℕ) → getD us 0 0 ≡ w → computed us ≡ none
+      nothing (inl l) us q = computed-plain us (λ e. omega arith) (λ e. omega arith) (λ e. omega arith)
+      nothing (inr l) us q = computed-plain us (λ e. omega arith) (λ e. omega arith) (λ e. omega arith)
 
--- ---- what is computed is a literal, in the place of three words
+-- ---- what is computed is a literal
 
 pub computed-value : (ws : List ℕ) {x : Computation} → computed ws ≡ some x → x .word < variable
-unfolding computed applied
-computed-value ws {x} e = go (applied-operates _ _ _ x e) e
+computed-value ws {x} e = go (operates ws x e)
   where
-    value : {k w : ℕ} → some (record { number = k; word = w }) ≡ some x → w < variable → x .word < variable
-    value {k} {w} e h = let q : x ≡ record { number = k; word = w } = cc in rw q h
+    word : {k v : ℕ} → x ≡ record { number = k; word = literal + v } → v < literals → x .word < variable
+    word q h = rw (ap (λ y. y .word) q) (omega arith)
 
-    go : Operates (getD ws 0 0) (getD ws 1 0) (getD ws 2 0) → applied (getD ws 0 0) (getD ws 1 0) (getD ws 2 0) ≡ some x → x .word < variable
-    go o e = by (o .operator) (rw (o .left, o .right) at e)
-      where
-        a : ℕ
-        a = getD ws 1 0 - literal
-
-        b : ℕ
-        b = getD ws 2 0 - literal
-
-        by : (getD ws 0 0 ≡ maximum) ⊎ (getD ws 0 0 ≡ minimum) → operation (getD ws 0 0) a b ≡ some x → x .word < variable
-        by (inl q) e = value (sym (operation-maximum a b) ∙ ap (λ f. operation f a b) (sym q) ∙ e)
-            (let z = larger-below a b literals (number-of _ (o .left) .1) (number-of _ (o .right) .1) in omega arith)
-        by (inr q) e = value (sym (operation-minimum a b) ∙ ap (λ f. operation f a b) (sym q) ∙ e)
-            (let z = smaller-below a b literals (number-of _ (o .left) .1) (number-of _ (o .right) .1) in omega arith)
-
-pub built-length : {k : ℕ} {r : Rule} → BuiltIn k r → length (r .lhs) ≡ 3
-built-length (max a b) = refl
-built-length (min a b) = refl
-
-pub computed-empty : computed [] ≡ none
-computed-empty = computed-short [] (omega arith)
+    go : Found ws x → x .word < variable
+    go (by-max q u v e) = word e (larger-below _ _ literals (number-of _ u .1) (number-of _ v .1))
+    go (by-min q u v e) = word e (smaller-below _ _ literals (number-of _ u .1) (number-of _ v .1))
+    go (by-square q u e) = word e (square-below _ (number-of _ u .1))

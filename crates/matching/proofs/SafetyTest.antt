@@ -11,12 +11,12 @@ use lib.ListN.{length, getD}
 use lib.Dec.{eqb}
 use borrow.Author.Tests.{leb-true, le-leb, eq-eqb, ne-eqb}
 use Rattle.system.specs.Limits.{variable}
-use Rattle.system.specs.BuiltIns.{isBuiltIn, isOperator}
+use Rattle.system.specs.BuiltIns.{isBuiltIn, builtInArity}
 use Rattle.system.specs.Signature.{Listed}
 use Rattle.system.specs.System.{System, Rule, strategy, rule, noRule, head}
 use Rattle.system.specs.Rules.{BuiltIn, listed, builtIn}
 use Rattle.system.specs.Terms.{Member, first, later, WellFormed}
-use Rattle.system.proofs.BuiltIns.{both, BuiltInWord, builtin-range, operator-strategy, literal-operator}
+use Rattle.system.proofs.BuiltIns.{both, BuiltInWord, builtin-range, builtin-narrow, eager, strategy-eager, arity-none}
 use Rattle.system.proofs.Rules.{built-head, listed-head, strategy-unlisted}
 use Rattle.matching.specs.Safety.{Idle, IdleEntry, idle, Guarded, Constructor, Passes}
 use Rattle.matching.specs.StrategyTest.{every, isVariable, idleTest, idles, closes, constructs, passes}
@@ -36,10 +36,10 @@ every-all test [] h = refl
 every-all test (r ∷ rs) h = both-true (test r) (every test rs) (h 0 (omega arith)) (every-all test rs (λ k l. h (suc k) (omega arith)))
 
 -- no built-in rule starts with what is no operator
-other : {A : Type 0} {k f : ℕ} {r : Rule} → isOperator f ≡ false → BuiltIn k r → head (r .lhs) ≡ f → A
-other o b q = absurd (let z = built-head b in let y : _≡_ {A = ℕ} 0 1 = cc in omega arith)
+other : {A : Type 0} {k f : ℕ} {r : Rule} → builtInArity f ≡ 0 → BuiltIn k r → head (r .lhs) ≡ f → A
+other o b q = absurd (let z = ap builtInArity q in omega (arith, built-head b))
 
-module _ (s : System) (f : ℕ) (plain : isOperator f ≡ false) where
+module _ (s : System) (f : ℕ) (plain : builtInArity f ≡ 0) where
   pub idle-sound : (i : ℕ) → idleTest s f i ≡ true → Idle s f i
   unfolding idleTest isVariable
   idle-sound i e k r (builtIn b) q = other plain b q
@@ -90,7 +90,7 @@ module _ (s : System) (f : ℕ) (plain : isOperator f ≡ false) where
   closes-complete (suc i ∷ before) after h = closes-complete before after h
 
 -- the test passes a listed symbol exactly when 01's rule does
-module _ (s : System) (f : ℕ) (plain : isOperator f ≡ false) where
+module _ (s : System) (f : ℕ) (plain : builtInArity f ≡ 0) where
   constructs-sound : constructs s f ≡ true → Constructor s f
   unfolding constructs
   constructs-sound e k r (builtIn b) q = other plain b q
@@ -119,25 +119,29 @@ module _ (s : System) (f : ℕ) (plain : isOperator f ≡ false) where
 -- "Order test and evaluation cover them" (02, F-2): the built-in symbols pass, whatever the listed rules are
 module _ (s : System) (wf : WellFormed s) where
   -- nothing starts with a literal
-  literal-constructor : (w : ℕ) → BuiltInWord w → isOperator w ≡ false → Constructor s w
+  literal-constructor : (w : ℕ) → BuiltInWord w → builtInArity w ≡ 0 → Constructor s w
   literal-constructor w b o k r (builtIn d) q = other o d q
   literal-constructor w b o k r (listed m) q = let z = listed-head s wf k m in let n = wf .symbolBound in let l = b .low in omega arith
 
   -- the order of an operator ends with its 0
-  operator-guarded : (w : ℕ) → BuiltInWord w → isOperator w ≡ true → Guarded s w
-  operator-guarded w b o =
+  operator-guarded : (w : ℕ) → BuiltInWord w → (before : List ℕ) → eager (builtInArity w) ≡ before ++ 0 ∷ [] → Guarded s w
+  operator-guarded w b before q =
       let count = wf .strategyCount in
       let n = wf .symbolBound in
       let l = b .low in
-      record { before = 1 ∷ 2 ∷ []; after = []; split = strategy-unlisted s w (omega arith) ∙ operator-strategy w o; last = λ e m. elim m [ ] }
+      record { before = before; after = []; split = strategy-unlisted s w (omega arith) ∙ strategy-eager w ∙ q; last = λ e m. elim m [ ] }
 
   pub builtin-passes : (w : ℕ) → isBuiltIn w ≡ true → Passes s w
-  builtin-passes w b = go (isOperator w) refl
+  builtin-passes w b = go (builtInArity w) refl
     where
-      go : (o : Bool) → isOperator w ≡ o → Passes s w
-      go true o = inr (operator-guarded w (builtin-range w b) o)
-      go false o = inl (literal-constructor w (builtin-range w b) o)
+      range : BuiltInWord w
+      range = builtin-range w b
+
+      go : (n : ℕ) → builtInArity w ≡ n → Passes s w
+      go zero e = inl (literal-constructor w range e)
+      go (suc zero) e = inr (operator-guarded w range (1 ∷ []) (ap eager e))
+      go (suc (suc n)) e = inr (operator-guarded w range (1 ∷ 2 ∷ []) (ap eager e))
 
   -- a listed symbol is no operator
-  pub listed-plain : (f : ℕ) → Listed (s .arities) f → isOperator f ≡ false
-  listed-plain f h = literal-operator f (let n = wf .symbolBound in omega arith)
+  pub listed-plain : (f : ℕ) → Listed (s .arities) f → builtInArity f ≡ 0
+  listed-plain f h = arity-none f (inl (let n = wf .symbolBound in omega arith))

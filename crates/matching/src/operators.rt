@@ -1,4 +1,4 @@
-// The built-in rules: three words tell whether one matches, and no rule of the book is looked at.
+// The built-in rules: two words or three tell whether one matches, and no rule of the book is looked at.
 ghost use mathlib.Core.Path.{_≡_};
 ghost use lib.Dec.{leb};
 ghost use Rattle.system.specs.BuiltIns.{literal};
@@ -9,11 +9,14 @@ ghost use Rattle.matching.specs.rules.Searches.{searchComputed};
 use crate::FirstRule;
 use crate::Match;
 use crate::rules::Search;
+use system::built_ins::CURVE;
+use system::built_ins::CURVE_RULE;
 use system::built_ins::LITERAL;
 use system::built_ins::MAXIMUM;
 use system::built_ins::MAXIMUM_RULE;
 use system::built_ins::MINIMUM;
 use system::built_ins::MINIMUM_RULE;
+use system::built_ins::curved;
 use system::built_ins::is_literal;
 use system::built_ins::larger;
 use system::built_ins::smaller;
@@ -43,11 +46,11 @@ fn nothing() -> Search
     }
 }
 
-// A built-in rule that matches, in the place of three words.
-fn puts(number: usize, word: u16) -> Search
+// A built-in rule that matches, and its word in the place of so many.
+fn puts(number: usize, word: u16, width: usize) -> Search
     ensures { λ r. ⌜ r ≡ record {
       matched = record { rule = Computed number word; starts = noBindings .starts; lengths = noBindings .lengths };
-      width = 3;
+      width = width;
     } ⌝ }
 {
     Search {
@@ -56,7 +59,7 @@ fn puts(number: usize, word: u16) -> Search
             starts: [0; VARIABLES],
             lengths: [0; VARIABLES],
         },
-        width: 3,
+        width,
     }
 }
 
@@ -64,23 +67,29 @@ fn puts(number: usize, word: u16) -> Search
 pub fn computed(ws: &[u16]) -> Search
     ensures { λ r. ⌜ ((s : System) → r ≡ searchComputed s (now (ws .entry))) ⌝ }
 {
-    if ws.len() < 3 {
-        return nothing();
-    }
-    let m = ws[1];
-    let n = ws[2];
-    if !is_literal(m) {
-        return nothing();
-    }
-    if !is_literal(n) {
+    if ws.len() < 2 {
         return nothing();
     }
     let f = wide(ws[0]);
+    let m = ws[1];
+    if !is_literal(m) {
+        return nothing();
+    }
+    if f == CURVE {
+        return puts(CURVE_RULE, curved(m), 2);
+    }
+    if ws.len() < 3 {
+        return nothing();
+    }
+    let n = ws[2];
+    if !is_literal(n) {
+        return nothing();
+    }
     if f == MAXIMUM {
-        return puts(MAXIMUM_RULE, larger(m, n));
+        return puts(MAXIMUM_RULE, larger(m, n), 3);
     }
     if f == MINIMUM {
-        return puts(MINIMUM_RULE, smaller(m, n));
+        return puts(MINIMUM_RULE, smaller(m, n), 3);
     }
     nothing()
 }

@@ -1,16 +1,16 @@
 -- The built-in words: what is cited of the shut definitions of BuiltIns.antt.
-use Prim.Native.Nat.{ℕ, _+_, _-_, _≤_, _<_}
+use Prim.Native.Nat.{ℕ, zero, suc, _+_, _-_, _≤_, _<_}
 use native.Mathlib.Omega.{arith}
 use native.Mathlib.Decide.{decLt, ℕ-discrete}
 use mathlib.Core.Path.{_≡_, refl}
 use mathlib.Core.Logic.{_⊎_, inl, inr}
 use mathlib.Core.Bool.{Bool, true, false, _&&_}
-use mathlib.Core.List.{[], _∷_}
+use mathlib.Core.List.{List, [], _∷_}
 use lib.ListN.{length}
 use lib.Dec.{ltb, leb, eqb}
 use borrow.Author.Tests.{lt-ltb, le-ltb, ltb-true, le-leb, lt-leb, leb-true, eq-eqb, ne-eqb}
 use Rattle.system.specs.Limits.{maxEntries}
-use Rattle.system.specs.BuiltIns.{literal, literals, maximum, minimum, isLiteral, isBuiltIn, isOperator, builtInArity, builtInStrategy, larger, smaller}
+use Rattle.system.specs.BuiltIns.{literal, literals, maximum, minimum, curve, isLiteral, isBuiltIn, isBinary, builtInArity, builtInStrategy, larger, smaller}
 use Rattle.system.specs.Terms.{Member, first, later}
 
 -- both of two tests
@@ -23,21 +23,21 @@ both false b e = absurd (let z : _≡_ {A = ℕ} 0 1 = cc in omega arith)
 -- between the first literal and the last operator
 pub record BuiltInWord (w : ℕ) : Type 0 where
   pub low : literal ≤ w
-  pub high : w ≤ minimum
+  pub high : w ≤ curve
 
 pub builtin-range : (w : ℕ) → isBuiltIn w ≡ true → BuiltInWord w
 unfolding isBuiltIn
-builtin-range w e = let c = both _ _ e in record { low = leb-true literal w (c .0); high = leb-true w minimum (c .1) }
+builtin-range w e = let c = both _ _ e in record { low = leb-true literal w (c .0); high = leb-true w curve (c .1) }
 
-pub range-builtin : (w : ℕ) → literal ≤ w → w ≤ minimum → isBuiltIn w ≡ true
+pub range-builtin : (w : ℕ) → literal ≤ w → w ≤ curve → isBuiltIn w ≡ true
 unfolding isBuiltIn
-range-builtin w l h = rw (le-leb literal w l, le-leb w minimum h)
+range-builtin w l h = rw (le-leb literal w l, le-leb w curve h)
 
 pub below-builtin : (w : ℕ) → w < literal → isBuiltIn w ≡ false
 unfolding isBuiltIn
 below-builtin w h = rw (lt-leb literal w h)
 
-pub above-builtin : (w : ℕ) → literal ≤ w → isBuiltIn w ≡ leb w minimum
+pub above-builtin : (w : ℕ) → literal ≤ w → isBuiltIn w ≡ leb w curve
 unfolding isBuiltIn
 above-builtin w h = rw (le-leb literal w h)
 
@@ -63,79 +63,87 @@ above-literal w h = rw (le-leb literal w h)
 pub number-of : (w : ℕ) → isLiteral w ≡ true → (w ≡ literal + (w - literal)) × (w - literal < literals)
 number-of w e = let c = is-literal w e in (omega arith, omega arith)
 
--- ---- operators, and all other words
+-- ---- how many arguments they take
 
-pub unequal-plain : (w : ℕ) → (w ≡ maximum → ⊥) → (w ≡ minimum → ⊥) → isOperator w ≡ false
-unfolding isOperator
-unequal-plain w a b = rw (ne-eqb w maximum a, ne-eqb w minimum b)
+-- the three cases: an operator on two literals, that on one, and all other words
+pub data Operands (w : ℕ) : Type 0 where
+  binary : maximum ≤ w → w ≤ minimum → Operands w
+  unary : w ≡ curve → Operands w
+  nullary : (w < maximum) ⊎ (curve < w) → Operands w
 
-pub operator-cases : (w : ℕ) → ((w ≡ maximum) ⊎ (w ≡ minimum)) ⊎ (isOperator w ≡ false)
-operator-cases w = elim (ℕ-discrete w maximum) [
-  | yes e ↦ inl (inl e)
-  | no a ↦ elim (ℕ-discrete w minimum) [ yes e ↦ inl (inr e) | no b ↦ inr (unequal-plain w a b) ]
+pub operands : (w : ℕ) → Operands w
+operands w = elim (decLt w maximum) [
+  | yes l ↦ nullary (inl l)
+  | no a ↦
+      elim (decLt w curve) [
+        | yes l ↦ binary (omega arith) (omega arith)
+        | no b ↦ elim (ℕ-discrete w curve) [ yes e ↦ unary e | no c ↦ nullary (inr (omega arith)) ]
+      ]
 ]
 
-pub operator-maximum : (w : ℕ) → w ≡ maximum → isOperator w ≡ true
-unfolding isOperator
-operator-maximum w e = rw (eq-eqb w maximum e)
-
-pub operator-minimum : (w : ℕ) → (w ≡ maximum → ⊥) → isOperator w ≡ eqb w minimum
-unfolding isOperator
-operator-minimum w n = rw (ne-eqb w maximum n)
-
-pub literal-operator : (w : ℕ) → w < maximum → isOperator w ≡ false
-literal-operator w h = unequal-plain w (λ e. omega arith) (λ e. omega arith)
-
-pub beyond-operator : (w : ℕ) → minimum < w → isOperator w ≡ false
-beyond-operator w h = unequal-plain w (λ e. omega arith) (λ e. omega arith)
-
-pub maximum-operator : isOperator maximum ≡ true
-unfolding isOperator
-maximum-operator = refl
-
-pub minimum-operator : isOperator minimum ≡ true
-unfolding isOperator
-minimum-operator = refl
+-- each argument, then the rules; where there is no argument, nothing
+abbrev pub eager : ℕ → List ℕ
+eager zero = []
+eager (suc zero) = 1 ∷ 0 ∷ []
+eager (suc (suc n)) = 1 ∷ 2 ∷ 0 ∷ []
 
 module _ (w : ℕ) where
-  pub operator-arity : isOperator w ≡ true → builtInArity w ≡ 2
+  is-binary : maximum ≤ w → w ≤ minimum → isBinary w ≡ true
+  unfolding isBinary
+  is-binary l h = elim (ℕ-discrete w maximum) [ yes e ↦ rw (eq-eqb w maximum e) | no a ↦ rw (ne-eqb w maximum a, eq-eqb w minimum (omega arith)) ]
+
+  not-binary : (w < maximum) ⊎ (minimum < w) → isBinary w ≡ false
+  unfolding isBinary
+  not-binary (inl h) = rw (ne-eqb w maximum (λ e. omega arith), ne-eqb w minimum (λ e. omega arith))
+  not-binary (inr h) = rw (ne-eqb w maximum (λ e. omega arith), ne-eqb w minimum (λ e. omega arith))
+
+  no-operator : (w < maximum) ⊎ (curve < w) → (isBinary w ≡ false) × (eqb w curve ≡ false)
+  no-operator (inl h) = (not-binary (inl h), ne-eqb w curve (λ e. omega arith))
+  no-operator (inr h) = (not-binary (inr (omega arith)), ne-eqb w curve (λ e. omega arith))
+
+  pub arity-two : maximum ≤ w → w ≤ minimum → builtInArity w ≡ 2
   unfolding builtInArity
-  operator-arity e = rw e
+  arity-two l h = rw (is-binary l h)
 
-  pub plain-arity : isOperator w ≡ false → builtInArity w ≡ 0
+  pub arity-one : w ≡ curve → builtInArity w ≡ 1
   unfolding builtInArity
-  plain-arity e = rw e
+  arity-one e = rw (not-binary (inr (omega arith)), eq-eqb w curve e)
 
-  pub operator-strategy : isOperator w ≡ true → builtInStrategy w ≡ 1 ∷ 2 ∷ 0 ∷ []
-  unfolding builtInStrategy
-  operator-strategy e = rw e
+  pub arity-none : (w < maximum) ⊎ (curve < w) → builtInArity w ≡ 0
+  unfolding builtInArity
+  arity-none h = rw (no-operator h .0, no-operator h .1)
 
-  pub plain-strategy : isOperator w ≡ false → builtInStrategy w ≡ []
+  pub strategy-eager : builtInStrategy w ≡ eager (builtInArity w)
   unfolding builtInStrategy
-  plain-strategy e = rw e
+  strategy-eager = elim (operands w) [
+    | binary l h ↦ rw (arity-two l h, is-binary l h)
+    | unary e ↦ rw (arity-one e, not-binary (inr (omega arith)), eq-eqb w curve e)
+    | nullary h ↦ rw (arity-none h, no-operator h .0, no-operator h .1)
+  ]
 
   pub builtin-narrow : builtInArity w ≤ 2
-  builtin-narrow = go (isOperator w) refl
-    where
-      go : (b : Bool) → isOperator w ≡ b → builtInArity w ≤ 2
-      go true e = rw (operator-arity e) (omega arith)
-      go false e = rw (plain-arity e) (omega arith)
+  builtin-narrow = elim (operands w) [
+    | binary l h ↦ rw (arity-two l h) (omega arith)
+    | unary e ↦ rw (arity-one e) (omega arith)
+    | nullary h ↦ rw (arity-none h) (omega arith)
+  ]
 
   -- their strategies are short, and name only arguments that there are
   pub builtin-strategy : (length (builtInStrategy w) ≤ maxEntries) × ((e : ℕ) → Member e (builtInStrategy w) → e ≤ builtInArity w)
-  builtin-strategy = go (isOperator w) refl
+  builtin-strategy = rw strategy-eager (short (builtInArity w) builtin-narrow, named (builtInArity w) builtin-narrow)
     where
-      binary : (e : ℕ) → Member e (1 ∷ 2 ∷ 0 ∷ []) → e ≤ 2
-      binary e first = omega arith
-      binary e (later first) = omega arith
-      binary e (later (later first)) = omega arith
+      short : (n : ℕ) → n ≤ 2 → length (eager n) ≤ maxEntries
+      short zero h = omega arith
+      short (suc zero) h = omega arith
+      short (suc (suc n)) h = omega arith
 
-      empty : {c : ℕ} (e : ℕ) → Member e [] → e ≤ c
-      empty e m = elim m [ ]
-
-      go : (b : Bool) → isOperator w ≡ b → (length (builtInStrategy w) ≤ maxEntries) × ((e : ℕ) → Member e (builtInStrategy w) → e ≤ builtInArity w)
-      go true e = rw (operator-arity e, operator-strategy e) (omega arith, binary)
-      go false e = rw (plain-arity e, plain-strategy e) (omega arith, empty)
+      named : (n : ℕ) → n ≤ 2 → (e : ℕ) → Member e (eager n) → e ≤ n
+      named zero h e m = elim m [ ]
+      named (suc zero) h e first = omega arith
+      named (suc zero) h e (later first) = omega arith
+      named (suc (suc n)) h e first = omega arith
+      named (suc (suc n)) h e (later first) = omega arith
+      named (suc (suc n)) h e (later (later first)) = omega arith
 
 -- ---- "the larger or smaller level": that of the words, too, and a level again
 

@@ -1,6 +1,6 @@
 -- The starred cases of the reader and of the check of a term, computed: one fact for the whole table.
 use mathlib.Core.Path.{refl}
-use Rattle.system.specs.BuiltIns.{isBuiltIn, isOperator, builtInArity}
+use Rattle.system.specs.BuiltIns.{isBuiltIn, isBinary, builtInArity}
 use Rattle.system.specs.Signature.{isSymbol, arity}
 use Rattle.system.specs.Parser.{read, readSystem, readRules, readEnd, readRule, readSide, readWords, readStrategy, number, word}
 use Rattle.system.specs.Parser.{learn, sideFault, symbolFault, variableFault, outside, each, times}
@@ -10,5 +10,5 @@ use Rattle.system.specs.Cases.{Hold, bookB, readerCases}
 
 pub reader-cases : Hold readerCases
 unfolding readerCases bookB read readSystem readRules readEnd readRule readSide readWords readStrategy number word learn sideFault
-    symbolFault variableFault outside each times termFault termAnswer isSymbol arity isBuiltIn isOperator builtInArity
+    symbolFault variableFault outside each times termFault termAnswer isSymbol arity isBuiltIn isBinary builtInArity
 reader-cases = refl

@@ -1,5 +1,6 @@
 -- Terms: forests, positions, the check of a term
 pub mod BuiltIns
+pub mod SquareLaw
 pub mod Signatures
 pub mod Members
 pub mod Rules

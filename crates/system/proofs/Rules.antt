@@ -1,18 +1,18 @@
 -- The rules of a system, listed and built-in ones, and the strategies of both kinds of symbols: what is cited of BuiltIn, RuleOf and `strategy`.
 use Prim.Native.Nat.{ℕ, suc, _+_, _≤_, _<_}
 use native.Mathlib.Omega.{arith}
-use mathlib.Core.Path.{_≡_, _∙_, subst}
+use mathlib.Core.Path.{_≡_, refl, sym, ap, _∙_, subst}
 use mathlib.Core.Logic.{inl}
-use mathlib.Core.Bool.{true}
-use mathlib.Core.List.{List, [], _∷_}
+use mathlib.Core.List.{List, [], _∷_, _++_}
 use lib.ListN.{length, getD, List·getD-eq-default}
 use Rattle.system.specs.Limits.{variable}
-use Rattle.system.specs.BuiltIns.{literal, literals, maximum, minimum, isOperator, builtInStrategy}
+use Rattle.system.specs.BuiltIns.{literal, literals, maximum, minimum, curve, builtInArity, builtInStrategy}
 use Rattle.system.specs.Signature.{Signature, Listed}
 use Rattle.system.specs.System.{System, Rule, rule, head, strategy}
-use Rattle.system.specs.Rules.{BuiltIn, max, min, RuleOf, listed, builtIn, maximumRule, minimumRule}
+use Rattle.system.specs.Rules.{BuiltIn, max, min, square, RuleOf, listed, builtIn, maximumRule, curveRule}
 use Rattle.system.specs.Terms.{Forest, empty, more, Side, Word, Member, first, later, Numbered, end, symbol, WellFormedRule, WellFormed}
-use Rattle.system.proofs.BuiltIns.{range-builtin, literal-operator, maximum-operator, minimum-operator, plain-arity, operator-arity, larger-below, smaller-below}
+use Rattle.system.proofs.BuiltIns.{range-builtin, arity-two, arity-one, arity-none, larger-below, smaller-below}
+use Rattle.system.proofs.SquareLaw.{square-below}
 use Rattle.system.proofs.Signatures.{symbol-builtin, arity-unlisted, few-listed, getD-within}
 
 -- ---- the strategies: of a listed symbol, and of any other word
@@ -27,36 +27,56 @@ strategy-unlisted s f h = List·getD-eq-default (s .strategies) (builtInStrategy
 
 -- ---- the built-in rules
 
-pub built-number : {k : ℕ} {r : Rule} → BuiltIn k r → (maximumRule ≤ k) × (k ≤ minimumRule)
+pub built-number : {k : ℕ} {r : Rule} → BuiltIn k r → (maximumRule ≤ k) × (k ≤ curveRule)
 built-number (max a b) = (omega arith, omega arith)
 built-number (min a b) = (omega arith, omega arith)
+built-number (square a) = (omega arith, omega arith)
 
--- their left sides start with an operator
-pub built-head : {k : ℕ} {r : Rule} → BuiltIn k r → isOperator (head (r .lhs)) ≡ true
-built-head (max a b) = maximum-operator
-built-head (min a b) = minimum-operator
+-- their left sides are an operator and its arguments
+pub built-length : {k : ℕ} {r : Rule} → BuiltIn k r → length (r .lhs) ≡ suc (builtInArity (head (r .lhs)))
+built-length (max a b) = ap suc (sym (arity-two maximum (omega arith) (omega arith)))
+built-length (min a b) = ap suc (sym (arity-two minimum (omega arith) (omega arith)))
+built-length (square a) = ap suc (sym (arity-one curve refl))
 
--- an operator over two literals, and the literal that is put there
+pub built-front : {k : ℕ} {r : Rule} → BuiltIn k r → (ws : List ℕ) → head (r .lhs ++ ws) ≡ head (r .lhs)
+built-front (max a b) ws = refl
+built-front (min a b) ws = refl
+built-front (square a) ws = refl
+
+pub built-head : {k : ℕ} {r : Rule} → BuiltIn k r → 0 < builtInArity (head (r .lhs))
+built-head (max a b) = rw (arity-two maximum (omega arith) (omega arith)) (omega arith)
+built-head (min a b) = rw (arity-two minimum (omega arith) (omega arith)) (omega arith)
+built-head (square a) = rw (arity-one curve refl) (omega arith)
+
+-- an operator over two literals, or over one, and the literal that is put there
 abbrev binary : ℕ → ℕ → ℕ → ℕ → Rule
 binary w m n v = record { lhs = w ∷ (literal + m) ∷ (literal + n) ∷ []; rhs = (literal + v) ∷ [] }
+
+abbrev unary : ℕ → ℕ → ℕ → Rule
+unary w n v = record { lhs = w ∷ (literal + n) ∷ []; rhs = (literal + v) ∷ [] }
 
 -- no word of them is a variable
 one-below : {a w : ℕ} → a < variable → Member w (a ∷ []) → w < variable
 one-below h first = h
 one-below h (later m) = elim m [ ]
 
-left-below : {w m n : ℕ} → w < variable → m < literals → n < literals → (u : ℕ) → Member u (w ∷ (literal + m) ∷ (literal + n) ∷ []) → u < variable
-left-below h a b u first = h
-left-below h a b u (later first) = omega arith
-left-below h a b u (later (later s)) = one-below (omega arith) s
+two-below : {a b w : ℕ} → a < variable → b < variable → Member w (a ∷ b ∷ []) → w < variable
+two-below h l first = h
+two-below h l (later s) = one-below l s
+
+three-below : {a b c w : ℕ} → a < variable → b < variable → c < variable → Member w (a ∷ b ∷ c ∷ []) → w < variable
+three-below h l u first = h
+three-below h l u (later s) = two-below l u s
 
 pub built-ground : {k : ℕ} {r : Rule} → BuiltIn k r → (w : ℕ) → Member w (r .lhs) → w < variable
-built-ground (max a b) = left-below (omega arith) a b
-built-ground (min a b) = left-below (omega arith) a b
+built-ground (max a b) w = three-below (omega arith) (omega arith) (omega arith)
+built-ground (min a b) w = three-below (omega arith) (omega arith) (omega arith)
+built-ground (square a) w = two-below (omega arith) (omega arith)
 
 pub built-plain : {k : ℕ} {r : Rule} → BuiltIn k r → (w : ℕ) → Member w (r .rhs) → w < variable
 built-plain (max {m} {n} a b) w = one-below (let z = larger-below m n literals a b in omega arith)
 built-plain (min {m} {n} a b) w = one-below (let z = smaller-below m n literals a b in omega arith)
+built-plain (square {n} a) w = one-below (let z = square-below n a in omega arith)
 
 ground-numbered : (ws : List ℕ) → ((w : ℕ) → Member w ws → w < variable) → Numbered 0 0 ws
 ground-numbered [] h = end
@@ -66,28 +86,49 @@ module _ (g : Signature) (few : length g ≤ literal) where
   -- a literal before a forest
   literal-more : {k n : ℕ} {ws : List ℕ} → n < literals → Forest g (Word g) k ws → Forest g (Word g) (suc k) ((literal + n) ∷ ws)
   literal-more {k} {n} {ws} h f =
-      let none = arity-unlisted g (literal + n) (omega arith) ∙ plain-arity (literal + n) (literal-operator (literal + n) (omega arith)) in
+      let none = arity-unlisted g (literal + n) (omega arith) ∙ arity-none (literal + n) (inl (omega arith)) in
       more {k = k} (inl (symbol-builtin g (literal + n) (range-builtin (literal + n) (omega arith) (omega arith)))) (subst (λ c. Forest g (Word g) c ws) (omega arith) f)
 
-  binary-formed : {w m n v : ℕ} → maximum ≤ w → w ≤ minimum → isOperator w ≡ true → m < literals → n < literals → v < literals → WellFormedRule g (binary w m n v)
-  binary-formed {w} {m} {n} {v} l u o a b c =
-      let known = symbol-builtin g w (range-builtin w (omega arith) u) in
-      let two = arity-unlisted g w (omega arith) ∙ operator-arity w o in
+  -- a literal alone
+  alone : {n : ℕ} → n < literals → Forest g (Word g) 1 ((literal + n) ∷ [])
+  alone h = literal-more h empty
+
+  binary-formed : {w m n v : ℕ} → maximum ≤ w → w ≤ minimum → m < literals → n < literals → v < literals → WellFormedRule g (binary w m n v)
+  binary-formed {w} {m} {n} {v} l u a b c =
+      let known = symbol-builtin g w (range-builtin w (omega arith) (omega arith)) in
+      let two = arity-unlisted g w (omega arith) ∙ arity-two w l u in
       record {
         count = 0;
         variableBound = omega arith;
         headed = known;
-        left = more {k = 0} (inl known) (subst (λ c. Forest g (Word g) c ((literal + m) ∷ (literal + n) ∷ [])) (omega arith) (literal-more a (literal-more b empty)));
-        right = literal-more c empty;
+        left = more {k = 0} (inl known) (subst (λ c. Forest g (Word g) c ((literal + m) ∷ (literal + n) ∷ [])) (omega arith) (literal-more a (alone b)));
+        right = alone c;
         shortLeft = omega arith;
         shortRight = omega arith;
-        numbered = ground-numbered _ (left-below (omega arith) a b);
+        numbered = ground-numbered _ (λ x. three-below (omega arith) (omega arith) (omega arith));
+        known = λ u s. let z = one-below {a = literal + v} {w = u} (omega arith) s in omega arith;
+      }
+
+  unary-formed : {w n v : ℕ} → w ≡ curve → n < literals → v < literals → WellFormedRule g (unary w n v)
+  unary-formed {w} {n} {v} q a c =
+      let known = symbol-builtin g w (range-builtin w (omega arith) (omega arith)) in
+      let one = arity-unlisted g w (omega arith) ∙ arity-one w q in
+      record {
+        count = 0;
+        variableBound = omega arith;
+        headed = known;
+        left = more {k = 0} (inl known) (subst (λ c. Forest g (Word g) c ((literal + n) ∷ [])) (omega arith) (alone a));
+        right = alone c;
+        shortLeft = omega arith;
+        shortRight = omega arith;
+        numbered = ground-numbered _ (λ x. two-below (omega arith) (omega arith));
         known = λ u s. let z = one-below {a = literal + v} {w = u} (omega arith) s in omega arith;
       }
 
   pub built-formed : {k : ℕ} {r : Rule} → BuiltIn k r → WellFormedRule g r
-  built-formed (max {m} {n} a b) = binary-formed (omega arith) (omega arith) maximum-operator a b (larger-below m n literals a b)
-  built-formed (min {m} {n} a b) = binary-formed (omega arith) (omega arith) minimum-operator a b (smaller-below m n literals a b)
+  built-formed (max {m} {n} a b) = binary-formed (omega arith) (omega arith) a b (larger-below m n literals a b)
+  built-formed (min {m} {n} a b) = binary-formed (omega arith) (omega arith) a b (smaller-below m n literals a b)
+  built-formed (square {n} a) = unary-formed refl a (square-below n a)
 
 -- ---- all rules
 
@@ -98,7 +139,7 @@ module _ (s : System) (wf : WellFormed s) where
   rule-formed (builtIn b) = built-formed (s .arities) (few-listed s wf) b
 
   -- the numbers go up to that of the last built-in rule
-  pub rule-bound : {k : ℕ} {r : Rule} → RuleOf s k r → k ≤ minimumRule
+  pub rule-bound : {k : ℕ} {r : Rule} → RuleOf s k r → k ≤ curveRule
   rule-bound (listed h) = let z = wf .ruleBound in omega arith
   rule-bound (builtIn b) = built-number b .1
 

@@ -13,7 +13,7 @@ use Rattle.system.specs.BuiltIns.{literal, isBuiltIn, builtInArity}
 use Rattle.system.specs.Signature.{Signature, Symbol, Listed, isSymbol, arity}
 use Rattle.system.specs.System.{System}
 use Rattle.system.specs.Terms.{WellFormed}
-use Rattle.system.proofs.BuiltIns.{BuiltInWord, builtin-range, plain-arity, beyond-operator}
+use Rattle.system.proofs.BuiltIns.{BuiltInWord, builtin-range, arity-none}
 
 -- within a list, no matter what stands for what is not there
 pub getD-within : {A : Type 0} (xs : List A) (c d : A) (i : ℕ) → i < length xs → getD xs i c ≡ getD xs i d
@@ -64,7 +64,7 @@ module _ (g : Signature) (w : ℕ) where
       go (inr b) = let u = b .high in omega arith
 
   pub arity-variable : length g ≤ variable → variable ≤ w → arity g w ≡ 0
-  arity-variable l h = arity-unlisted (omega arith) ∙ plain-arity w (beyond-operator w (omega arith))
+  arity-variable l h = arity-unlisted (omega arith) ∙ arity-none w (inr (omega arith))
 
 -- the listed symbols of a system that 01 describes stop short of the variables, and of the built-in words
 pub few-symbols : (s : System) → WellFormed s → length (s .arities) ≤ variable

@@ -1,5 +1,5 @@
--- The built-in words (02, F-2): literals (02: levels) and two operators on them.
-use Prim.Native.Nat.{ℕ}
+-- The built-in words (02, F-2 and F-4): literals (02: levels) and three operators on them.
+use Prim.Native.Nat.{ℕ, _+_, _*_, _/_}
 use mathlib.Core.Bool.{Bool, cond, _&&_, _||_}
 use mathlib.Core.List.{List, [], _∷_}
 use lib.Dec.{ltb, leb, eqb}
@@ -18,21 +18,25 @@ maximum = 16640
 abbrev pub minimum : ℕ
 minimum = 16641
 
+-- "Word 16642 is 'curve', one argument, order 1 0"
+abbrev pub curve : ℕ
+curve = 16642
+
 unfoldable pub isLiteral : ℕ → Bool
 isLiteral w = leb literal w && ltb w maximum
 
--- a literal, or one of the two operators behind the literals
+-- a literal, or one of the three operators behind the literals
 unfoldable pub isBuiltIn : ℕ → Bool
-isBuiltIn w = leb literal w && leb w minimum
+isBuiltIn w = leb literal w && leb w curve
 
-unfoldable pub isOperator : ℕ → Bool
-isOperator w = eqb w maximum || eqb w minimum
+unfoldable pub isBinary : ℕ → Bool
+isBinary w = eqb w maximum || eqb w minimum
 
 unfoldable pub builtInArity : ℕ → ℕ
-builtInArity w = cond (isOperator w) 2 0
+builtInArity w = cond (isBinary w) 2 (cond (eqb w curve) 1 0)
 
 unfoldable pub builtInStrategy : ℕ → List ℕ
-builtInStrategy w = cond (isOperator w) (1 ∷ 2 ∷ 0 ∷ []) []
+builtInStrategy w = cond (isBinary w) (1 ∷ 2 ∷ 0 ∷ []) (cond (eqb w curve) (1 ∷ 0 ∷ []) [])
 
 -- "the larger or smaller level"
 unfoldable pub larger : ℕ → ℕ → ℕ
@@ -40,3 +44,7 @@ larger m n = cond (ltb m n) n m
 
 unfoldable pub smaller : ℕ → ℕ → ℕ
 smaller m n = cond (ltb m n) m n
+
+-- the square law: "level n becomes (n × n + 127) divided by 255, whole part"
+unfoldable pub squareLaw : ℕ → ℕ
+squareLaw n = (n * n + 127) / 255

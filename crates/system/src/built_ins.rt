@@ -1,7 +1,9 @@
 // The built-in words, as specs/BuiltIns.antt names them.
 ghost use mathlib.Core.Path.{_≡_};
-ghost use Prim.Native.Nat.{_≤_};
-ghost use Rattle.system.specs.BuiltIns.{isLiteral, isBuiltIn, isOperator, builtInArity, larger, smaller};
+ghost use Prim.Native.Nat.{_+_, _-_, _≤_};
+ghost use mathlib.Core.Bool.{true};
+ghost use Rattle.system.specs.BuiltIns.{literal, isLiteral, isBuiltIn, builtInArity, larger, smaller, squareLaw};
+use crate::squares::square_law;
 
 // Where the literals start, and the operators behind them.
 pub const LITERAL: usize = 16384;
@@ -10,10 +12,14 @@ pub const MAXIMUM: usize = 16640;
 
 pub const MINIMUM: usize = 16641;
 
+pub const CURVE: usize = 16642;
+
 // The numbers of their rules.
 pub const MAXIMUM_RULE: usize = 128;
 
 pub const MINIMUM_RULE: usize = 129;
+
+pub const CURVE_RULE: usize = 130;
 
 pub fn is_literal(w: u16) -> bool
     ensures { λ r. ⌜ r ≡ isLiteral w ⌝ }
@@ -33,25 +39,22 @@ pub fn is_built_in(w: u16) -> bool
     if x < LITERAL {
         return false;
     }
-    x <= MINIMUM
-}
-
-pub fn is_operator(w: u16) -> bool
-    ensures { λ r. ⌜ r ≡ isOperator w ⌝ }
-{
-    let x = w as usize;
-    if x == MAXIMUM {
-        return true;
-    }
-    x == MINIMUM
+    x <= CURVE
 }
 
 // How many arguments w takes.
 pub fn built_in_arity(w: u16) -> usize
     ensures { λ r. ⌜ (r ≡ builtInArity w) × (r ≤ 2) ⌝ }
 {
-    if is_operator(w) {
+    let x = w as usize;
+    if x < MAXIMUM {
+        return 0;
+    }
+    if x <= MINIMUM {
         return 2;
+    }
+    if x == CURVE {
+        return 1;
     }
     0
 }
@@ -73,4 +76,13 @@ pub fn smaller(m: u16, n: u16) -> u16
         return n;
     }
     m
+}
+
+// The word of the level that the curve makes of the literal w.
+pub fn curved(w: u16) -> u16
+    requires { ⌜ isLiteral w ≡ true ⌝ }
+    ensures { λ r. ⌜ r ≡ literal + squareLaw (w - literal) ⌝ }
+{
+    let level = (w as usize - LITERAL) as u8;
+    (LITERAL + square_law(level) as usize) as u16
 }

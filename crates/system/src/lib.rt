@@ -14,6 +14,7 @@ pub mod layout;
 pub mod limits;
 pub mod numbers;
 pub mod reader;
+pub mod squares;
 pub mod terms;
 pub mod words;
 

@@ -1,12 +1,13 @@
 -- What a search of the words from a whole subterm on tells of it: the rule that is found is that of the words, and its left side takes the
 -- words of the subterm.
-use Prim.Native.Nat.{ℕ}
+use Prim.Native.Nat.{ℕ, suc}
 use mathlib.Core.Path.{_≡_, refl, sym, ap, _∙_}
 use mathlib.Core.Option.{some}
 use mathlib.Core.List.{List, [], _++_}
 use Rattle.system.specs.declared.Shape.{Shape}
+use Rattle.system.specs.BuiltIns.{builtInArity}
 use Rattle.system.specs.Signature.{span}
-use Rattle.system.specs.System.{System, rule}
+use Rattle.system.specs.System.{System, rule, head}
 use Rattle.system.specs.Terms.{Whole}
 use Rattle.system.specs.Book.{systemOf, Accepted}
 use Rattle.matching.specs.declared.Match.{Match}
@@ -16,8 +17,8 @@ use Rattle.matching.specs.declared.FirstRule.the-variants.{Nothing, Firs
 use Rattle.matching.specs.Matching.{Contraction, contraction}
 use Rattle.matching.specs.Bindings.{matchOf}
 use Rattle.matching.specs.rules.Searches.{lhsEnd, searchOf}
-use Rattle.matching.proofs.rules.Widths.{search-match, search-width, search-three}
-use Rattle.matching.proofs.Reducts.{match-some, match-word, found-lhsEnd, found-three}
+use Rattle.matching.proofs.rules.Widths.{search-match, search-width, search-built}
+use Rattle.matching.proofs.Reducts.{match-some, match-word, found-lhsEnd, found-built}
 
 module _ (b : List ℕ) (sh : Shape) (acc : Accepted b sh) (ws : List ℕ) (fit : Search) (fits : fit ≡ searchOf (systemOf b) ws) where
   abbrev s : System
@@ -52,4 +53,4 @@ module _ (b : List ℕ) (sh : Shape) (acc : Accepted b sh) (ws : List ℕ) (fit 
         go Nothing q = absurd (f q)
         go (First i rhs size) q =
             search-width s ws i rhs size (same q) ∙ ap (λ y. lhsEnd (s .arities) (rule s i .lhs) y 0) y ∙ found-lhsEnd b sh acc [] d h m e q
-        go (Computed k w) q = search-three s ws k w (same q) ∙ sym (found-three b sh acc [] d h m e q)
+        go (Computed k w) q = search-built s ws k w (same q) ∙ ap (λ y. suc (builtInArity (head y))) y ∙ sym (found-built b sh acc [] d h m e q)

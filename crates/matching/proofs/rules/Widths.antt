@@ -1,5 +1,5 @@
 -- The match with its width, which is where a left side ends: one word of it, in the terms of the search's loop; and that a left side that matches ends where the subterm does.
-use Prim.Native.Nat.{ℕ, _+_, _≤_, _<_}
+use Prim.Native.Nat.{ℕ, suc, _+_, _≤_, _<_}
 use native.Mathlib.Omega.{arith}
 use native.Mathlib.Numerals.{add-one}
 use native.Mathlib.Decide.{ℕ-discrete}
@@ -10,8 +10,9 @@ use mathlib.Core.List.{List, [], _∷_, _++_, append-assoc}
 use lib.ListN.{length, getD, drop, drop-of-length-le, length-append}
 use lib.Seq.{drop-cons, drop-drop, drop-append-seam}
 use Rattle.system.specs.Limits.{variable}
+use Rattle.system.specs.BuiltIns.{builtInArity}
 use Rattle.system.specs.Signature.{Signature, Symbol, arity}
-use Rattle.system.specs.System.{System, rule}
+use Rattle.system.specs.System.{System, rule, head}
 use Rattle.system.specs.Terms.{Forest, empty, more, Word, Whole}
 use Rattle.system.proofs.Signatures.{arity-variable, symbol-below}
 use Rattle.system.proofs.Forests.{span-forest, split, Split}
@@ -34,9 +35,9 @@ module _ (s : System) (ws : List ℕ) where
   unfolding searchOf
   search-width k rhs size e = ap (searchWidth s ws) e
 
-  pub search-three : (k w : ℕ) → matchOf s ws .rule ≡ Computed k w → searchOf s ws .width ≡ 3
+  pub search-built : (k w : ℕ) → matchOf s ws .rule ≡ Computed k w → searchOf s ws .width ≡ suc (builtInArity (head ws))
   unfolding searchOf
-  search-three k w e = ap (searchWidth s ws) e
+  search-built k w e = ap (searchWidth s ws) e
 
   pub is-listed : (m : Match) (n : ℕ) → m ≡ matchListed s ws → n ≡ searchWidth s ws (m .rule) → record { matched = m; width = n } ≡ searchListed s ws
   unfolding searchListed
@@ -46,15 +47,15 @@ module _ (s : System) (ws : List ℕ) where
   unfolding searchComputed
   is-computed m n e q = λ i. record { matched = e i; width = (q ∙ ap (λ y. searchWidth s ws (y .rule)) e) i }
 
-  -- nothing is computed, or the word that an operator puts in the place of three
+  -- nothing is computed, or the word that an operator puts in the place of itself and its arguments
   pub is-nothing : computed ws ≡ none → record { matched = noMatch; width = 0 } ≡ searchComputed s ws
   unfolding matchComputed
   is-nothing e = is-computed noMatch 0 (rw e) refl
 
-  pub is-put : (k w : ℕ) → computed ws ≡ some (record { number = k; word = w }) →
-      record { matched = record { rule = Computed k w; starts = noBindings .starts; lengths = noBindings .lengths }; width = 3 } ≡ searchComputed s ws
+  pub is-put : (k w n : ℕ) → computed ws ≡ some (record { number = k; word = w }) → n ≡ suc (builtInArity (head ws)) →
+      record { matched = record { rule = Computed k w; starts = noBindings .starts; lengths = noBindings .lengths }; width = n } ≡ searchComputed s ws
   unfolding matchComputed
-  is-put k w e = is-computed _ 3 (rw e) refl
+  is-put k w n e q = is-computed _ n (rw e) q
 
   -- the whole search is one of the two
   pub listed-search : matchListed s ws ≡ matchOf s ws → searchListed s ws ≡ searchOf s ws

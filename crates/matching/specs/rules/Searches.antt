@@ -1,13 +1,14 @@
 -- What the layers above are handed of a match: its width, its reduct and how long that is.
-use Prim.Native.Nat.{ℕ, _+_, _-_, _≤_, _<_}
+use Prim.Native.Nat.{ℕ, suc, _+_, _-_, _≤_, _<_}
 use mathlib.Core.Path.{_≡_}
 use mathlib.Core.List.{List, [], _∷_}
 use mathlib.Core.Bool.{cond}
 use lib.ListN.{length, getD, take, drop}
 use lib.Dec.{ltb}
 use Rattle.system.specs.Limits.{sideWords, variable, variables}
+use Rattle.system.specs.BuiltIns.{builtInArity}
 use Rattle.system.specs.Signature.{Signature}
-use Rattle.system.specs.System.{System, rule}
+use Rattle.system.specs.System.{System, rule, head}
 use Rattle.matching.specs.declared.Match.{Match}
 use Rattle.matching.specs.declared.rules.Search.{Search}
 use Rattle.matching.specs.declared.FirstRule.{FirstRule}
@@ -19,11 +20,12 @@ unfoldable pub lhsEnd : Signature → List ℕ → List ℕ → ℕ → ℕ
 lhsEnd g [] ws q = q
 lhsEnd g (l ∷ ls) ws q = lhsEnd g ls (drop (consumed g l ws) ws) (q + consumed g l ws)
 
--- where the left side of the rule that was found ends among the words ws (a built-in one has three words); 0 where none matches
+-- where the left side of the rule that was found ends among the words ws (a built-in one is an operator and a literal for each argument); 0
+-- where none matches
 abbrev pub searchWidth : System → List ℕ → FirstRule → ℕ
 searchWidth s ws Nothing = 0
 searchWidth s ws (First k rhs size) = lhsEnd (s .arities) (rule s k .lhs) ws 0
-searchWidth s ws (Computed k w) = 3
+searchWidth s ws (Computed k w) = suc (builtInArity (head ws))
 
 -- a match, and how many words the left side takes: what the layers above are handed
 abbrev pub searchFor : System → List ℕ → Match → Search

@@ -9,7 +9,7 @@ ghost use Rattle.system.specs.layout.Index.{Indexed};
 ghost use Rattle.system.specs.Terms.{among};
 ghost use Rattle.system.specs.layout.Entries.{entryOf, between};
 use crate::Shape;
-use crate::built_ins::is_operator;
+use crate::built_ins::built_in_arity;
 use crate::layout::index::strategy_at;
 use crate::words::wide;
 
@@ -38,17 +38,18 @@ fn stood_before(book: &[u16], at: usize, f: usize, c: usize) -> bool
     false
 }
 
-// Entry c of the strategy of a word that is not listed: an operator's is 1 2 0, in which nothing is repeated.
+// Entry c of the strategy of a word that is not listed: an operator's is 1 2 0 or 1 0, in which nothing is repeated.
 fn built_in_entry(w: u16, c: usize) -> Entry
     ensures { λ r. ⌜ ((f : ℕ) → r ≡ entryOf (builtInStrategy w) f c) ⌝ }
 {
-    if !is_operator(w) {
+    let n = built_in_arity(w);
+    if n == 0 {
         return Entry::End;
     }
-    if 2 < c {
+    if n < c {
         return Entry::End;
     }
-    if c == 2 {
+    if c == n {
         return Entry::Rules;
     }
     Entry::Argument(c)
@@ -91,14 +92,15 @@ fn among(ws: &[u16], e: usize) -> bool
     false
 }
 
-// Whether entry e stands in the strategy of a word that is not listed: an operator's is 1 2 0.
+// Whether entry e stands in the strategy of a word that is not listed: an operator's is 1 2 0 or 1 0.
 fn built_in_among(w: u16, e: usize) -> bool
     ensures { λ r. ⌜ r ≡ among e (builtInStrategy w) ⌝ }
 {
-    if !is_operator(w) {
+    let n = built_in_arity(w);
+    if n == 0 {
         return false;
     }
-    e <= 2
+    e <= n
 }
 
 // Whether entry e stands in the strategy of w: above 0, whether its argument e is evaluated.

@@ -1,93 +1,115 @@
--- Three words tell whether a built-in rule matches.
+-- Two words or three tell whether a built-in rule matches.
+use Prim.Native.Nat.{ℕ, suc}
 use native.Mathlib.Omega.{arith}
 use mathlib.Core.Path.{_≡_, sym, ap, _∙_}
 use mathlib.Core.Bool.{true}
 use mathlib.Core.Option.{some}
+use mathlib.Core.List.{List}
 use lib.ListN.{getD}
-use Rattle.system.specs.BuiltIns.{isLiteral}
-use Rattle.system.specs.Rules.{maximumRule, minimumRule}
-use Rattle.system.proofs.BuiltIns.{unequal-plain}
-use Rattle.matching.proofs.Computed.{computed-short, computed-first, computed-second, computed-maximum, computed-minimum, computed-plain}
+use Rattle.system.specs.BuiltIns.{maximum, minimum, curve, isLiteral}
+use Rattle.system.specs.Rules.{maximumRule, minimumRule, curveRule}
+use Rattle.system.proofs.BuiltIns.{arity-two, arity-one}
+use Rattle.matching.proofs.Computed.{computed-one, computed-two, computed-first, computed-second, computed-square, computed-maximum, computed-minimum, computed-plain}
 use Rattle.matching.proofs.rules.Widths.{is-nothing, is-put}
 use borrow.Author.Tests.{not-true, not-false}
 use borrow.Author.Needs.{needs}
 use Rattle.matching.proofs.operators.computed.Statement.{statement}
 use Rattle.matching.proofs.operators.computed.Tie as tie
 
--- ---- the places of the code that are behind others: the entry, the look at the second word and at the third, the first word as a number
+-- ---- the places of the code that are behind others: the first word as a number, the look at the second word, at the operator, at the third word
 
-abbrev entry : tie.After-is-literal → tie.Start
-entry c = c .before .before .before .before .before
+abbrev start : tie.After-wide → tie.Start
+start c = c .before .before .before .before
 
-abbrev second : tie.After-is-literal2 → tie.After-is-literal
+abbrev second : tie.After-is-literal → tie.After-wide
 second c = c .before .before
 
-abbrev third : tie.After-wide → tie.After-is-literal2
+abbrev single : tie.Else3 → tie.After-is-literal
+single c = c .before .before
+
+abbrev third : tie.After-is-literal2 → tie.Else3
 third c = c .before .before .before
 
--- both arguments are literals there
-record Literals (c : tie.After-wide) : Type 0 where
-  left : isLiteral (getD (entry (second (third c)) .args .ws .now) 1 0) ≡ true
-  right : isLiteral (getD (entry (second (third c)) .args .ws .now) 2 0) ≡ true
+-- ---- what is known there: the first argument is a literal, the operator is not the curve, the second argument is a literal
 
-literals : (c : tie.After-wide) → Literals c
-literals c =
-    let t = third c in
-    record {
-      left = sym (second t .is-literal .ensures) ∙ not-false _ (t .before .if2 .left);
-      right = sym (t .is-literal2 .ensures) ∙ not-false _ (c .before .before .if3 .left);
-    }
+abbrev words : tie.After-wide → List ℕ
+words c = start c .args .ws .now
+
+left : (c : tie.Else2) → isLiteral (getD (words (second (c .before))) 1 0) ≡ true
+left c = sym (c .before .is-literal .ensures) ∙ not-false _ (c .if2 .left)
+
+other : (c : tie.Else3) → getD (words (second (single c))) 0 0 ≡ curve → ⊥
+other c q = c .if3 .left (second (single c) .wide .ensures .0 ∙ q)
+
+right : (c : tie.Else5) → isLiteral (getD (words (second (single (third (c .before))))) 2 0) ≡ true
+right c = sym (c .before .is-literal2 .ensures) ∙ not-false _ (c .if5 .left)
 
 -- ---- the needs
 
 returns : tie.Need-returns
-returns c s = let l = c .before in c .nothing .ensures ∙ is-nothing s (l .before .before .args .ws .now) (computed-short _ (l .if1 .taken))
+returns c s = let t = c .before in c .nothing .ensures ∙ is-nothing s (t .before .before .args .ws .now) (computed-one _ (t .if1 .taken))
 
 returns-2 : tie.Need-returns-2
 returns-2 c s =
-    let l = c .before in
-    let t = l .before in
-    c .nothing2 .ensures ∙ is-nothing s (entry t .args .ws .now) (computed-first _ (sym (t .is-literal .ensures) ∙ not-true _ (l .if2 .taken)))
+    let l = c .before .before in
+    c .nothing2 .ensures ∙ is-nothing s (words (second l)) (computed-first _ (sym (l .is-literal .ensures) ∙ not-true _ (c .before .if2 .taken)))
+
+curved-requires : tie.Need-curved-requires
+curved-requires c κs = left (c .before)
 
 returns-3 : tie.Need-returns-3
 returns-3 c s =
-    let l = c .before in
-    let t = l .before in
-    c .nothing3 .ensures ∙ is-nothing s (entry (second t) .args .ws .now) (computed-second _ (sym (t .is-literal2 .ensures) ∙ not-true _ (l .if3 .taken)))
+    let t = c .before .before in
+    let w = second (t .before .before) in
+    let is : getD (words w) 0 0 ≡ curve = sym (w .wide .ensures .0) ∙ t .if3 .taken in
+    c .puts .ensures ∙ is-put s (words w) curveRule (c .before .curved .result) 2
+    (computed-square (words w) (left (t .before)) is ∙ ap (λ v. some (record { number = curveRule; word = v })) (sym (c .before .curved .ensures)))
+    (ap suc (sym (arity-one _ is)))
 
 returns-4 : tie.Need-returns-4
 returns-4 c s =
     let l = c .before .before in
-    let w = l .before in
-    let ws = entry (second (third w)) .args .ws .now in
-    let q = literals w in
-    let is : getD ws 0 0 ≡ 16640 = (let e = w .wide .ensures .0 in let f = l .if4 .taken in omega arith) in
-    c .puts .ensures ∙ is-put s ws maximumRule (c .before .larger .result)
-    (computed-maximum ws is (q .left) (q .right) ∙ ap (λ v. some (record { number = maximumRule; word = v })) (sym (c .before .larger .ensures)))
+    c .nothing3 .ensures ∙ is-nothing s (words (second (single l))) (computed-two _ (other l) (c .before .if4 .taken))
 
 returns-5 : tie.Need-returns-5
 returns-5 c s =
-    let l = c .before .before in
-    let w = l .before .before in
-    let ws = entry (second (third w)) .args .ws .now in
-    let q = literals w in
-    let is : getD ws 0 0 ≡ 16641 = (let e = w .wide .ensures .0 in let f = l .if5 .taken in omega arith) in
-    c .puts2 .ensures ∙ is-put s ws minimumRule (c .before .smaller .result)
-    (computed-minimum ws is (q .left) (q .right) ∙ ap (λ v. some (record { number = minimumRule; word = v })) (sym (c .before .smaller .ensures)))
+    let t = c .before .before in
+    let l = third t in
+    c .nothing4 .ensures ∙ is-nothing s (words (second (single l))) (computed-second _ (other l) (sym (t .is-literal2 .ensures) ∙ not-true _ (c .before .if5 .taken)))
 
 returns-6 : tie.Need-returns-6
 returns-6 c s =
-    let l = c .before in
-    let w = l .before .before in
-    let ws = entry (second (third w)) .args .ws .now in
-    let e = w .wide .ensures .0 in
-    c .nothing4 .ensures
-    ∙ is-nothing s ws (computed-plain ws (unequal-plain (getD ws 0 0) (λ q. l .before .if4 .left (omega arith)) (λ q. l .if5 .left (omega arith))))
+    let t = c .before .before in
+    let l = third (t .before .before) in
+    let w = second (single l) in
+    let is : getD (words w) 0 0 ≡ maximum = sym (w .wide .ensures .0) ∙ t .if6 .taken in
+    c .puts2 .ensures ∙ is-put s (words w) maximumRule (c .before .larger .result) 3
+    (computed-maximum (words w) (left (l .before)) (right (t .before)) is ∙ ap (λ v. some (record { number = maximumRule; word = v })) (sym (c .before .larger .ensures)))
+    (ap suc (sym (arity-two _ (omega arith) (omega arith))))
+
+returns-7 : tie.Need-returns-7
+returns-7 c s =
+    let t = c .before .before in
+    let r = t .before .before in
+    let l = third (r .before) in
+    let w = second (single l) in
+    let is : getD (words w) 0 0 ≡ minimum = sym (w .wide .ensures .0) ∙ t .if7 .taken in
+    c .puts3 .ensures ∙ is-put s (words w) minimumRule (c .before .smaller .result) 3
+    (computed-minimum (words w) (left (l .before)) (right r) is ∙ ap (λ v. some (record { number = minimumRule; word = v })) (sym (c .before .smaller .ensures)))
+    (ap suc (sym (arity-two _ (omega arith) (omega arith))))
+
+returns-8 : tie.Need-returns-8
+returns-8 c s =
+    let t = c .before in
+    let l = third (t .before .before .before) in
+    let w = second (single l) in
+    let is = w .wide .ensures .0 in
+    c .nothing5 .ensures ∙ is-nothing s (words w) (computed-plain (words w) (λ q. t .before .if6 .left (is ∙ q)) (λ q. t .if7 .left (is ∙ q)) (other l))
 
 pub computed-spec : {M : Type 1} → statement M
 computed-spec =
     tie.close
     (tie.spec
-    (λ c κs. search needs) returns (λ c. search needs) (λ c. search needs) (λ c κs. search needs) (λ c κs. search needs) returns-2
-    (λ c κs. search needs) (λ c κs. search needs) returns-3 (λ c. search needs) (λ c κs. search needs) (λ c κs. search needs)
-    (λ c κs. search needs) returns-4 (λ c κs. search needs) (λ c κs. search needs) returns-5 (λ c κs. search needs) returns-6)
+    (λ c κs. search needs) returns (λ c. search needs) (λ c κs. search needs) (λ c. search needs) (λ c κs. search needs) (λ c κs. search needs) returns-2
+    curved-requires (λ c κs. search needs) returns-3 (λ c κs. search needs) returns-4 (λ c. search needs) (λ c κs. search needs) (λ c κs. search needs) returns-5
+    (λ c κs. search needs) (λ c κs. search needs) returns-6 (λ c κs. search needs) (λ c κs. search needs) returns-7 (λ c κs. search needs) returns-8)

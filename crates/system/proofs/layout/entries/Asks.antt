@@ -9,11 +9,11 @@ use lib.ListN.{length, getD, drop, length-drop}
 use lib.Seq.{getD-take, getD-drop, length-take-le}
 use borrow.Author.Tests.{lt-ltb, le-ltb}
 use Rattle.system.specs.declared.Shape.{Shape}
-use Rattle.system.specs.BuiltIns.{isOperator, builtInStrategy}
+use Rattle.system.specs.BuiltIns.{builtInArity, builtInStrategy}
 use Rattle.system.specs.System.{strategy}
 use Rattle.system.specs.Book.{systemOf, Accepted}
 use Rattle.system.specs.layout.Accepted.{StrategyAt}
-use Rattle.system.proofs.BuiltIns.{operator-strategy, plain-strategy}
+use Rattle.system.proofs.BuiltIns.{eager, strategy-eager}
 use Rattle.system.proofs.Rules.{strategy-unlisted}
 use Rattle.system.proofs.layout.Suffixes.{strategy-count}
 use Rattle.system.specs.declared.layout.entries.Entry.{Entry}
@@ -77,44 +77,63 @@ module _ (es : List ℕ) (f c : ℕ) where
 
 -- ---- the built-in strategies
 
-abbrev operating : List ℕ
-operating = 1 ∷ 2 ∷ 0 ∷ []
+-- entry c of one that has n arguments: the argument c, or behind the arguments the rules; and nothing is repeated in it
+word : (n c : ℕ) → n ≤ 2 → c < n → getD (eager n) c 0 ≡ suc c
+word (suc zero) zero h l = refl
+word (suc (suc n)) zero h l = refl
+word (suc (suc n)) (suc zero) h l = refl
+word zero c h l = absurd (omega arith)
+word (suc zero) (suc c) h l = absurd (omega arith)
+word (suc (suc n)) (suc (suc c)) h l = absurd (omega arith)
 
--- nothing is repeated in them
-unrepeated : (f c : ℕ) → c < 3 → stood operating f c ≡ false
+unrepeated : (n f c : ℕ) → n ≤ 2 → c ≤ n → stood (eager n) f c ≡ false
 unfolding among
-unrepeated f c h = elim (decLt f c) [ yes l ↦ go f c l h | no l ↦ let z : c - f ≡ 0 = omega arith in rw z ]
+unrepeated n f c u h = elim (decLt f c) [ yes l ↦ go n f c u l h | no l ↦ let z : c - f ≡ 0 = omega arith in rw z ]
   where
-    go : (f c : ℕ) → f < c → c < 3 → stood operating f c ≡ false
-    go zero (suc zero) l h = refl
-    go zero (suc (suc zero)) l h = refl
-    go (suc zero) (suc (suc zero)) l h = refl
-    go f zero l h = absurd (omega arith)
-    go (suc f) (suc zero) l h = absurd (omega arith)
-    go (suc (suc f)) (suc (suc zero)) l h = absurd (omega arith)
-    go f (suc (suc (suc c))) l h = absurd (omega arith)
+    go : (n f c : ℕ) → n ≤ 2 → f < c → c ≤ n → stood (eager n) f c ≡ false
+    go (suc zero) zero (suc zero) u l h = refl
+    go (suc (suc n)) zero (suc zero) u l h = refl
+    go (suc (suc n)) zero (suc (suc zero)) u l h = refl
+    go (suc (suc n)) (suc zero) (suc (suc zero)) u l h = refl
+    go n f zero u l h = absurd (omega arith)
+    go zero f (suc zero) u l h = absurd (omega arith)
+    go (suc zero) (suc f) (suc zero) u l h = absurd (omega arith)
+    go (suc (suc n)) (suc f) (suc zero) u l h = absurd (omega arith)
+    go zero f (suc (suc zero)) u l h = absurd (omega arith)
+    go (suc zero) f (suc (suc zero)) u l h = absurd (omega arith)
+    go (suc (suc n)) (suc (suc f)) (suc (suc zero)) u l h = absurd (omega arith)
+    go n f (suc (suc (suc c))) u l h = absurd (omega arith)
 
-module _ (w f c : ℕ) where
-  pub plain-entry : isOperator w ≡ false → End ≡ entryOf (builtInStrategy w) f c
-  plain-entry o = sym (ap (λ es. entryOf es f c) (plain-strategy w o) ∙ entry-past [] f c (omega arith))
+module _ (w f c n : ℕ) (is : n ≡ builtInArity w) (few : n ≤ 2) where
+  as-eager : (e : Entry) → entryOf (eager n) f c ≡ e → e ≡ entryOf (builtInStrategy w) f c
+  as-eager e q = sym (ap (λ es. entryOf es f c) (strategy-eager w ∙ sym (ap eager is)) ∙ q)
 
-  module _ (o : isOperator w ≡ true) where
-    as-operator : (e : Entry) → entryOf operating f c ≡ e → e ≡ entryOf (builtInStrategy w) f c
-    as-operator e q = sym (ap (λ es. entryOf es f c) (operator-strategy w o) ∙ q)
+  pub plain-end : n ≡ 0 → End ≡ entryOf (builtInStrategy w) f c
+  plain-end z = as-eager End (ap (λ n. entryOf (eager n) f c) z ∙ entry-past [] f c (omega arith))
 
-    pub operator-end : 2 < c → End ≡ entryOf (builtInStrategy w) f c
-    operator-end h = as-operator End (entry-past operating f c (omega arith))
+  module _ (some : n ≡ 0 → ⊥) where
+    length-eager : (n : ℕ) → n ≤ 2 → (n ≡ 0 → ⊥) → length (eager n) ≡ suc n
+    length-eager zero h z = absurd (z refl)
+    length-eager (suc zero) h z = refl
+    length-eager (suc (suc zero)) h z = refl
+    length-eager (suc (suc (suc n))) h z = absurd (omega arith)
 
-    pub operator-rules : c ≡ 2 → Rules ≡ entryOf (builtInStrategy w) f c
-    operator-rules e = as-operator Rules (entry-rules operating f c (omega arith) (unrepeated f c (omega arith)) (ap (λ n. getD operating n 0) e))
+    pub operator-end : n < c → End ≡ entryOf (builtInStrategy w) f c
+    operator-end h = as-eager End (entry-past (eager n) f c (omega (arith, length-eager n few some)))
 
-    pub operator-argument : c < 2 → Argument c ≡ entryOf (builtInStrategy w) f c
-    operator-argument h = as-operator (Argument c) (entry-argument operating f c (omega arith) (unrepeated f c (omega arith)) c (word c h))
+    pub operator-rules : c ≡ n → Rules ≡ entryOf (builtInStrategy w) f c
+    operator-rules e =
+        as-eager Rules (entry-rules (eager n) f c (omega (arith, length-eager n few some)) (unrepeated n f c few (omega arith)) (ap (λ i. getD (eager n) i 0) e ∙ last n few some))
       where
-        word : (c : ℕ) → c < 2 → getD operating c 0 ≡ suc c
-        word zero h = refl
-        word (suc zero) h = refl
-        word (suc (suc c)) h = absurd (omega arith)
+        last : (n : ℕ) → n ≤ 2 → (n ≡ 0 → ⊥) → getD (eager n) n 0 ≡ 0
+        last zero h z = refl
+        last (suc zero) h z = refl
+        last (suc (suc zero)) h z = refl
+        last (suc (suc (suc n))) h z = absurd (omega arith)
+
+    pub operator-argument : c < n → Argument c ≡ entryOf (builtInStrategy w) f c
+    operator-argument h =
+        as-eager (Argument c) (entry-argument (eager n) f c (omega (arith, length-eager n few some)) (unrepeated n f c few (omega arith)) c (word n c few h))
 
 -- ---- what the entry asks for that the words of the book tell of
 

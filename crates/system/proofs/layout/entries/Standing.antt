@@ -3,19 +3,19 @@ use Prim.Native.Nat.{ℕ, zero, suc, _+_, _-_, _≤_, _<_}
 use native.Mathlib.Omega.{arith}
 use native.Mathlib.Numerals.{add-one}
 use mathlib.Core.Path.{_≡_, refl, sym, ap, _∙_}
-use mathlib.Core.Bool.{true, false}
+use mathlib.Core.Bool.{Bool, true, false}
 use mathlib.Core.List.{List, [], _∷_}
 use lib.ListN.{length, getD, take, drop, drop-of-length-le}
 use lib.Seq.{drop-cons}
 use lib.Dec.{leb}
 use borrow.Author.Tests.{eq-eqb, ne-eqb, lt-leb}
 use Rattle.system.specs.declared.Shape.{Shape}
-use Rattle.system.specs.BuiltIns.{isOperator, builtInStrategy}
+use Rattle.system.specs.BuiltIns.{builtInArity, builtInStrategy}
 use Rattle.system.specs.System.{strategy}
 use Rattle.system.specs.Book.{systemOf, Accepted}
 use Rattle.system.specs.layout.Accepted.{StrategyAt}
 use Rattle.system.specs.Terms.{among}
-use Rattle.system.proofs.BuiltIns.{operator-strategy, plain-strategy}
+use Rattle.system.proofs.BuiltIns.{eager, strategy-eager}
 use Rattle.system.proofs.Rules.{strategy-unlisted}
 use Rattle.system.proofs.layout.Suffixes.{strategy-count}
 
@@ -40,15 +40,24 @@ module _ (ws : List ℕ) (j e : ℕ) where
 
 -- ---- the built-in strategies
 
-module _ (w e : ℕ) where
-  pub plain-among : isOperator w ≡ false → false ≡ among e (builtInStrategy w)
-  unfolding among
-  plain-among o = rw (plain-strategy w o)
-
-  pub operator-among : isOperator w ≡ true → leb e 2 ≡ among e (builtInStrategy w)
-  operator-among o = go e ∙ ap (among e) (sym (operator-strategy w o))
+-- the words of one that has n arguments
+module _ (e : ℕ) where
+  one-argument : leb e 1 ≡ among e (eager 1)
+  one-argument = go e
     where
-      go : (e : ℕ) → leb e 2 ≡ among e (1 ∷ 2 ∷ 0 ∷ [])
+      go : (e : ℕ) → leb e 1 ≡ among e (eager 1)
+      go zero = unfold among in refl
+      go (suc zero) = unfold among in refl
+      go (suc (suc e)) = unfold among in rw (
+        lt-leb (suc (suc e)) 1 (omega arith),
+        ne-eqb (suc (suc e)) 1 (λ z. omega arith),
+        ne-eqb (suc (suc e)) 0 (λ z. omega arith),
+      )
+
+  two-arguments : leb e 2 ≡ among e (eager 2)
+  two-arguments = go e
+    where
+      go : (e : ℕ) → leb e 2 ≡ among e (eager 2)
       go zero = unfold among in refl
       go (suc zero) = unfold among in refl
       go (suc (suc zero)) = unfold among in refl
@@ -58,6 +67,22 @@ module _ (w e : ℕ) where
         ne-eqb (suc (suc (suc e))) 2 (λ z. omega arith),
         ne-eqb (suc (suc (suc e))) 0 (λ z. omega arith),
       )
+
+module _ (w e n : ℕ) (is : n ≡ builtInArity w) (few : n ≤ 2) where
+  as-eager : (b : Bool) → b ≡ among e (eager n) → b ≡ among e (builtInStrategy w)
+  as-eager b q = q ∙ ap (λ n. among e (eager n)) is ∙ ap (among e) (sym (strategy-eager w))
+
+  pub plain-among : n ≡ 0 → false ≡ among e (builtInStrategy w)
+  plain-among z = as-eager false (rw z (unfold among in refl))
+
+  pub operator-among : (n ≡ 0 → ⊥) → leb e n ≡ among e (builtInStrategy w)
+  operator-among some = as-eager (leb e n) (go n few some)
+    where
+      go : (n : ℕ) → n ≤ 2 → (n ≡ 0 → ⊥) → leb e n ≡ among e (eager n)
+      go zero h z = absurd (z refl)
+      go (suc zero) h z = one-argument e
+      go (suc (suc zero)) h z = two-arguments e
+      go (suc (suc (suc n))) h z = absurd (omega arith)
 
 -- ---- by the words of the book
 

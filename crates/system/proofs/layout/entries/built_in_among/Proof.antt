@@ -1,16 +1,14 @@
 -- `entries::built_in_among` meets its contract.
-use mathlib.Core.Path.{sym, _∙_}
-use borrow.Author.Tests.{not-true, not-false}
 use borrow.Author.Needs.{needs}
 use Rattle.system.proofs.layout.entries.Standing.{plain-among, operator-among}
 use Rattle.system.proofs.layout.entries.built_in_among.Statement.{statement}
 use Rattle.system.proofs.layout.entries.built_in_among.Tie as tie
 
 returns : tie.Need-returns
-returns c = let a = c .before .before .args in plain-among (a .w) (a .e) (sym (c .before .is-operator .ensures) ∙ not-true _ (c .if1 .taken))
+returns c = let n = c .before .built-in-arity in let a = c .before .before .args in plain-among (a .w) (a .e) (n .result) (n .ensures .0) (n .ensures .1) (c .if1 .taken)
 
 returns-2 : tie.Need-returns-2
-returns-2 c = let a = c .before .before .args in operator-among (a .w) (a .e) (sym (c .before .is-operator .ensures) ∙ not-false _ (c .if1 .left))
+returns-2 c = let n = c .before .built-in-arity in let a = c .before .before .args in operator-among (a .w) (a .e) (n .result) (n .ensures .0) (n .ensures .1) (c .if1 .left)
 
 pub built-in-among-spec : {M : Type 1} → statement M
 built-in-among-spec = tie.close (tie.spec (λ c κs. search needs) returns returns-2)
