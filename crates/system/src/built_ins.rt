@@ -47,10 +47,10 @@ pub fn built_in_arity(w: u16) -> usize
     ensures { λ r. ⌜ (r ≡ builtInArity w) × (r ≤ 2) ⌝ }
 {
     let x = w as usize;
-    if x < MAXIMUM {
-        return 0;
+    if x == MAXIMUM {
+        return 2;
     }
-    if x <= MINIMUM {
+    if x == MINIMUM {
         return 2;
     }
     if x == CURVE {
