@@ -1,4 +1,5 @@
-//! Show books and cues, read into trees, straight from the paper's text (01, "The show book" and "The table of numbers"; 02, F-1 and F-2).
+//! Show books and cues, read into trees, straight from the paper's text (01, "The show book" and "The table of numbers"; 02, F-1,
+//! F-2 and F-4).
 
 use std::cell::Cell;
 use std::rc::Rc;
@@ -17,16 +18,20 @@ pub const LOWER: u16 = 16641;
 /// "These act as rules 128 and 129."
 pub const HIGHER_RULE: usize = 128;
 pub const LOWER_RULE: usize = 129;
+/// "Word 16642 is "curve", one argument, order 1 0, rule 130" (02, F-4).
+pub const CURVE: u16 = 16642;
+pub const CURVE_RULE: usize = 130;
 
 pub fn is_level(w: u16) -> bool {
     (LEVEL..HIGHER).contains(&w)
 }
 
-/// The words that no book lists: a level "with no arguments", and the other two with "two arguments each, order 1 2 0". The argument count
-/// of such a word, and its order.
+/// The words that no book lists: a level "with no arguments", "higher of" and "lower of" with "two arguments each, order 1 2 0", and the curve.
+/// The argument count of such a word, and its order.
 pub fn built_in(w: u16) -> Option<(usize, &'static [usize])> {
     match w {
         HIGHER | LOWER => Some((2, &[1, 2, 0])),
+        CURVE => Some((1, &[1, 0])),
         _ => is_level(w).then_some((0, &[])),
     }
 }
@@ -125,7 +130,8 @@ impl Pages<'_> {
             if w >= HOLE {
                 return Err((6, at));
             }
-            // "15, place that word's index and 0 steps, where a left side starts with a level or either of these words, checked where 6 is"
+            // "15, place that word's index and 0 steps, where a left side starts with a level or either of these words, checked where 6 is";
+            // "rule sides and 15 treat the word" 16642 "as they do 16640" (F-4)
             if built_in(w).is_some() {
                 return Err((15, at));
             }
@@ -274,7 +280,8 @@ impl Book {
     }
 
     /// The names that fail the order test, from the lowest-numbered on. "Order test and evaluation cover them as if their 131,072 instances
-    /// stood in the book" (02, F-2): left sides then start with the two built-in words too, but these pass, as their order ends with its 0.
+    /// stood in the book" (02, F-2), and so the curve's 256: left sides then start with the built-in words too, but these pass, as the order of
+    /// each ends with its 0.
     pub fn failing(&self, plant: Plant) -> Vec<usize> {
         (0..self.names.len()).filter(|&f| !self.passes(f, plant)).collect()
     }
@@ -334,4 +341,8 @@ pub enum Plant {
     AnyRule,
     /// the replay takes places that are not active
     AnyPlace,
+    /// the curve's quotient is cut off, not rounded: n × n divided by 255, without the 127
+    CutOff,
+    /// the curve takes a step whatever its argument is: the low byte of its word for the level
+    LowByte,
 }

@@ -1,6 +1,6 @@
 //! One case: every operation of the product against what the paper's text gives, whole answers and whole buffers.
 
-use crate::book::{self, is_level, Book, Cue, Plant, HIGHER, HIGHER_RULE, LOWER, LOWER_RULE};
+use crate::book::{self, is_level, Book, Cue, Plant, CURVE, CURVE_RULE, HIGHER, HIGHER_RULE, LOWER, LOWER_RULE};
 use crate::compare_records::{compare_records, RECORDED, REPLAYED};
 use crate::demand3;
 use crate::evaluate::{evaluate, evaluate_plainly, first_fit, End, Fit, Outcome, Step};
@@ -16,14 +16,26 @@ const MARGIN: usize = 64;
 /// The numbers of the table: 0 to 17.
 pub const NUMBERS: usize = 18;
 
-/// What is counted of levels and built-in words (02, F-2), in cases whose cue was handed back.
-pub const LEVELS: [&str; 6] = [
+/// What is counted of levels and built-in words (02, F-2 and F-4), in cases whose cue was handed back.
+pub const LEVELS: [&str; 9] = [
     "steps by higher of",
     "steps by lower of",
+    "steps by the curve",
     "steps by a rule with a level on its left",
-    "steps by a rule with a built-in word on its left",
+    "steps by a rule with higher of or lower of on its left",
+    "steps by a rule with the curve on its left",
     "answers with levels",
-    "answers with built-in words",
+    "answers with higher of or lower of",
+    "answers with the curve",
+];
+
+/// What is counted of the curve (02, F-4), and of 16643, the first word after it, where books and cues are refused.
+pub const REFUSED: [&str; 5] = [
+    "15 for a left side that starts with the curve",
+    "4 for 16643",
+    "9 for 16643",
+    "9 for a curve without its argument",
+    "9 for a word after the argument of a curve",
 ];
 
 /// What was met, for the statistics.
@@ -45,6 +57,7 @@ pub struct Counts {
     /// books in which several names fail the order test
     pub several: u64,
     pub levels: [u64; LEVELS.len()],
+    pub refused: [u64; REFUSED.len()],
     pub recorded_met: [u64; RECORDED.len()],
     pub replayed_met: [u64; REPLAYED.len()],
     pub arguments: u64,
@@ -73,6 +86,7 @@ impl Counts {
         all(&mut self.replayed, &o.replayed);
         all(&mut self.steps, &o.steps);
         all(&mut self.levels, &o.levels);
+        all(&mut self.refused, &o.refused);
         all(&mut self.recorded_met, &o.recorded_met);
         all(&mut self.replayed_met, &o.replayed_met);
         self.most_steps = self.most_steps.max(o.most_steps);
@@ -423,13 +437,32 @@ fn levels(b: &Book, trace: &[Step], answer: &[u16]) -> [bool; LEVELS.len()] {
     let lefts = || trace.iter().filter_map(|s| b.rules.get(s.rule)).flat_map(|r| &r.left_words);
     let level = |w: &u16| is_level(*w);
     let operator = |w: &u16| [HIGHER, LOWER].contains(w);
+    let curve = |w: &u16| *w == CURVE;
     [
         by(HIGHER_RULE),
         by(LOWER_RULE),
+        by(CURVE_RULE),
         lefts().any(level),
         lefts().any(operator),
+        lefts().any(curve),
         answer.iter().any(level),
         answer.iter().any(operator),
+        answer.iter().any(curve),
+    ]
+}
+
+/// What of REFUSED is met, by a book's fault or by the place of a cue's.
+fn refused(case: &Case, read: &Result<Book, book::Fault>, cue: &Result<Rc<Cue>, usize>) -> [bool; REFUSED.len()] {
+    let fault = |number: u32, word: u16| matches!(read, Err((n, at)) if *n == number && case.book[*at] == word);
+    // none, where the book is refused
+    let place = read.as_ref().ok().and(cue.as_ref().err()).copied();
+    let ws = &case.cue;
+    [
+        fault(15, CURVE),
+        fault(4, CURVE + 1),
+        place.is_some_and(|at| ws.get(at) == Some(&(CURVE + 1))),
+        place.is_some_and(|at| at == ws.len() && ws.last() == Some(&CURVE)),
+        place.is_some_and(|at| at < ws.len() && ws[0] == CURVE && at == span(&case.book, ws)),
     ]
 }
 
@@ -484,6 +517,7 @@ pub fn compare(case: &Case, plant: Plant, n: &mut Counts) -> Checked {
             Err(0)
         }
     };
+    count(&mut n.refused, &refused(case, &read, &cue));
     let input = input(case, &read, &cue);
     expansion(case, plant, &input, n)?;
     compare_records(case, plant, &input, n)

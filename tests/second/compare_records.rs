@@ -1,7 +1,7 @@
 //! One case of the step record and its replay (02, F-3): the product against what the paper's text gives, whole answers, whole records and
 //! whole buffers.
 
-use crate::book::{Book, Cue, Plant, LONGEST};
+use crate::book::{Book, Cue, Plant, CURVE_RULE, LONGEST};
 use crate::compare::{answer, count, same, Checked, Counts, Input, Lent, Pair};
 use crate::demand3;
 use crate::evaluate::{all_fits, evaluate, evaluate_recorded, pairs, End, Fit, Step};
@@ -21,7 +21,7 @@ pub const RECORDED: [&str; 6] = [
 ];
 
 /// What is counted of replays.
-pub const REPLAYED: [&str; 13] = [
+pub const REPLAYED: [&str; 16] = [
     "half pairs",
     "indices outside the cue",
     "held-back places",
@@ -35,6 +35,9 @@ pub const REPLAYED: [&str; 13] = [
     "the expansion's own steps accepted",
     "steps in another order accepted",
     "steps deeper than level 64 accepted",
+    "steps by the curve accepted",
+    "the curve's rule for another",
+    "another rule for the curve's",
 ];
 
 /// What a recorded expansion is to leave: its answer, on 0 the cue handed back, and the pairs in the record.
@@ -168,6 +171,7 @@ fn met(b: &Book, c: &Rc<Cue>, record: &[u16], played: &Replay) -> [bool; REPLAYE
     let place = behind.first().filter(|_| refused).and_then(|&index| Place::of(&played.cue, index as usize));
     let fits: Vec<Fit> = place.iter().flat_map(|p| all_fits(b, &p.part, Plant::Nothing)).collect();
     let lowest = fits.first().is_some_and(|f| behind.get(1) == Some(&(f.number() as u16)));
+    let curved = |pair: &[u16]| pair[1] as usize == CURVE_RULE;
     let leaves = |f: &Fit| played.cue.words - place.as_ref().map_or(0, |p| p.part.words) + f.reduct(b).words;
     let accepted = played.stop.is_none() && played.steps > 0;
     let own = accepted && pairs(&evaluate(b, c, played.steps as u32, Plant::Nothing, true, PATIENCE).trace) == record;
@@ -185,6 +189,9 @@ fn met(b: &Book, c: &Rc<Cue>, record: &[u16], played: &Replay) -> [bool; REPLAYE
         own,
         accepted && !own,
         played.deepest > 64,
+        accepted && record.chunks_exact(2).any(curved),
+        wrong(Wrong::OtherRule) && curved(behind),
+        wrong(Wrong::OtherRule) && fits.first().is_some_and(|f| f.number() == CURVE_RULE),
     ]
 }
 

@@ -1,7 +1,7 @@
 //! The words of demand 3 (01), from their own definitions and on words alone: place, part, active, fits, step. Nothing here knows how a
 //! cue is evaluated; a list of steps is only checked.
 
-use crate::book::{is_level, Book, HIGHER, HIGHER_RULE, HOLE, LONGEST, LOWER, LOWER_RULE};
+use crate::book::{is_level, Book, CURVE, CURVE_RULE, HIGHER, HIGHER_RULE, HOLE, LEVEL, LONGEST, LOWER, LOWER_RULE};
 use crate::evaluate::Step;
 
 fn count(book: &Book, w: u16) -> usize {
@@ -74,14 +74,22 @@ fn fitting(book: &Book, part: &[u16]) -> Option<(usize, Vec<u16>)> {
     listed.or_else(|| built_in_instance(part))
 }
 
-/// "As if their 131,072 instances stood in the book" (02, F-2): the one whose left side the part is. The levels' words stand in the levels'
-/// order.
+/// "As if their 131,072 instances stood in the book" (02, F-2), and the curve's 256 (F-4): the one whose left side the part is. The levels'
+/// words stand in the levels' order.
 fn built_in_instance(part: &[u16]) -> Option<(usize, Vec<u16>)> {
     match *part {
         [HIGHER, a, b] if is_level(a) && is_level(b) => Some((HIGHER_RULE, vec![a.max(b)])),
         [LOWER, a, b] if is_level(a) && is_level(b) => Some((LOWER_RULE, vec![a.min(b)])),
+        [CURVE, a] if is_level(a) => (LEVEL..HIGHER).find(|&b| curves(a - LEVEL, b - LEVEL)).map(|b| (CURVE_RULE, vec![b])),
         _ => None,
     }
+}
+
+/// "Level n becomes (n × n + 127) divided by 255, whole part": level m, if 255 goes m times into that, and not once more.
+fn curves(n: u16, m: u16) -> bool {
+    let (n, m) = (u32::from(n), u32::from(m));
+    let square = n * n + 127;
+    255 * m <= square && square < 255 * (m + 1)
 }
 
 /// The cue after a list of steps, each at an active place, with the first rule that fits, leaving a whole cue of at most 4,096 words.

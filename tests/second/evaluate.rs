@@ -1,10 +1,10 @@
-//! Evaluation on trees, recursive, straight from the paper's text (01, "Evaluation"; 02, F-2 and F-3).
+//! Evaluation on trees, recursive, straight from the paper's text (01, "Evaluation"; 02, F-2 to F-4).
 //!
 //! Orders may repeat an argument, and nested repeats multiply. So a tree remembers the levels at which its evaluation took no step: what fits
 //! in it, and whether an argument is opened from level 64, depends on nothing but the tree and the level, so it takes none there again. The
 //! evaluation without this memory is at hand too, and the random cases hold one to the other wherever the plain one ends.
 
-use crate::book::{is_level, Book, Cue, Plant, Side, HIGHER, HIGHER_RULE, LONGEST, LOWER, LOWER_RULE};
+use crate::book::{is_level, Book, Cue, Plant, Side, CURVE, CURVE_RULE, HIGHER, HIGHER_RULE, LEVEL, LONGEST, LOWER, LOWER_RULE};
 use std::rc::Rc;
 
 /// A pair of the step record (02, F-3): "the step's index in the whole cue before it and the rule's number".
@@ -111,20 +111,38 @@ pub fn first_fit(book: &Book, cue: &Rc<Cue>, plant: Plant) -> Option<Fit> {
     all_fits(book, cue, plant).next()
 }
 
-/// "Where both arguments are levels, a step puts the larger or smaller level there" (02, F-2).
+/// The built-in rule that fits here, if one does.
 fn built_in_fit(cue: &Cue, plant: Plant) -> Option<Fit> {
-    let [a, b] = &cue.arguments[..] else { return None };
-    let (x, y) = match (is_level(a.name), is_level(b.name)) {
-        (true, true) => (a.name, b.name),
-        (true, false) if plant == Plant::OneLevel => (a.name, a.name),
-        (false, true) if plant == Plant::OneLevel => (b.name, b.name),
-        _ => return None,
-    };
-    match cue.name {
-        HIGHER => Some(Fit::BuiltIn(HIGHER_RULE, x.max(y))),
-        LOWER => Some(Fit::BuiltIn(LOWER_RULE, if plant == Plant::Larger { x.max(y) } else { x.min(y) })),
+    match (cue.name, &cue.arguments[..]) {
+        (HIGHER | LOWER, [a, b]) => combine(cue.name, a.name, b.name, plant),
+        (CURVE, [a]) => curve(a.name, plant),
         _ => None,
     }
+}
+
+/// "Where both arguments are levels, a step puts the larger or smaller level there" (02, F-2).
+fn combine(word: u16, a: u16, b: u16, plant: Plant) -> Option<Fit> {
+    let (x, y) = match (is_level(a), is_level(b)) {
+        (true, true) => (a, b),
+        (true, false) if plant == Plant::OneLevel => (a, a),
+        (false, true) if plant == Plant::OneLevel => (b, b),
+        _ => return None,
+    };
+    Some(match word {
+        HIGHER => Fit::BuiltIn(HIGHER_RULE, x.max(y)),
+        _ => Fit::BuiltIn(LOWER_RULE, if plant == Plant::Larger { x.max(y) } else { x.min(y) }),
+    })
+}
+
+/// "Level n becomes (n × n + 127) divided by 255, whole part" (02, F-4).
+fn curve(argument: u16, plant: Plant) -> Option<Fit> {
+    let n = match argument {
+        w if is_level(w) => u32::from(w - LEVEL),
+        w if plant == Plant::LowByte => u32::from(w % 256),
+        _ => return None,
+    };
+    let rounding = if plant == Plant::CutOff { 0 } else { 127 };
+    Some(Fit::BuiltIn(CURVE_RULE, LEVEL + ((n * n + rounding) / 255) as u16))
 }
 
 impl Evaluator<'_> {

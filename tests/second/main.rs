@@ -2,10 +2,10 @@
 //!
 //!     second [CASES] [--seed N] [--threads N] [--plant N] [--plain]
 //!
-//! CASES cases (100,000 if not said), from seed 0 (or --seed) on; one thread for each processor, if not said. --plant 1 to 10 plants a fault
+//! CASES cases (100,000 if not said), from seed 0 (or --seed) on; one thread for each processor, if not said. --plant 1 to 12 plants a fault
 //! in the second evaluator, which the run must then find. --plain leaves out what takes too long if nothing is remembered of arguments that
 //! took no step: for a product that remembers nothing. Exit status: 0 no difference; 1 a difference, printed with its seed and cut down; 2 a
-//! number of the table, a nest of repeats, or a kind of record came too seldom, or bad usage.
+//! number of the table, a nest of repeats, a kind of level, or a kind of record came too seldom, or bad usage.
 
 mod book;
 mod compare;
@@ -20,7 +20,7 @@ mod replay;
 mod shrink;
 
 use book::Plant;
-use compare::{compare, Counts, LEVELS, NUMBERS};
+use compare::{compare, Counts, LEVELS, NUMBERS, REFUSED};
 use compare_records::{RECORDED, REPLAYED};
 use random::Case;
 use std::sync::atomic::{AtomicU64, Ordering};
@@ -63,6 +63,8 @@ fn options() -> Option<Options> {
                     "8" => Plant::FullLast,
                     "9" => Plant::AnyRule,
                     "10" => Plant::AnyPlace,
+                    "11" => Plant::CutOff,
+                    "12" => Plant::LowByte,
                     _ => return None,
                 }
             }
@@ -136,6 +138,7 @@ fn statistics(n: &Counts) {
     println!("  allowance just enough {}, one short {}; arguments taken out {}, fits {}", n.exact, n.one_short, n.arguments, n.matches);
     println!("  books in which several names fail the order test {}", n.several);
     println!("  cases with {}", list(&LEVELS, &n.levels));
+    println!("  refused: {}", list(&REFUSED, &n.refused));
     println!("  recorded: {}", list(&RECORDED, &n.recorded_met));
     println!("  replay: {}", list(&REPLAYED, &n.replayed_met));
     print!("  demand 3: lists of steps checked {}, settled cues checked and expanded again {}", n.listed, n.settled);
@@ -143,8 +146,8 @@ fn statistics(n: &Counts) {
     println!("  the same without memory {}, too long without it {}; left out as too long {}", n.plain, n.repeats, n.too_long);
 }
 
-/// Every number of each operation is to come often, and so are nested repeats, levels of each kind, and what is counted of records: at least
-/// once in 500 cases.
+/// Every number of each operation is to come often, and so are nested repeats, levels of each kind, refusals round the curve, and what is
+/// counted of records: at least once in 500 cases.
 fn seldom(n: &Counts, plain: bool) -> Vec<String> {
     let least = n.cases / 500;
     let mut all = vec![];
@@ -163,7 +166,9 @@ fn seldom(n: &Counts, plain: bool) -> Vec<String> {
             all.push(format!("{i} of {name} came only {} times", counts[i]));
         }
     }
-    for (whats, counts) in [(&LEVELS[..], &n.levels[..]), (&RECORDED, &n.recorded_met), (&REPLAYED, &n.replayed_met)] {
+    let lists: [(&[&str], &[u64]); 4] =
+        [(&LEVELS, &n.levels), (&REFUSED, &n.refused), (&RECORDED, &n.recorded_met), (&REPLAYED, &n.replayed_met)];
+    for (whats, counts) in lists {
         for (what, c) in whats.iter().zip(counts).filter(|(_, c)| **c < least) {
             all.push(format!("{what} came only {c} times"));
         }
@@ -209,7 +214,7 @@ fn run(o: &Options) -> (Counts, Option<u64>) {
 
 fn all() -> i32 {
     let Some(o) = options() else {
-        eprintln!("second [CASES] [--seed N] [--threads N] [--plant 1 to 10] [--plain]");
+        eprintln!("second [CASES] [--seed N] [--threads N] [--plant 1 to 12] [--plain]");
         return 2;
     };
     if o.plant == Plant::Nothing {

@@ -203,7 +203,7 @@ pub fn levels() -> Vec<String> {
     t.expands("F-2, argument 1 before 2", &B, &[&[higher, 4][..], &nested(2, 63, 0)].concat(), 9, (13, 0, 1), None);
     for (label, cue, place) in [
         ("16383", &[16383][..], 0),
-        ("16642", &[16642], 0),
+        ("16643", &[16643], 0),
         ("32767", &[higher, 16384, 32767], 2),
         ("a second level", &[16384, 16384], 1),
         ("one argument", &[lower, 16384], 2),
@@ -241,13 +241,13 @@ fn sides(t: &mut Check) {
         ("one in the second rule", &[2, 1, 0, 1, 0, 1, 16641, 1, 0], 15, 13),
         ("7 in the first rule", &[2, 2, 1, 32769, 1, 0, 1, 16641, 1, 0], 7, 10),
         ("16383", &[1, 1, 16383, 1, 0], 4, 9),
-        ("16642", &[1, 1, 16642, 1, 0], 4, 9),
+        ("16643", &[1, 1, 16643, 1, 0], 4, 9),
         ("a placeholder", &[1, 1, 32768, 1, 0], 6, 9),
     ] {
         t.reads(&format!("F-2, first in a left side: {label}"), &book(&[0], rules), number, place);
     }
-    t.reads("F-2, 16642 on the right", &book(&[0], &[1, 1, 0, 1, 16642]), 4, 11);
-    t.reads("F-2, 16642 inside a left side", &book(&[0], &[1, 2, 1, 16642, 1, 0]), 4, 10);
+    t.reads("F-2, 16643 on the right", &book(&[0], &[1, 1, 0, 1, 16643]), 4, 11);
+    t.reads("F-2, 16643 inside a left side", &book(&[0], &[1, 2, 1, 16643, 1, 0]), 4, 10);
     t.reads("F-2, a side without an argument of a built-in word", &book(&[0], &[1, 1, 0, 2, 16640, 16384]), 5, 13);
 }
 

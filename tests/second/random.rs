@@ -1,6 +1,6 @@
 //! Random books and cues. Each case comes from its own seed alone, so that it can be made again.
 
-use crate::book::{self, Book, Cue, Plant, HIGHER, HOLE, LEVEL, LOWER};
+use crate::book::{self, Book, Cue, Plant, CURVE, HIGHER, HOLE, LEVEL, LOWER};
 use crate::evaluate::{evaluate, End, Outcome};
 use crate::random_records::{noise, record, room};
 use std::rc::Rc;
@@ -198,14 +198,16 @@ fn level(r: &mut Random) -> u16 {
     LEVEL + if r.percent(60) { *r.pick(&[0, 0, 0, 1, 2, 127, 128, 200, 254, 255, 255]) } else { r.below(256) as u16 }
 }
 
+/// A built-in word with arguments.
 fn operator(r: &mut Random) -> u16 {
-    *r.pick(&[HIGHER, LOWER])
+    *r.pick(&[HIGHER, LOWER, CURVE])
 }
 
 /// A word to start a tree of about `room` words with.
 fn first_word(r: &mut Random, d: &Draft, room: usize) -> u16 {
     match room {
         0..=1 if r.percent(2 * d.levels) => return level(r),
+        2 if r.percent(d.levels) => return CURVE,
         3.. if r.percent(d.levels) => return operator(r),
         _ => {}
     }
@@ -397,11 +399,11 @@ pub fn largest(r: &mut Random) -> Draft {
             holes = 1;
         }
         while l.len() < 63 {
-            l.push(1);
+            l.push(*r.pick(&[1, 1, CURVE]));
         }
         let end = level(r);
         l.push(*r.pick(&[0, HOLE + holes, end]));
-        let mut rt = vec![1; 63];
+        let mut rt = vec![*r.pick(&[1, CURVE]); 63];
         rt.push(*r.pick(&[0, end]));
         d.rule(&l, &rt);
     }
@@ -598,8 +600,8 @@ fn lists(r: &mut Random, scale: Scale) -> (Draft, Vec<u16>) {
     (d, cue)
 }
 
-/// A group of dimmers: a level from either scene, the higher of the two, the grand master's cap, and fades from one level to the next. Rules
-/// look at levels and at built-in words that are not evaluated yet, or can't be.
+/// A group of dimmers: a level from either scene, the higher of the two, the grand master's cap, the lamps' curve, and fades from one level to
+/// the next. Rules look at levels and at built-in words that are not evaluated yet, or can't be.
 fn dimmers(r: &mut Random, scale: Scale) -> (Draft, Vec<u16>) {
     let mut d = Draft { levels: r.from(20, 50), ..Draft::default() };
     let dark = d.name(0, &[]);
@@ -609,19 +611,24 @@ fn dimmers(r: &mut Random, scale: Scale) -> (Draft, Vec<u16>) {
     let lamp = d.name(1, *r.pick(&[&[1, 0][..], &[0], &[0, 1], &[0, 1, 0], &[]]));
     let fade = d.name(1, *r.pick(&[&[1, 0][..], &[0]]));
     let some = level(r);
-    let rules: [(&[u16], &[u16]); 12] = [
+    let rules: [(&[u16], &[u16]); 17] = [
         (&[mix, LEVEL, A], &[A]),
+        (&[mix, CURVE, A, CURVE, B], &[CURVE, mix, A, B]),
         (&[mix, A, B], &[HIGHER, A, B]),
         (&[cap, LEVEL + 255, A], &[A]),
+        (&[cap, A, CURVE, B], &[LOWER, A, CURVE, B]),
         (&[cap, A, group, B, C], &[group, cap, A, B, cap, A, C]),
         (&[cap, A, HIGHER, B, C], &[HIGHER, LOWER, A, B, LOWER, A, C]),
         (&[cap, A, B], &[LOWER, A, B]),
         (&[lamp, LEVEL], &[dark]),
+        (&[lamp, CURVE, LEVEL], &[dark]),
+        (&[lamp, CURVE, A], &[CURVE, lamp, A]),
         (&[lamp, some], &[lamp, HIGHER, dark, LOWER, some, LEVEL + 1]),
         (&[lamp, LOWER, LEVEL, A], &[LEVEL]),
         (&[lamp, HIGHER, A, LOWER, B, C], &[group, lamp, A, lamp, C]),
         (&[group, some, dark], &[some]),
         (&[group, A, lamp, B], &[cap, A, HIGHER, mix, A, B, B]),
+        (&[group, CURVE, A, B], &[group, A, CURVE, lamp, B]),
     ];
     for (left, right) in rules {
         if r.percent(70) {
@@ -630,7 +637,15 @@ fn dimmers(r: &mut Random, scale: Scale) -> (Draft, Vec<u16>) {
     }
     for k in LEVEL..LEVEL + r.below(scale.of(8, 40, 110)) as u16 {
         let next = k + 1;
-        d.rule(&[fade, k], *r.pick(&[&[fade, next][..], &[HIGHER, k, fade, next], &[LOWER, fade, next, k], &[group, k, fade, next]]));
+        let rights: [&[u16]; 6] = [
+            &[fade, next],
+            &[HIGHER, k, fade, next],
+            &[LOWER, fade, next, k],
+            &[group, k, fade, next],
+            &[group, CURVE, k, fade, next],
+            &[CURVE, fade, next],
+        ];
+        d.rule(&[fade, k], *r.pick(&rights));
     }
     let mut cue = vec![];
     let room = r.from(1, scale.of(25, 150, 1500));
@@ -648,12 +663,29 @@ fn lighten(r: &mut Random, d: &mut Draft, cue: &mut [u16]) {
         }
         let word = match d.counts[f as usize] {
             0 => level(r),
-            2 => operator(r),
+            1 => CURVE,
+            2 => *r.pick(&[HIGHER, LOWER]),
             _ => continue,
         };
         let sides = d.rules.iter_mut().flat_map(|(l, rt)| l.iter_mut().chain(rt.iter_mut()));
         for w in sides.chain(cue.iter_mut()).filter(|w| **w == f) {
             *w = if book::is_level(word) && r.percent(10) { level(r) } else { word };
+        }
+    }
+}
+
+/// The curve round some parts: a word with one argument may stand before any part of a cue or of a side, but a left side does not start with
+/// it.
+fn bend(r: &mut Random, d: &mut Draft, cue: &mut Vec<u16>) {
+    let mut all: Vec<(&mut Vec<u16>, usize, usize)> = vec![(cue, 0, 4096)];
+    for (l, rt) in d.rules.iter_mut() {
+        all.extend([(l, 1, 64), (rt, 0, 64)]);
+    }
+    for (words, first, most) in all {
+        for _ in 0..r.below(3) {
+            if first < words.len() && words.len() < most {
+                words.insert(r.from(first, words.len() - 1), CURVE);
+            }
         }
     }
 }
@@ -770,7 +802,7 @@ fn vary(r: &mut Random, d: &mut Draft) {
 // ---- faults
 
 /// Words on either side of where levels and built-in words begin and end.
-const EDGES: [u16; 7] = [LEVEL - 1, LEVEL, LEVEL + 255, HIGHER, LOWER, LOWER + 1, HOLE - 1];
+const EDGES: [u16; 8] = [LEVEL - 1, LEVEL, LEVEL + 255, HIGHER, LOWER, CURVE, CURVE + 1, HOLE - 1];
 
 fn odd_word(r: &mut Random, near: u16) -> u16 {
     match r.below(12) {
@@ -849,7 +881,7 @@ fn side_damage(r: &mut Random, s: u16, l: &mut Vec<u16>, rt: &mut Vec<u16>) {
     let at = r.below(side.len());
     match r.below(7) {
         0 => side[at] = s,
-        1 => side[at] = *r.pick(&[LEVEL - 1, LOWER + 1, HOLE - 1, HOLE + 16, 65535]),
+        1 => side[at] = *r.pick(&[LEVEL - 1, CURVE + 1, HOLE - 1, HOLE + 16, 65535]),
         2 => side.push(0),
         3 => side.truncate(side.len() - 1),
         4 => l[0] = HOLE,
@@ -868,15 +900,19 @@ fn side_damage(r: &mut Random, s: u16, l: &mut Vec<u16>, rt: &mut Vec<u16>) {
 
 /// A left side that starts with a level, with a built-in word, or with a word next to these: 15, or 4, whatever is wrong behind it.
 fn start_damage(r: &mut Random, l: &mut Vec<u16>) {
-    l[0] = if r.percent(30) { level(r) } else { *r.pick(&EDGES) };
+    l[0] = match r.below(10) {
+        0..=2 => level(r),
+        3..=4 => CURVE,
+        _ => *r.pick(&EDGES),
+    };
     let last = l.len() - 1;
     match r.below(6) {
         0 => l.push(odd_word(r, HOLE)),
         1 => l.truncate(1),
         2 if last > 0 => l[last] = HOLE + r.from(1, 15) as u16,
-        3 if last > 0 => l[last] = LOWER + 1,
+        3 if last > 0 => l[last] = CURVE + 1,
         4 => {
-            let with: &[u16] = *r.pick(&[&[A, B][..], &[B, A], &[LEVEL, A], &[LEVEL, LEVEL + 9], &[HIGHER, A, B, C]]);
+            let with: &[u16] = *r.pick(&[&[A][..], &[B], &[LEVEL], &[CURVE, A], &[A, B], &[B, A], &[LEVEL, LEVEL + 9], &[HIGHER, A, B, C]]);
             l.truncate(1);
             l.extend(with);
         }
@@ -885,7 +921,7 @@ fn start_damage(r: &mut Random, l: &mut Vec<u16>) {
 }
 
 fn break_cue(r: &mut Random, d: &Draft, cue: &mut Vec<u16>) {
-    match r.below(8) {
+    match r.below(10) {
         0 => cue.truncate(r.below(cue.len() + 1)),
         1 => cue.push(r.below(d.counts.len()) as u16),
         2 => {
@@ -894,7 +930,7 @@ fn break_cue(r: &mut Random, d: &Draft, cue: &mut Vec<u16>) {
         }
         3 => {
             let at = r.below(cue.len());
-            cue[at] = d.counts.len() as u16;
+            cue[at] = *r.pick(&[d.counts.len() as u16, CURVE + 1]);
         }
         4 => cue.clear(),
         5 => {
@@ -905,15 +941,22 @@ fn break_cue(r: &mut Random, d: &Draft, cue: &mut Vec<u16>) {
             let at = r.below(cue.len());
             cue[at] = *r.pick(&EDGES);
         }
+        7 => {
+            // a curve without its argument
+            cue.truncate(r.below(cue.len()));
+            cue.push(CURVE);
+        }
+        8 => {
+            // a curve with a word too many
+            cue.insert(0, CURVE);
+            cue.push(level(r));
+        }
         _ => {
             // too long, or just not
             let n = r.from(4094, 4099);
-            if let Some(u) = d.counts.iter().position(|&c| c == 1) {
-                *cue = vec![u as u16; n - 1];
-                cue.push(0);
-            } else {
-                *cue = vec![0; n];
-            }
+            let u = d.counts.iter().position(|&c| c == 1).filter(|_| r.percent(70));
+            *cue = vec![u.map_or(CURVE, |u| u as u16); n - 1];
+            cue.push(0);
         }
     }
 }
@@ -935,20 +978,23 @@ fn plain(r: &mut Random) -> (Draft, Vec<u16>) {
 
 /// A book and a cue without damage.
 fn draft(r: &mut Random, scale: Scale) -> (Draft, Vec<u16>) {
-    let (mut d, mut cue) = match r.below(122) {
+    let (mut d, mut cue) = match r.below(128) {
         0..=26 => plain(r),
         27..=44 => again(r),
         45..=56 => arithmetic(r, scale),
         57..=66 => chase(r, scale),
-        67..=75 => doubling(r),
-        76..=82 => deep(r),
-        83..=90 => wide(r, scale),
-        91..=99 => lists(r, scale),
-        100..=105 => repeats(r),
+        67..=77 => doubling(r),
+        78..=84 => deep(r),
+        85..=92 => wide(r, scale),
+        93..=101 => lists(r, scale),
+        102..=107 => repeats(r),
         _ => dimmers(r, scale),
     };
     if r.percent(25) {
         lighten(r, &mut d, &mut cue);
+    }
+    if r.percent(15) {
+        bend(r, &mut d, &mut cue);
     }
     if r.percent(50) {
         vary(r, &mut d);

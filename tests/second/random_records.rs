@@ -1,7 +1,7 @@
 //! Random step records (02, F-3): the room of the one that the expander is lent, and records to be replayed, "from anyone": of the expansion
 //! itself, of steps in another order, with a wrong pair, damaged, and noise.
 
-use crate::book::{Book, Cue, Plant, HIGHER_RULE, LONGEST, LOWER_RULE};
+use crate::book::{Book, Cue, Plant, CURVE_RULE, HIGHER_RULE, LONGEST, LOWER_RULE};
 use crate::evaluate::{all_fits, pairs, Outcome, Step};
 use crate::random::Random;
 use crate::replay::{replay, Stop};
@@ -83,7 +83,7 @@ fn wander(r: &mut Random, book: &Book, from: &Rc<Cue>, steps: &mut Vec<Step>) ->
 
 /// A rule's number, of the book mostly, or one on either side of where its rules and the built-in ones end.
 fn any_rule(r: &mut Random, book: &Book) -> u16 {
-    let edges = [HIGHER_RULE, LOWER_RULE, LOWER_RULE + 1, HIGHER_RULE - 1, book.rules.len(), 65535];
+    let edges = [HIGHER_RULE, LOWER_RULE, CURVE_RULE, CURVE_RULE + 1, HIGHER_RULE - 1, book.rules.len(), 65535];
     (if r.percent(60) { r.below(book.rules.len() + 1) } else { *r.pick(&edges) }) as u16
 }
 
@@ -94,11 +94,12 @@ fn wrong_pair(r: &mut Random, book: &Book, cue: &Rc<Cue>) -> [u16; 2] {
         let found: Vec<&Redex> = all.iter().filter(|x| which(x)).collect();
         (!found.is_empty()).then(|| *r.pick(&found))
     };
-    let pair = match r.below(8) {
+    let pair = match r.below(9) {
         0..=1 => some(r, |x| !x.active).map(|x| (x.index, x.rules[0] as u16)),
         2..=4 => some(r, |x| x.active && x.rules.len() > 1).map(|x| (x.index, *r.pick(&x.rules[1..]) as u16)),
         5 => some(r, |x| x.active).map(|x| (x.index, any_rule(r, book))),
-        6 => Some((*r.pick(&[cue.words, cue.words + 1, 4096, 65535]), any_rule(r, book))),
+        6 => some(r, |x| x.active).map(|x| (x.index, *r.pick(&[HIGHER_RULE, LOWER_RULE, CURVE_RULE]) as u16)),
+        7 => Some((*r.pick(&[cue.words, cue.words + 1, 4096, 65535]), any_rule(r, book))),
         _ => None,
     };
     let (index, rule) = pair.unwrap_or_else(|| (r.below(cue.words), any_rule(r, book)));
@@ -107,7 +108,7 @@ fn wrong_pair(r: &mut Random, book: &Book, cue: &Rc<Cue>) -> [u16; 2] {
 
 /// Words that have nothing to do with any cue, an odd number of them too.
 pub fn noise(r: &mut Random) -> Vec<u16> {
-    let word = |r: &mut Random| if r.percent(80) { r.below(4) } else { *r.pick(&[128, 129, 4095, 4096, 32768, 65535]) };
+    let word = |r: &mut Random| if r.percent(80) { r.below(4) } else { *r.pick(&[128, 129, 130, 131, 4095, 4096, 32768, 65535]) };
     (0..r.below(9)).map(|_| word(r) as u16).collect()
 }
 
