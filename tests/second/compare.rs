@@ -173,7 +173,7 @@ impl Lent {
 }
 
 /// By the argument counts that the words of any book list, and of the words that it does not list those of the built-in ones.
-fn span(book: &[u16], ws: &[u16]) -> usize {
+pub fn span(book: &[u16], ws: &[u16]) -> usize {
     let listed = book.get(0).map_or(0, |&s| (s as usize).min(book.len() - 1));
     fn part(counts: &[u16], ws: &[u16], at: usize) -> usize {
         let mut end = at + 1;

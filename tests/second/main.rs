@@ -221,6 +221,7 @@ fn all() -> i32 {
         let mut faults = paper::paper();
         faults.extend(paper::levels());
         faults.extend(paper::records());
+        faults.extend(paper::curve());
         if !o.plain {
             faults.extend(paper::repeats());
         }
@@ -230,7 +231,7 @@ fn all() -> i32 {
         if !faults.is_empty() {
             return 1;
         }
-        println!("second: the paper's cases C1 to C15, F-2's and F-3's{} hold for both", if o.plain { "" } else { ", and nested repeats," });
+        println!("second: the paper's cases C1 to C15, F-2's to F-4's{} hold for both", if o.plain { "" } else { ", and nested repeats," });
     }
     let start = Instant::now();
     let (n, found) = run(&o);
