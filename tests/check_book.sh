@@ -1,6 +1,6 @@
 #!/usr/bin/env bash
 # What the program `check_book` prints for show.book: a file missing, long or odd, each number of the reader with its place and sentence
-# (01, "The table of numbers"; 02, F-2), and the order test, passed and failed.
+# (01, "The table of numbers"; 02, F-2 and F-4), and the order test, passed and failed.
 #     tests/check_book.sh PROGRAM
 set -euo pipefail
 . "$(dirname "$0")/files.sh"
@@ -50,7 +50,7 @@ stray='a left placeholder is not the next one, or a right one is not in the left
 refused 'C4, word 29 of book B made 32768' stray 29 "$stray" "${b[@]:0:29}" 32768 "${b[@]:30}"
 refused 'placeholder 1 before 0' stray 7 "$stray" 1 1 1 0 1 2 0 32769 1 0
 refused 'a placeholder on the right alone' stray 8 "$stray" 1 0 1 0 1 1 0 1 32768
-# 02, F-2: 15, checked where 6 is; 4 for the words next to levels and built-in words
+# 02, F-2 and F-4: 15, checked where 6 is; 4 for the words next to levels and built-in words
 builtin='a left side starts with a level or a built-in word'
 refused 'a left side that is level 0' builtin 6 "$builtin" 1 0 1 0 1 1 16384 1 0
 refused 'a left side that is level 255' builtin 6 "$builtin" 1 0 1 0 1 1 16639 1 0
@@ -60,8 +60,13 @@ refused 'higher of before placeholder 1, which comes before 0' builtin 6 "$built
 refused 'lower of without its arguments' builtin 6 "$builtin" 1 0 1 0 1 1 16641 1 0
 refused 'a level at the start of the second rule' builtin 10 "$builtin" 1 0 1 0 2 1 0 1 0 1 16384 1 0
 refused 'the word before level 0' stranger 6 "$stranger" 1 0 1 0 1 1 16383 1 0
-refused 'the word after lower of' stranger 6 "$stranger" 1 0 1 0 1 1 16642 1 0
-refused 'the word after lower of, on the right' stranger 8 "$stranger" 1 0 1 0 1 1 0 1 16642
+refused 'a left side that starts with curve' builtin 6 "$builtin" 1 0 1 0 1 2 16642 32768 1 32768
+refused 'curve before placeholder 1' builtin 6 "$builtin" 1 0 1 0 1 2 16642 32769 1 0
+refused 'curve without its argument' builtin 6 "$builtin" 1 0 1 0 1 1 16642 1 0
+refused 'curve at the start of the second rule' builtin 10 "$builtin" 1 0 1 0 2 1 0 1 0 2 16642 16384 1 0
+refused 'curve without its argument, on the right' ragged 9 "$ragged" 1 0 1 0 1 1 0 1 16642
+refused 'the word after curve' stranger 6 "$stranger" 1 0 1 0 1 1 16643 1 0
+refused 'the word after curve, on the right' stranger 8 "$stranger" 1 0 1 0 1 1 0 1 16643
 surplus='words after the last rule'
 refused 'C3, book B with one word more' surplus 39 "$surplus" $book_b 0
 refused 'a word after no rules' surplus 5 "$surplus" 1 0 1 0 0 7
@@ -86,5 +91,9 @@ taken 'dim(level 3) to level 200' 14 "$passes" 2 0 1 2 0 2 1 0 1 2 1 16387 1 165
 taken 'the same, evaluated after the last 0' 14 "$(fails 1)" 2 0 1 2 0 2 0 1 1 2 1 16387 1 16584
 taken 'dim(higher of(a, b)) to lower of(a, b)' 18 "$passes" 2 0 1 2 0 2 1 0 1 4 1 16640 32768 32769 3 16641 32768 32769
 taken 'the same, evaluated after the last 0' 18 "$(fails 1)" 2 0 1 2 0 2 0 1 1 4 1 16640 32768 32769 3 16641 32768 32769
+# 02, F-4: the same of the curve
+taken 'dim(curve(a)) to curve(a)' 16 "$passes" 2 0 1 2 0 2 1 0 1 3 1 16642 32768 2 16642 32768
+taken 'the same, evaluated after the last 0' 16 "$(fails 1)" 2 0 1 2 0 2 0 1 1 3 1 16642 32768 2 16642 32768
+taken 'dim(a) to curve(a), evaluated after the last 0' 15 "$passes" 2 0 1 2 0 2 0 1 1 2 1 32768 2 16642 32768
 
 all_print "01's words"

@@ -1,6 +1,6 @@
 #!/usr/bin/env bash
-# What the program `expand` prints for its two files (01, "The program"; 02, F-2): each file missing, long, odd or short, on either side of its
-# limits, the book before the cue file, and some answers of every kind.
+# What the program `expand` prints for its two files (01, "The program"; 02, F-2 and F-4): each file missing, long, odd or short, on either side
+# of its limits, the book before the cue file, and some answers of every kind.
 #     tests/program.sh PROGRAM
 set -euo pipefail
 . "$(dirname "$0")/files.sh"
@@ -101,8 +101,6 @@ cue 10 2 1 16641 16640 16387 16584 16639 4
 answers 'the head of a chase that starts with a level' '0 1 3' 16584
 cue 0 16639
 answers 'a level' '0 1 0' 16639
-cue 9 16642
-answers 'the word after lower of' '9 0 0'
 cue 9 16640 16384 16383
 answers 'the word before level 0' '9 2 0'
 cue 9 16640 16384
@@ -117,6 +115,38 @@ cue 9 1 1 16384
 answers 'a level on the left, and no level' '0 3 2' 16640 0 16387
 cue 9 1 1 16584
 answers 'levels on the right' '0 1 4' 16584
+
+# 02, F-4: of level 12, (144 + 127) divided by 255 is level 1; of 200, 40127 by 255 is 157 (16541); of 157, 24776 by 255 is 97 (16481)
+book; cue 10 16642 16396
+answers 'curve of level 12' '0 1 1' 16385
+cue 10 16642 16395
+answers 'curve of level 11' '0 1 1' 16384
+cue 10 16642 16639
+answers 'curve of level 255' '0 1 1' 16639
+cue 10 16642 16642 16584
+answers 'curve of a curve' '0 1 2' 16481
+cue 1 16642 16642 16584
+answers 'curve of a curve, one step short' '11 0 1'
+cue 10 16642 16640 16387 16584
+answers 'curve of higher of' '0 1 2' 16541
+cue 10 16642 0
+answers 'curve of flash' '0 2 0' 16642 0
+cue 10 1 0 16642 16584
+answers 'curve, held back' '0 4 0' 1 0 16642 16584
+cue 9 16643
+answers 'the word after curve' '9 0 0'
+cue 9 16642
+answers 'curve without its argument' '9 1 0'
+cue 9 16642 16384 16384
+answers 'a word after the argument of curve' '9 2 0'
+words 1 0 1 0 1 2 16642 32768 1 0 > show.book
+answers 'a left side that starts with curve' '15 6 0'
+# dim(curve(a)) to a, dim(a) to curve(a); dim never evaluates its argument
+words 2 0 1 2 0 1 0 2 3 1 16642 32768 1 32768 2 1 32768 2 16642 32768 > show.book
+cue 9 1 16584
+answers 'curve on the right' '0 1 2' 16541
+cue 9 1 16642 16584
+answers 'curve on the left' '0 1 1' 16584
 
 # both bytes of a word
 book; cue 256 0

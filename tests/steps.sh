@@ -1,6 +1,6 @@
 #!/usr/bin/env bash
-# What tools/steps.c prints (02, F-3), its lines written by hand from 01 and 02: expansions, records that are written, replays of every kind,
-# and files that it can't use.
+# What tools/steps.c prints (02, F-3 and F-4), its lines written by hand from 01 and 02: expansions, records that are written, replays of every
+# kind, and files that it can't use.
 #     tests/steps.sh PROGRAM
 set -euo pipefail
 . "$(dirname "$0")/files.sh"
@@ -83,6 +83,25 @@ shows 'C3' 1 "$both" "$heading" "$numbers" '8 39 0 surplus'
 # higher of(level 1, lower of(level 2, level 3)): 16640 is rule 128, 16641 rule 129
 book; cue 9 16640 16385 16641 16386 16387
 shows 'levels' 0 "$both" "$heading" '   1     2  129  16640 16385 16386' '   2     0  128  16386' "$numbers" '0 1 2 taken'
+
+# curve(higher of(level 3, curve(level 200))): 16642 is rule 130; level 200 becomes 157 (16541), and that 97 (16481)
+cue 9 16642 16640 16387 16642 16584
+inner='   1     3  130  16642 16640 16387 16541'
+group='   2     1  128  16642 16541'
+whole='   3     0  130  16481'
+shows 'curves' 0 "-o written $both" "$heading" "$inner" "$group" "$whole" "$numbers" '0 1 3 taken'
+wrote 3 130 1 128 0 130
+shows 'curves again' 0 "$both written" "$heading" "$inner" "$group" "$whole" "$numbers" '0 1 3 taken'
+record 3 130 0 130
+shows 'a curve of no level yet' 1 "$both record" "$heading" "$inner" 'pair 1: index 0, rule 130: no step there' "$numbers" '17 1 1 pair'
+record 3 130 1 130
+shows 'rule 130 at higher of' 1 "$both record" "$heading" "$inner" 'pair 1: index 1, rule 130: no step there' "$numbers" '17 1 1 pair'
+record 3 128
+shows 'rule 128 at curve' 1 "$both record" "$heading" 'pair 0: index 3, rule 128: no step there' "$numbers" '17 0 0 pair'
+cue 9 16642
+shows 'curve without its argument' 1 "$both" "$heading" "$numbers" '9 1 0 broken cue'
+words 1 0 1 0 1 2 16642 32768 1 0 > show.book
+shows 'a left side that starts with curve' 1 "$both" "$heading" "$numbers" '15 6 0 builtin'
 
 # C15 with twelve d: the innermost first; p of two equal parts for each, up to 4,095 words and the d that is left
 words 3 0 2 1 3 0 0 2 1 0 1 2 2 32768 3 1 32768 32768 > show.book
