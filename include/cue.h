@@ -31,7 +31,7 @@ extern "C" {
 
 /* The version: a change of what a function takes or answers raises the first number, anything new the second. */
 #define CUE_VERSION_MAJOR 2
-#define CUE_VERSION_MINOR 1
+#define CUE_VERSION_MINOR 2
 
 /* Sizes, in words. */
 #define CUE_TERM_WORDS 4096 /* the most words of a cue, and the least of an answer buffer */
@@ -50,13 +50,16 @@ extern "C" {
 
 /*
  * Dimmer levels, and the built-in words for them. They may stand in cues and on both sides of rules, but a left side does not start with
- * one. Where both arguments of a built-in word are levels, a step puts one of them there; its order is 1 2 0.
+ * one. Where both arguments of "higher of" or "lower of" are levels, a step puts one of them there; their order is 1 2 0. Where the argument
+ * of "curve" is level n, a step puts there what the square law gives for it, level (n * n + 127) / 255, whole part; its order is 1 0.
  */
 #define CUE_LEVEL 16384 /* dimmer level n, from 0 to 255, is the word 16384 + n */
 #define CUE_HIGHER_OF 16640 /* two arguments: the larger level */
 #define CUE_LOWER_OF 16641 /* two arguments: the smaller level */
+#define CUE_CURVE 16642 /* one argument: the square law's level for its level */
 #define CUE_HIGHER_RULE 128 /* the number of the rule by which "higher of" takes a step */
 #define CUE_LOWER_RULE 129 /* and of that of "lower of" */
+#define CUE_CURVE_RULE 130 /* and of that of "curve" */
 
 /* The numbers of an answer. */
 enum {
@@ -114,7 +117,7 @@ typedef struct cue_part {
 /*
  * A rule that fits, if found is 1: its number (from 0), the index in the book of its right side's first word, how many words the right
  * side has, and for each placeholder of the left side the index of the first word, and the number of words, of the argument that it
- * stands for. Placeholders that the left side does not have are 0 and 0. A built-in rule has number 128 or 129 and no right side in the
+ * stands for. Placeholders that the left side does not have are 0 and 0. A built-in rule has number 128 to 130 and no right side in the
  * book (rhs and size are 0): word is the level that a step puts there, as a word of a cue; of any other rule it is 0. If found is 0, all
  * is 0. (`number` is a rule's here, and no number of the table.)
  */
@@ -152,8 +155,8 @@ cue_part cue_argument(const uint16_t *book, size_t book_words, const uint16_t *t
 
 /*
  * How many words the part at the front of ws takes: its first word with all its arguments. Where ws ends before that, all its words. The
- * argument counts are those that the book's words list, whether or not the book is accepted; of the words that it does not list the two
- * built-in ones have two arguments, all others none.
+ * argument counts are those that the book's words list, whether or not the book is accepted; of the words that it does not list "higher of"
+ * and "lower of" have two arguments, "curve" has one, all others none.
  */
 size_t cue_span(const uint16_t *book, size_t book_words, const uint16_t *ws, size_t ws_words);
 
@@ -221,7 +224,7 @@ cue_twice cue_expand_twice(const uint16_t *book, size_t book_words, const uint16
                            uint16_t *spare, size_t spare_words);
 
 /*
- * cue_expand with a record: for each step two words, its index in the whole cue before it and the number of its rule (128 and 129 are the
+ * cue_expand with a record: for each step two words, its index in the whole cue before it and the number of its rule (128 to 130 are the
  * built-in ones). The answer and the buffers are cue_expand's, with one more limit:
  *
  *   number    place                        steps            out                                     work

@@ -62,11 +62,11 @@ static void variables(size_t n) {
   put(2);
 }
 
-/* over a book of one name, which has no arguments: the number that a cue of one word, or of a word and two levels, gets */
+/* over a book of one name, which has no arguments: the number that a cue of one word, or of a word and one level or two, gets */
 static uint32_t stands(unsigned long first, size_t term_words) {
   make(1, 0, 0, 0, 1);
   term[0] = (uint16_t)first;
-  term[1] = CUE_LEVEL + 3;
+  term[1] = CUE_LEVEL + 100;
   term[2] = CUE_LEVEL + 200;
   return cue_check_term(book, words, term, term_words).number;
 }
@@ -79,44 +79,48 @@ static uint32_t starts(unsigned long first) {
   return reads();
 }
 
-/* a built-in word of levels 3 and 200: the rule that fits, and the level that it puts there */
-static void combines(unsigned long first, size_t rule, unsigned long level) {
+/* a built-in word of levels 100 and 200, or of level 100 alone: the rule that fits, and the level that it puts there */
+static void combines(unsigned long first, size_t term_words, size_t rule, unsigned long level) {
   cue_match m;
   cue_answer a;
-  check("a built-in word of two levels", stands(first, 3), CUE_TAKEN);
-  m = cue_first_match(book, words, term, 3);
+  check("a built-in word of levels", stands(first, term_words), CUE_TAKEN);
+  m = cue_first_match(book, words, term, term_words);
   check("a built-in rule fits", m.found, 1);
   check("its number", m.number, rule);
   check("its right side's words", m.size, 0);
   check("its level", m.word, level);
-  a = cue_expand(book, words, term, 3, 1, out, CUE_TERM_WORDS, work, CUE_WORK_WORDS);
+  a = cue_expand(book, words, term, term_words, 1, out, CUE_TERM_WORDS, work, CUE_WORK_WORDS);
   check("the words after a built-in step", a.place, 1);
   check("the built-in steps", a.steps, 1);
   check("the level after a built-in step", out[0], level);
+  check("the span of a built-in word and its arguments", cue_span(book, words, term, CUE_TERM_WORDS), term_words);
 }
 
-/* 02, F-2: the 256 levels, "higher of" and "lower of", and no word on either side of them */
+/* 02, F-2 and F-4: the 256 levels, "higher of", "lower of" and "curve", and no word on either side of them */
 static void levels(void) {
   check("the levels' words", CUE_HIGHER_OF - CUE_LEVEL, 256);
   check("level 0", stands(CUE_LEVEL, 1), CUE_TAKEN);
   check("level 255", stands(CUE_LEVEL + 255, 1), CUE_TAKEN);
   check("the word before level 0", stands(CUE_LEVEL - 1, 1), CUE_BROKEN);
-  check("the word after lower of", stands(CUE_LOWER_OF + 1, 3), CUE_BROKEN);
+  check("the word after curve", stands(CUE_CURVE + 1, 2), CUE_BROKEN);
   check("a level with an argument", stands(CUE_LEVEL, 2), CUE_BROKEN);
   check("higher of, without arguments", stands(CUE_HIGHER_OF, 1), CUE_BROKEN);
   check("lower of, with one argument", stands(CUE_LOWER_OF, 2), CUE_BROKEN);
-  combines(CUE_HIGHER_OF, CUE_HIGHER_RULE, CUE_LEVEL + 200);
-  combines(CUE_LOWER_OF, CUE_LOWER_RULE, CUE_LEVEL + 3);
+  check("curve, without its argument", stands(CUE_CURVE, 1), CUE_BROKEN);
+  check("curve, with two arguments", stands(CUE_CURVE, 3), CUE_BROKEN);
+  combines(CUE_HIGHER_OF, 3, CUE_HIGHER_RULE, CUE_LEVEL + 200);
+  combines(CUE_LOWER_OF, 3, CUE_LOWER_RULE, CUE_LEVEL + 100);
+  combines(CUE_CURVE, 2, CUE_CURVE_RULE, CUE_LEVEL + 39); /* 10,127 is 39 times 255 and 182 more */
   check("the built-in rules come after the book's", CUE_HIGHER_RULE, CUE_RULES);
-  check("the span of a built-in word and its arguments", cue_span(book, words, term, 3), 3);
 
   check("a left side of a name", starts(0), CUE_TAKEN);
   check("a left side of level 0", starts(CUE_LEVEL), CUE_BUILTIN);
   check("a left side of level 255", starts(CUE_LEVEL + 255), CUE_BUILTIN);
   check("a left side that starts with higher of", starts(CUE_HIGHER_OF), CUE_BUILTIN);
   check("a left side that starts with lower of", starts(CUE_LOWER_OF), CUE_BUILTIN);
+  check("a left side that starts with curve", starts(CUE_CURVE), CUE_BUILTIN);
   check("a left side of the word before level 0", starts(CUE_LEVEL - 1), CUE_STRANGER);
-  check("a left side of the word after lower of", starts(CUE_LOWER_OF + 1), CUE_STRANGER);
+  check("a left side of the word after curve", starts(CUE_CURVE + 1), CUE_STRANGER);
 }
 
 /* names 0 and 1 without arguments; rule 0 puts name 0 for name 1, whose order is 0, and rule 1, which is never the lowest, name 1 */
