@@ -20,7 +20,7 @@ mod maude;
 mod records;
 
 use archives::{Archive, OTHER, PRODUCT};
-use book::{Book, Plant, HIGHER, HOLE, LEVEL, LOWER};
+use book::{Book, Plant, CURVE, HIGHER, HOLE, LEVEL, LOWER};
 use evaluate::{evaluate, End};
 use std::time::Instant;
 
@@ -34,7 +34,7 @@ struct Work {
     cue: Vec<u16>,
     /// it would not end in an archive that remembers nothing of arguments that took no step: the other one is left out
     deep: bool,
-    /// it has levels (02, F-2): another archive that answers 9 is older, and left out; so is maude
+    /// its cue has levels (02, F-2) or the curve (F-4): another archive that answers 9 is older, and left out; so is maude
     levels: bool,
 }
 
@@ -130,21 +130,32 @@ fn repeats(times: usize) -> Work {
     Work { deep, ..work(&format!("repeats, {times} deep"), book, nest(1, times, &[0])) }
 }
 
-/// A balanced tree of so many built-in words, of the given ones in turn, over levels.
-fn group(label: &str, words: &[u16], times: usize) -> Work {
-    fn spread(words: &[u16], times: usize, leaves: &mut u16, out: &mut Vec<u16>) {
-        if times == 0 {
-            *leaves += 1;
-            out.push(LEVEL + *leaves * 37 % 256);
-            return;
-        }
-        out.push(words[times % words.len()]);
-        spread(words, (times - 1) / 2, leaves, out);
-        spread(words, times / 2, leaves, out);
+/// A balanced tree of so many words with two arguments, of the given ones in turn, over levels, each with the given words before it.
+fn spread(words: &[u16], times: usize, before: &[u16], leaves: &mut u16, out: &mut Vec<u16>) {
+    if times == 0 {
+        *leaves += 1;
+        out.extend(before);
+        out.push(LEVEL + *leaves * 37 % 256);
+        return;
     }
+    out.push(words[times % words.len()]);
+    spread(words, (times - 1) / 2, before, leaves, out);
+    spread(words, times / 2, before, leaves, out);
+}
+
+/// A tree of so many built-in words.
+fn group(label: &str, words: &[u16], times: usize) -> Work {
     let mut cue = vec![];
-    spread(words, times, &mut 0, &mut cue);
+    spread(words, times, &[], &mut 0, &mut cue);
     Work { levels: true, ..work(label, write(&[(0, &[])], &[]), cue) }
+}
+
+/// A tree of so many names over levels that go through the curve.
+fn fade(label: &str, times: usize) -> Work {
+    let both = 1;
+    let mut cue = vec![];
+    spread(&[both], times, &[CURVE], &mut 0, &mut cue);
+    Work { levels: true, ..work(label, write(&[(0, &[]), (2, &[1, 2])], &[]), cue) }
 }
 
 /// The largest book, 21,251 words, made so that the order test passes it and has to look at everything: 128 names with a rule each, whose
@@ -300,15 +311,16 @@ fn all() -> i32 {
     heading();
     let (few, many) = (small("small cue", 0, 40), small("small cue, 254 names", 250, 40));
     let (higher, both) = (group("group, higher of", &[HIGHER], 1000), group("group, both in turn", &[HIGHER, LOWER], 1000));
-    let works = [counting(1500), few, many, chase(400), wide(10), doubling(), repeats(4), repeats(62), higher, both];
+    let fade = fade("fade, square law", 1000);
+    let works = [counting(1500), few, many, chase(400), wide(10), doubling(), repeats(4), repeats(62), higher, both, fade];
     for w in &works {
         expansion(w, least, &mut agree);
     }
     agree &= largest_book("reading, largest book", least, Archive::read, |b| book::read(b).is_ok(), largest().len());
     agree &= largest_book("order test, largest book", least, Archive::test, |b| book::read(b).unwrap().test(Plant::Nothing) == (0, 0), 0);
     println!("(ratio: the product's time by the second evaluator's, which works on shared trees with a heap; both from words to words.");
-    println!(" With another archive: the product's time by the other's. A nest of repeats that it would not end is left out there, and so is a");
-    println!(" group of levels that it does not know.)");
+    println!(" With another archive: the product's time by the other's. A nest of repeats that it would not end is left out there, and so are");
+    println!(" levels and the curve, if it does not know them.)");
     agree &= records::table(&works, least);
     if !maude::present() {
         println!("(maude is not installed: its runs are skipped)");
