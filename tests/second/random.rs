@@ -611,9 +611,10 @@ fn dimmers(r: &mut Random, scale: Scale) -> (Draft, Vec<u16>) {
     let lamp = d.name(1, *r.pick(&[&[1, 0][..], &[0], &[0, 1], &[0, 1, 0], &[]]));
     let fade = d.name(1, *r.pick(&[&[1, 0][..], &[0]]));
     let some = level(r);
-    let rules: [(&[u16], &[u16]); 17] = [
+    let rules: [(&[u16], &[u16]); 18] = [
         (&[mix, LEVEL, A], &[A]),
         (&[mix, CURVE, A, CURVE, B], &[CURVE, mix, A, B]),
+        (&[mix, LOWER, A, B, C], &[LOWER, mix, A, C, mix, B, C]),
         (&[mix, A, B], &[HIGHER, A, B]),
         (&[cap, LEVEL + 255, A], &[A]),
         (&[cap, A, CURVE, B], &[LOWER, A, CURVE, B]),
