@@ -913,9 +913,10 @@ fn start_damage(r: &mut Random, l: &mut Vec<u16>) {
         2 if last > 0 => l[last] = HOLE + r.from(1, 15) as u16,
         3 if last > 0 => l[last] = CURVE + 1,
         4 => {
-            let with: &[u16] = *r.pick(&[&[A][..], &[B], &[LEVEL], &[CURVE, A], &[A, B], &[B, A], &[LEVEL, LEVEL + 9], &[HIGHER, A, B, C]]);
+            let behind: [&[u16]; 9] =
+                [&[A], &[B], &[LEVEL], &[CURVE, A], &[A, B], &[B, A], &[LEVEL, A], &[LEVEL, LEVEL + 9], &[HIGHER, A, B, C]];
             l.truncate(1);
-            l.extend(with);
+            l.extend(*r.pick(&behind));
         }
         _ => {}
     }
