@@ -34,6 +34,11 @@ pub square-below : (n : ℕ) → n < literals → squareLaw n < literals
 unfolding squareLaw
 square-below n h = let b = square-bound n h in omega arith
 
+-- 128 for 127 is the same law: no square leaves 127 by 255 (by 5 it would leave 2), so that no level lies between the two
+pub square-128 : (n : ℕ) → n < literals → (n * n + 128) / 255 ≡ squareLaw n
+unfolding values squareLaw
+square-128 n h = sym (value-at (λ n. (n * n + 128) / 255) literals n h) ∙ value-at squareLaw literals n h
+
 -- "It never falls from one level to the next", and so from no level to a higher one
 pub square-rises : {m n : ℕ} → m ≤ n → squareLaw m ≤ squareLaw n
 unfolding squareLaw

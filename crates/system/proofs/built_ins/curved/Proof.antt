@@ -1,5 +1,6 @@
 -- The level of the word, what it becomes, and the word of that.
 use Prim.Native.Nat.{_+_}
+use native.Mathlib.Omega.{arith}
 use mathlib.Core.Path.{ap}
 use borrow.Author.Needs.{needs}
 use Rattle.system.specs.BuiltIns.{literal}
@@ -8,7 +9,7 @@ use Rattle.system.proofs.built_ins.curved.Statement.{statement}
 use Rattle.system.proofs.built_ins.curved.Tie as tie
 
 sub-level : tie.Need-sub-level
-sub-level c = is-literal (c .args .w) (c .pre) .0
+sub-level c = let low = is-literal (c .args .w) (c .pre) .0 in omega arith
 
 cast-level : tie.Need-cast-level
 cast-level c = let below = is-literal (c .args .w) (c .pre) .1 in search (needs, below)
