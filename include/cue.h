@@ -2,15 +2,15 @@
  * The cue expander: show books, the order test, expansion, and the record of an expansion's steps.
  *
  * Link with libcue.a (`rt staticlib cue` writes it to target/staticlib/). The target is x86-64 (System V ABI, ELF; SSE registers are
- * used, so save them in a task that can be interrupted). About 19 KB of code, no data, no bss; it needs memcpy and memset and nothing
- * else, and links with -nostdlib. Stack, read from the compiled archive with everything that is called: cue_expand 3,072 bytes,
- * cue_expand_twice, the deepest, 3,168, every function below 4,096 (`bash tests/stack.sh` measures it). Another target needs another
- * back end, and the stack measured anew.
+ * used, so save them in a task that can be interrupted). About 19 KB of code and read-only constants, no data, no bss; it needs memcpy and
+ * memset and nothing else, and links with -nostdlib. Stack, read from the compiled archive with everything that is called: cue_expand
+ * 2,960 bytes, cue_expand_twice, the deepest, 3,056, every function below 4,096 (`bash tests/stack.sh` measures it). Another target needs
+ * another back end, and the stack measured anew.
  *
  * Every slice is a pointer to its first word and the number of its words. A pointer must be valid even where the length is 0 (any
- * address of a uint16_t will do), and a buffer that is written (`out`, `work`, a record that is filled) must not overlap any other slice of the call. Nothing
- * else is asked of a caller: every other input gets one of the answers below. No function keeps a pointer, uses the heap, or holds
- * state between calls; each may be called from any thread.
+ * address of a uint16_t will do), and a buffer that is written (`out`, `work`, a record that is filled) must not overlap any other slice
+ * of the call. Nothing else is asked of a caller: every other input gets one of the answers below. No function keeps a pointer, uses the
+ * heap, or holds state between calls; each may be called from any thread.
  *
  * For a show a desk needs two of these functions: cue_test_strategies once for a book, and cue_expand for each cue. To see an expansion
  * again, cue_expand_recorded tells its steps and cue_replay follows them. cue_expand_checked, cue_expand_twice and cue_expand_retraced are
