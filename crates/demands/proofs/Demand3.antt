@@ -38,7 +38,7 @@ module _ (book term : List ℕ) (limits : Limits) (out work : List ℕ) where
       (handed-numbers h, handed-words h)
 
 -- a whole term of an accepted book passes the check
-whole-checked : (book t : List ℕ) → read book ≡ ok (systemOf book) (length book) → Whole (systemOf book .arities) t → length t ≤ termWords →
+pub whole-checked : (book t : List ℕ) → read book ≡ ok (systemOf book) (length book) → Whole (systemOf book .arities) t → length t ≤ termWords →
     termAnswer book t .number ≡ 0
 unfolding termAnswer
 whole-checked book t e w l = rw (e, termAnswer) (rw (whole-fault (systemOf book .arities) t w l))

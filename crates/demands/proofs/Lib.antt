@@ -1,5 +1,6 @@
--- Demands 1 and 3 of the evaluator's answers, records and their replay, and the starred cases
+-- Demands 1 and 3 of the evaluator's answers, records and their replay, the curve, and the starred cases
 pub mod Demand1
 pub mod Demand3
 pub mod Retracing
+pub mod Curve
 pub mod Cases
