@@ -35,7 +35,7 @@ use Rattle.demands.specs.Curve.{curveOf, IsCurved, NeverFalls}
 use Rattle.demands.proofs.Demand3.{is-handed-back, whole-checked}
 
 -- what comes of it: the level alone, after one step at the first word, by the curve's rule
-abbrev pub curvedRun : ℕ → Config
+abbrev curvedRun : ℕ → Config
 curvedRun n = record { term = (literal + squareLaw n) ∷ []; trace = record { at = 0; number = curveRule } ∷ [] }
 
 -- ---- the words of curve(level n)
@@ -88,7 +88,8 @@ module _ (s : System) (wf : WellFormed s) where
         ∙ follow-end s limits (evaluate s limits l) (evaluate s limits (suc l)) p r
 
     -- "level n becomes (n × n + 127) divided by 255, whole part", where a step is allowed and the record, if there is one, has room for it
-    pub evaluation-curve : 1 ≤ limits .steps → hasRoom (limits .room) 0 ≡ true → (n : ℕ) → n < literals → evaluation s limits (curveOf n) ≡ finished (curvedRun n)
+    pub evaluation-curve : 1 ≤ limits .steps → hasRoom (limits .room) 0 ≡ true → (n : ℕ) → n < literals →
+        evaluation s limits (curveOf n) ≡ finished (record { term = (literal + squareLaw n) ∷ []; trace = record { at = 0; number = curveRule } ∷ [] })
     unfolding evaluation
     evaluation-curve some-step room n h =
         evaluate-again s limits 63 0 r

@@ -1,5 +1,5 @@
-// Demand 3, and what 02 says of records (F-3), as contracts: small functions that call the strategy test, the evaluator and the replay, and
-// whose contracts are its sentences.
+// Demand 3, and what 02 says of records (F-3) and of the curve (F-4), as contracts: small functions that call the strategy test, the evaluator
+// and the replay, and whose contracts are its sentences.
 ghost use mathlib.Core.Path.{_≡_};
 ghost use Rattle.matching.specs.StrategyTest.{testAnswer};
 ghost use lib.ListN.{length};
@@ -8,6 +8,7 @@ ghost use Rattle.evaluation.specs.Expansion.{result, expansion, recordAfter};
 ghost use Rattle.replay.specs.Replaying.{asAnswer};
 ghost use Rattle.demands.specs.Retracing.{retracing, IsRetraced};
 ghost use Rattle.demands.specs.Demand3.{IsDone, IsHandedBack, IsFound, secondly, RestsAgain};
+ghost use Rattle.demands.specs.Curve.{curveOf, IsCurved, NeverFalls};
 use evaluation::recording::Bounds;
 use evaluation::scanned::expand_scanned;
 use evaluation::scanned::expand_within;
@@ -15,6 +16,8 @@ use matching::safety::test;
 use replay::Replayed;
 use replay::scanned::replay_scanned;
 use system::Answer;
+use system::built_ins::CURVE;
+use system::built_ins::LITERAL;
 use system::numbers::TAKEN;
 use system::reader::scan_book;
 
@@ -143,4 +146,44 @@ pub fn expand_retraced(
     let pairs = 2 * (answer.steps as usize);
     let replay = replay_scanned(book, s, term, &record[0..pairs], again, spare);
     Retraced { answer, replay }
+}
+
+// Expands curve(level n).
+pub fn expand_curve(book: &[u16], n: u8, limit: u32, out: &mut [u16], work: &mut [u16]) -> Answer
+    ensures expanded { λ r. ⌜ result r (now (out .exit)) (now (work .exit))
+        ≡ expansion (now (book .entry)) (curveOf n) (unrecorded limit) (now (out .entry)) (now (work .entry)) ⌝ }
+    ensures curved { λ r. ⌜ IsCurved (now (book .entry)) n limit (now (out .entry)) (now (work .entry))
+        (result r (now (out .exit)) (now (work .exit))) ⌝ }
+{
+    let s = scan_book(book);
+    let cue = [CURVE as u16, (LITERAL + n as usize) as u16];
+    expand_scanned(book, s, &cue, limit, out, work)
+}
+
+// The answers of two expansions.
+pub struct Curves {
+    pub first: Answer,
+    pub second: Answer,
+}
+
+// Expands curve(level m) and curve(level n), with one step each, in a pair of buffers each.
+pub fn expand_curves(
+    book: &[u16],
+    m: u8,
+    n: u8,
+    out: &mut [u16],
+    work: &mut [u16],
+    again: &mut [u16],
+    spare: &mut [u16],
+) -> Curves
+    ensures first { λ r. ⌜ result (r .first) (now (out .exit)) (now (work .exit))
+        ≡ expansion (now (book .entry)) (curveOf m) (unrecorded 1) (now (out .entry)) (now (work .entry)) ⌝ }
+    ensures second { λ r. ⌜ result (r .second) (now (again .exit)) (now (spare .exit))
+        ≡ expansion (now (book .entry)) (curveOf n) (unrecorded 1) (now (again .entry)) (now (spare .entry)) ⌝ }
+    ensures rises { λ r. ⌜ NeverFalls m n (result (r .first) (now (out .exit)) (now (work .exit)))
+        (result (r .second) (now (again .exit)) (now (spare .exit))) ⌝ }
+{
+    let first = expand_curve(book, m, 1, out, work);
+    let second = expand_curve(book, n, 1, again, spare);
+    Curves { first, second }
 }
