@@ -1,5 +1,5 @@
 -- The built-in rules: what `computed` finds is the one built-in rule that matches, and it finds one if there is any.
-use Prim.Native.Nat.{ℕ, zero, suc, _+_, _-_, _≤_, _<_}
+use Prim.Native.Nat.{ℕ, suc, _+_, _-_, _≤_, _<_}
 use native.Mathlib.Nat.{add-sub-cancel-left}
 use native.Mathlib.Omega.{arith}
 use native.Mathlib.Decide.{ℕ-discrete}
@@ -16,7 +16,7 @@ use Rattle.system.specs.Signature.{Signature, Symbol, arity}
 use Rattle.system.specs.System.{Rule, head}
 use Rattle.system.specs.Rules.{BuiltIn, max, min, square, maximumRule, minimumRule, curveRule}
 use Rattle.system.specs.Terms.{Forest, more, Whole}
-use Rattle.system.proofs.BuiltIns.{literal-is, is-literal, number-of, Operands, binary, unary, nullary, operands, arity-two, arity-one, arity-none}
+use Rattle.system.proofs.BuiltIns.{literal-is, is-literal, number-of, binary, unary, nullary, operands, arity-two, arity-one, arity-none}
 use Rattle.system.proofs.BuiltIns.{larger-words, smaller-words, larger-below, smaller-below}
 use Rattle.system.proofs.SquareLaw.{square-below}
 use Rattle.system.proofs.Signatures.{arity-unlisted}

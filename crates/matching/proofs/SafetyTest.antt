@@ -16,7 +16,7 @@ use Rattle.system.specs.Signature.{Listed}
 use Rattle.system.specs.System.{System, Rule, strategy, rule, noRule, head}
 use Rattle.system.specs.Rules.{BuiltIn, listed, builtIn}
 use Rattle.system.specs.Terms.{Member, first, later, WellFormed}
-use Rattle.system.proofs.BuiltIns.{both, BuiltInWord, builtin-range, builtin-narrow, eager, strategy-eager, arity-none}
+use Rattle.system.proofs.BuiltIns.{both, BuiltInWord, builtin-range, eager, strategy-eager, arity-none}
 use Rattle.system.proofs.Rules.{built-head, listed-head, strategy-unlisted}
 use Rattle.matching.specs.Safety.{Idle, IdleEntry, idle, Guarded, Constructor, Passes}
 use Rattle.matching.specs.StrategyTest.{every, isVariable, idleTest, idles, closes, constructs, passes}
