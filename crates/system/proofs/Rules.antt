@@ -48,13 +48,6 @@ built-head (max a b) = rw (arity-two maximum (omega arith) (omega arith)) (omega
 built-head (min a b) = rw (arity-two minimum (omega arith) (omega arith)) (omega arith)
 built-head (square a) = rw (arity-one curve refl) (omega arith)
 
--- an operator over two literals, or over one, and the literal that is put there
-abbrev binary : ℕ → ℕ → ℕ → ℕ → Rule
-binary w m n v = record { lhs = w ∷ (literal + m) ∷ (literal + n) ∷ []; rhs = (literal + v) ∷ [] }
-
-abbrev unary : ℕ → ℕ → ℕ → Rule
-unary w n v = record { lhs = w ∷ (literal + n) ∷ []; rhs = (literal + v) ∷ [] }
-
 -- no word of them is a variable
 one-below : {a w : ℕ} → a < variable → Member w (a ∷ []) → w < variable
 one-below h first = h
@@ -93,42 +86,36 @@ module _ (g : Signature) (few : length g ≤ literal) where
   alone : {n : ℕ} → n < literals → Forest g (Word g) 1 ((literal + n) ∷ [])
   alone h = literal-more h empty
 
-  binary-formed : {w m n v : ℕ} → maximum ≤ w → w ≤ minimum → m < literals → n < literals → v < literals → WellFormedRule g (binary w m n v)
-  binary-formed {w} {m} {n} {v} l u a b c =
-      let known = symbol-builtin g w (range-builtin w (omega arith) (omega arith)) in
-      let two = arity-unlisted g w (omega arith) ∙ arity-two w l u in
+  -- an operator before its literals, and the literal that is put there
+  ground-formed : {w v n : ℕ} {ws : List ℕ} → maximum ≤ w → w ≤ curve → builtInArity w ≡ n → Forest g (Word g) n ws → length ws ≤ 2 →
+      ((u : ℕ) → Member u (w ∷ ws) → u < variable) → v < literals → WellFormedRule g (record { lhs = w ∷ ws; rhs = (literal + v) ∷ [] })
+  ground-formed {w} {v} {ws} l h takes f short ground c =
+      let known = symbol-builtin g w (range-builtin w (omega arith) h) in
+      let is = arity-unlisted g w (omega arith) in
       record {
         count = 0;
         variableBound = omega arith;
         headed = known;
-        left = more {k = 0} (inl known) (subst (λ c. Forest g (Word g) c ((literal + m) ∷ (literal + n) ∷ [])) (omega arith) (literal-more a (alone b)));
+        left = more {k = 0} (inl known) (subst (λ n. Forest g (Word g) n ws) (omega arith) f);
         right = alone c;
         shortLeft = omega arith;
         shortRight = omega arith;
-        numbered = ground-numbered _ (λ x. three-below (omega arith) (omega arith) (omega arith));
-        known = λ u s. let z = one-below {a = literal + v} {w = u} (omega arith) s in omega arith;
-      }
-
-  unary-formed : {w n v : ℕ} → w ≡ curve → n < literals → v < literals → WellFormedRule g (unary w n v)
-  unary-formed {w} {n} {v} q a c =
-      let known = symbol-builtin g w (range-builtin w (omega arith) (omega arith)) in
-      let one = arity-unlisted g w (omega arith) ∙ arity-one w q in
-      record {
-        count = 0;
-        variableBound = omega arith;
-        headed = known;
-        left = more {k = 0} (inl known) (subst (λ c. Forest g (Word g) c ((literal + n) ∷ [])) (omega arith) (alone a));
-        right = alone c;
-        shortLeft = omega arith;
-        shortRight = omega arith;
-        numbered = ground-numbered _ (λ x. two-below (omega arith) (omega arith));
+        numbered = ground-numbered _ ground;
         known = λ u s. let z = one-below {a = literal + v} {w = u} (omega arith) s in omega arith;
       }
 
   pub built-formed : {k : ℕ} {r : Rule} → BuiltIn k r → WellFormedRule g r
-  built-formed (max {m} {n} a b) = binary-formed (omega arith) (omega arith) a b (larger-below m n literals a b)
-  built-formed (min {m} {n} a b) = binary-formed (omega arith) (omega arith) a b (smaller-below m n literals a b)
-  built-formed (square {n} a) = unary-formed refl a (square-below n a)
+  built-formed d = go d (built-ground d)
+    where
+      two : (w : ℕ) → maximum ≤ w → w ≤ minimum → {m n v : ℕ} → m < literals → n < literals → v < literals →
+          ((u : ℕ) → Member u (w ∷ (literal + m) ∷ (literal + n) ∷ []) → u < variable) →
+          WellFormedRule g (record { lhs = w ∷ (literal + m) ∷ (literal + n) ∷ []; rhs = (literal + v) ∷ [] })
+      two w l h a b c ground = ground-formed l (omega arith) (arity-two w l h) (literal-more a (alone b)) (omega arith) ground c
+
+      go : {k : ℕ} {r : Rule} → BuiltIn k r → ((u : ℕ) → Member u (r .lhs) → u < variable) → WellFormedRule g r
+      go (max {m} {n} a b) = two maximum (omega arith) (omega arith) a b (larger-below m n literals a b)
+      go (min {m} {n} a b) = two minimum (omega arith) (omega arith) a b (smaller-below m n literals a b)
+      go (square {n} a) = λ ground. ground-formed (omega arith) (omega arith) (arity-one curve refl) (alone a) (omega arith) ground (square-below n a)
 
 -- ---- all rules
 

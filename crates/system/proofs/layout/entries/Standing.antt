@@ -40,33 +40,27 @@ module _ (ws : List ℕ) (j e : ℕ) where
 
 -- ---- the built-in strategies
 
--- the words of one that has n arguments
-module _ (e : ℕ) where
-  one-argument : leb e 1 ≡ among e (eager 1)
-  one-argument = go e
-    where
-      go : (e : ℕ) → leb e 1 ≡ among e (eager 1)
-      go zero = unfold among in refl
-      go (suc zero) = unfold among in refl
-      go (suc (suc e)) = unfold among in rw (
-        lt-leb (suc (suc e)) 1 (omega arith),
-        ne-eqb (suc (suc e)) 1 (λ z. omega arith),
-        ne-eqb (suc (suc e)) 0 (λ z. omega arith),
-      )
+one-argument : (e : ℕ) → leb e 1 ≡ among e (eager 1)
+unfolding among
+one-argument zero = refl
+one-argument (suc zero) = refl
+one-argument (suc (suc e)) = rw (
+  lt-leb (suc (suc e)) 1 (omega arith),
+  ne-eqb (suc (suc e)) 1 (λ z. omega arith),
+  ne-eqb (suc (suc e)) 0 (λ z. omega arith),
+)
 
-  two-arguments : leb e 2 ≡ among e (eager 2)
-  two-arguments = go e
-    where
-      go : (e : ℕ) → leb e 2 ≡ among e (eager 2)
-      go zero = unfold among in refl
-      go (suc zero) = unfold among in refl
-      go (suc (suc zero)) = unfold among in refl
-      go (suc (suc (suc e))) = unfold among in rw (
-        lt-leb (suc (suc (suc e))) 2 (omega arith),
-        ne-eqb (suc (suc (suc e))) 1 (λ z. omega arith),
-        ne-eqb (suc (suc (suc e))) 2 (λ z. omega arith),
-        ne-eqb (suc (suc (suc e))) 0 (λ z. omega arith),
-      )
+two-arguments : (e : ℕ) → leb e 2 ≡ among e (eager 2)
+unfolding among
+two-arguments zero = refl
+two-arguments (suc zero) = refl
+two-arguments (suc (suc zero)) = refl
+two-arguments (suc (suc (suc e))) = rw (
+  lt-leb (suc (suc (suc e))) 2 (omega arith),
+  ne-eqb (suc (suc (suc e))) 1 (λ z. omega arith),
+  ne-eqb (suc (suc (suc e))) 2 (λ z. omega arith),
+  ne-eqb (suc (suc (suc e))) 0 (λ z. omega arith),
+)
 
 module _ (w e n : ℕ) (is : n ≡ builtInArity w) (few : n ≤ 2) where
   as-eager : (b : Bool) → b ≡ among e (eager n) → b ≡ among e (builtInStrategy w)
