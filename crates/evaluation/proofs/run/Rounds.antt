@@ -20,7 +20,7 @@ use Rattle.machine.specs.declared.advance.Stop.the-variants.{Final, Deep, Ready
 use Rattle.machine.specs.declared.reducts.Subterm.{Subterm}
 use Rattle.evaluation.specs.declared.run.RunResult.{RunResult}
 use Rattle.rewriting.specs.Machine.{position, ready, advance}
-use Rattle.machine.specs.advance.Area.{area, termIn, outerIn, countIn, Layout, Tracks}
+use Rattle.machine.specs.advance.Area.{termIn, outerIn, countIn, Layout, Tracks}
 use Rattle.machine.specs.advance.Arrivals.{Arrives, Advances}
 use Rattle.evaluation.specs.declared.recording.Bounds.{Bounds}
 use Rattle.evaluation.specs.Expansion.{traceOf}
@@ -30,7 +30,6 @@ use Rattle.rewriting.proofs.MachineTheorem.{iterate-final, iterate-deep, remain
 use Rattle.machine.proofs.reducts.Redexes.{Redex}
 use Rattle.machine.proofs.advance.Areas.{held-term, held-outer}
 use Rattle.evaluation.proofs.run.Starts.{area-bare}
-use Rattle.evaluation.proofs.Limiting.{leaves}
 use Rattle.evaluation.proofs.run.Running.{Asked, limits, Running, represents-layout}
 
 -- what the run was asked for, the state that the round starts from, and what `advance` answered and left

@@ -14,7 +14,6 @@ use Rattle.rewriting.specs.Evaluation.{hasRoom}
 use Rattle.system.specs.Numbers.{Limit, spent, overlong, full, limitNumber}
 use Rattle.machine.specs.declared.reducts.Reduced.{Reduced}
 use Rattle.machine.specs.declared.reducts.Reduced.the-variants.{Done, TooLong}
-use Rattle.rewriting.specs.Machine.{position}
 use Rattle.machine.specs.advance.Area.{area, termIn, outerIn, countIn, Layout, Valid}
 use Rattle.machine.specs.reducts.Rewritten.{Reducible, rewritten, Rewritten, done, long, Rewrites}
 use Rattle.evaluation.specs.recording.Kept.{met, paired}

@@ -18,7 +18,7 @@ use Rattle.machine.specs.declared.advance.Event.the-variants.{End, Repea
 use Rattle.rewriting.specs.Machine.{strategyAt, position, advance}
 use Rattle.machine.specs.advance.Area.{Opened, area, termIn, outerIn, countIn, Valid, Tracks}
 use Rattle.machine.specs.advance.Transition as to
-use Rattle.machine.specs.advance.Transition.{sinceAt, Transition, countsAfter, next, Performed}
+use Rattle.machine.specs.advance.Transition.{sinceAt, Transition, countsAfter, Performed}
 use Rattle.machine.specs.advance.Arrivals.{comes}
 use Rattle.rewriting.proofs.Laws.{entry-at}
 use Rattle.system.proofs.layout.entries.Asks.{stood}

@@ -28,7 +28,7 @@ use Rattle.machine.specs.declared.reducts.Reduced.{Reduced}
 use Rattle.machine.specs.declared.reducts.Reduced.the-variants.{Done}
 use Rattle.machine.specs.declared.reducts.Subterm.{Subterm}
 use Rattle.rewriting.specs.Machine.{position}
-use Rattle.machine.specs.advance.Area.{area, termIn}
+use Rattle.machine.specs.advance.Area.{termIn}
 use Rattle.machine.specs.reducts.Reduct.{stretchesOf, stretchBindings, reduct}
 use Rattle.machine.specs.reducts.Replaced.{subtermIn, Room, Puttable, Put, fits, exceeds}
 use Rattle.machine.specs.reducts.Rewritten.{Contracts, Reducible, rewritten, done, long, Rewrites}

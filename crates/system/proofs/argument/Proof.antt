@@ -1,5 +1,4 @@
 -- `argument` meets its contract: the words where the argument stands.
-use native.Mathlib.Omega.{arith}
 use mathlib.Core.Path.{ap}
 use borrow.Author.Needs.{needs}
 use Rattle.system.specs.Answers.{argumentAt}

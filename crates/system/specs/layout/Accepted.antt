@@ -3,11 +3,8 @@ use Prim.Native.Nat.{ℕ, _+_, _<_}
 use mathlib.Core.Path.{_≡_}
 use mathlib.Core.List.{List, _∷_, _++_}
 use lib.ListN.{length, getD, take, drop}
-use Rattle.system.specs.declared.Shape.{Shape}
 use Rattle.system.specs.System.{System, strategy}
 use Rattle.system.specs.Format.{encodeStrategies, encodeRules}
-use Rattle.system.specs.Parser.{ok, read}
-use Rattle.system.specs.Answers.{shapeOf}
 use Rattle.system.specs.Book.{systemOf}
 
 -- the strategy of f stands at the index `at`: its length, and its entries after it
