@@ -2,5 +2,5 @@
 pub mod Demand1
 pub mod Demand3
 pub mod Retracing
-pub mod Curve
+pub mod Square
 pub mod Cases

@@ -115,14 +115,14 @@ abbrev pub dimmed : List ℕ
 dimmed = 16642 ∷ 16640 ∷ 16396 ∷ 16584 ∷ []
 
 -- rule 1, head(then(a, b)) to a (words 25 to 31), made head(then(a, b)) to curve(a), and made head(curve(a)) to a
-abbrev pub curveRight : List ℕ
-curveRight = take 30 bookB ++ ((2 ∷ 16642 ∷ 32768 ∷ []) ++ drop 32 bookB)
+abbrev pub squareRight : List ℕ
+squareRight = take 30 bookB ++ ((2 ∷ 16642 ∷ 32768 ∷ []) ++ drop 32 bookB)
 
-abbrev pub curveLeft : List ℕ
-curveLeft = take 25 bookB ++ ((3 ∷ 2 ∷ 16642 ∷ 32768 ∷ []) ++ drop 30 bookB)
+abbrev pub squareLeft : List ℕ
+squareLeft = take 25 bookB ++ ((3 ∷ 2 ∷ 16642 ∷ 32768 ∷ []) ++ drop 30 bookB)
 
-unfoldable pub curveCases : List Case
-curveCases =
+unfoldable pub squareCases : List Case
+squareCases =
     -- "level n becomes (n × n + 127) divided by 255, whole part": 11 to 0 (248 / 255), 12 to 1 (271 / 255), 200 to 157 (40,127 / 255), 255 to 255
     record { label = 4; got = expanding bookB (16642 ∷ 16395 ∷ []) 1; expected = 0 ∷ 1 ∷ 1 ∷ 16384 ∷ [] }
     ∷ record { label = 4; got = expanding bookB (16642 ∷ 16396 ∷ []) 1; expected = 0 ∷ 1 ∷ 1 ∷ 16385 ∷ [] }
@@ -141,11 +141,11 @@ curveCases =
     ∷ record { label = 4; got = expanding bookB (16642 ∷ 0 ∷ 0 ∷ []) 9; expected = 9 ∷ 2 ∷ 0 ∷ [] }
     ∷ record { label = 4; got = expanding (startsWith 16642) (0 ∷ []) 9; expected = 15 ∷ 20 ∷ 0 ∷ [] }
     -- on the right: head(then(level 200, chase)); on the left: of head(curve(flash)) the argument stays, of head(curve(level 200)) it does not
-    ∷ record { label = 4; got = expanding curveRight (2 ∷ 1 ∷ 16584 ∷ 4 ∷ []) 9; expected = 0 ∷ 1 ∷ 2 ∷ 16541 ∷ [] }
-    ∷ record { label = 4; got = expanding curveLeft (2 ∷ 16642 ∷ 0 ∷ []) 9; expected = 0 ∷ 1 ∷ 1 ∷ 0 ∷ [] }
-    ∷ record { label = 4; got = expanding curveLeft (2 ∷ 16642 ∷ 16584 ∷ []) 9; expected = 0 ∷ 2 ∷ 1 ∷ 2 ∷ 16541 ∷ [] }
+    ∷ record { label = 4; got = expanding squareRight (2 ∷ 1 ∷ 16584 ∷ 4 ∷ []) 9; expected = 0 ∷ 1 ∷ 2 ∷ 16541 ∷ [] }
+    ∷ record { label = 4; got = expanding squareLeft (2 ∷ 16642 ∷ 0 ∷ []) 9; expected = 0 ∷ 1 ∷ 1 ∷ 0 ∷ [] }
+    ∷ record { label = 4; got = expanding squareLeft (2 ∷ 16642 ∷ 16584 ∷ []) 9; expected = 0 ∷ 2 ∷ 1 ∷ 2 ∷ 16541 ∷ [] }
     ∷ []
 
 -- all cases of the requests
 unfoldable pub requestCases : List Case
-requestCases = literalCases ++ (recordCases ++ curveCases)
+requestCases = literalCases ++ (recordCases ++ squareCases)

@@ -8,7 +8,7 @@ ghost use Rattle.evaluation.specs.Expansion.{result, expansion, recordAfter};
 ghost use Rattle.replay.specs.Replaying.{asAnswer};
 ghost use Rattle.demands.specs.Retracing.{retracing, IsRetraced};
 ghost use Rattle.demands.specs.Demand3.{IsDone, IsHandedBack, IsFound, secondly, RestsAgain};
-ghost use Rattle.demands.specs.Curve.{curveOf, IsCurved, NeverFalls};
+ghost use Rattle.demands.specs.Square.{squareOf, IsSquared, NeverFalls};
 use evaluation::recording::Bounds;
 use evaluation::scanned::expand_scanned;
 use evaluation::scanned::expand_within;
@@ -16,8 +16,8 @@ use matching::safety::test;
 use replay::Replayed;
 use replay::scanned::replay_scanned;
 use system::Answer;
-use system::built_ins::CURVE;
 use system::built_ins::LITERAL;
+use system::built_ins::SQUARE;
 use system::numbers::TAKEN;
 use system::reader::scan_book;
 
@@ -149,25 +149,25 @@ pub fn expand_retraced(
 }
 
 // Expands curve(level n).
-pub fn expand_curve(book: &[u16], n: u8, limit: u32, out: &mut [u16], work: &mut [u16]) -> Answer
+pub fn expand_square(book: &[u16], n: u8, limit: u32, out: &mut [u16], work: &mut [u16]) -> Answer
     ensures expanded { λ r. ⌜ result r (now (out .exit)) (now (work .exit))
-        ≡ expansion (now (book .entry)) (curveOf n) (unrecorded limit) (now (out .entry)) (now (work .entry)) ⌝ }
-    ensures curved { λ r. ⌜ IsCurved (now (book .entry)) n limit (now (out .entry)) (now (work .entry))
+        ≡ expansion (now (book .entry)) (squareOf n) (unrecorded limit) (now (out .entry)) (now (work .entry)) ⌝ }
+    ensures squared { λ r. ⌜ IsSquared (now (book .entry)) n limit (now (out .entry)) (now (work .entry))
         (result r (now (out .exit)) (now (work .exit))) ⌝ }
 {
     let s = scan_book(book);
-    let cue = [CURVE as u16, (LITERAL + n as usize) as u16];
-    expand_scanned(book, s, &cue, limit, out, work)
+    let term = [SQUARE as u16, (LITERAL + n as usize) as u16];
+    expand_scanned(book, s, &term, limit, out, work)
 }
 
 // The answers of two expansions.
-pub struct Curves {
+pub struct Squares {
     pub first: Answer,
     pub second: Answer,
 }
 
 // Expands curve(level m) and curve(level n), with one step each, in a pair of buffers each.
-pub fn expand_curves(
+pub fn expand_squares(
     book: &[u16],
     m: u8,
     n: u8,
@@ -175,15 +175,15 @@ pub fn expand_curves(
     work: &mut [u16],
     again: &mut [u16],
     spare: &mut [u16],
-) -> Curves
+) -> Squares
     ensures first { λ r. ⌜ result (r .first) (now (out .exit)) (now (work .exit))
-        ≡ expansion (now (book .entry)) (curveOf m) (unrecorded 1) (now (out .entry)) (now (work .entry)) ⌝ }
+        ≡ expansion (now (book .entry)) (squareOf m) (unrecorded 1) (now (out .entry)) (now (work .entry)) ⌝ }
     ensures second { λ r. ⌜ result (r .second) (now (again .exit)) (now (spare .exit))
-        ≡ expansion (now (book .entry)) (curveOf n) (unrecorded 1) (now (again .entry)) (now (spare .entry)) ⌝ }
+        ≡ expansion (now (book .entry)) (squareOf n) (unrecorded 1) (now (again .entry)) (now (spare .entry)) ⌝ }
     ensures rises { λ r. ⌜ NeverFalls m n (result (r .first) (now (out .exit)) (now (work .exit)))
         (result (r .second) (now (again .exit)) (now (spare .exit))) ⌝ }
 {
-    let first = expand_curve(book, m, 1, out, work);
-    let second = expand_curve(book, n, 1, again, spare);
-    Curves { first, second }
+    let first = expand_square(book, m, 1, out, work);
+    let second = expand_square(book, n, 1, again, spare);
+    Squares { first, second }
 }

@@ -11,17 +11,17 @@ use mathlib.Core.List.{List, [], _∷_, _++_}
 use lib.ListN.{length, getD, List·getD-append, List·getD-eq-default}
 use borrow.Author.Tests.{eq-eqb, ne-eqb}
 use Rattle.system.specs.Limits.{variable}
-use Rattle.system.specs.BuiltIns.{literal, literals, maximum, minimum, curve, isLiteral, larger, smaller, squareLaw}
+use Rattle.system.specs.BuiltIns.{literal, literals, maximum, minimum, square, isLiteral, larger, smaller, squareLaw}
 use Rattle.system.specs.Signature.{Signature, Symbol, arity}
 use Rattle.system.specs.System.{Rule, head}
-use Rattle.system.specs.Rules.{BuiltIn, max, min, square, maximumRule, minimumRule, curveRule}
+use Rattle.system.specs.Rules.{BuiltIn, max, min, sqr, maximumRule, minimumRule, squareRule}
 use Rattle.system.specs.Terms.{Forest, more, Whole}
 use Rattle.system.proofs.BuiltIns.{literal-is, is-literal, number-of, binary, unary, nullary, operands, arity-two, arity-one, arity-none}
 use Rattle.system.proofs.BuiltIns.{larger-words, smaller-words, larger-below, smaller-below}
 use Rattle.system.proofs.SquareLaw.{square-below}
 use Rattle.system.proofs.Signatures.{arity-unlisted}
 use Rattle.system.proofs.Forests.{forest-length, forest-none}
-use Rattle.matching.specs.Matching.{Computation, operation, applied, curved, computed}
+use Rattle.matching.specs.Matching.{Computation, operation, applied, squared, computed}
 
 -- ---- what an operator makes of the words behind it
 
@@ -41,19 +41,19 @@ applied-literals : (f a b : ℕ) → isLiteral a ≡ true → isLiteral b ≡ tr
 unfolding applied
 applied-literals f a b u v = rw (u, v)
 
-curved-literal : (a : ℕ) → isLiteral a ≡ true → curved a ≡ some (record { number = curveRule; word = literal + squareLaw (a - literal) })
-unfolding curved
-curved-literal a u = rw u
+squared-literal : (a : ℕ) → isLiteral a ≡ true → squared a ≡ some (record { number = squareRule; word = literal + squareLaw (a - literal) })
+unfolding squared
+squared-literal a u = rw u
 
 -- by the first word
 module _ (ws : List ℕ) where
-  computed-unary : getD ws 0 0 ≡ curve → computed ws ≡ curved (getD ws 1 0)
+  computed-unary : getD ws 0 0 ≡ square → computed ws ≡ squared (getD ws 1 0)
   unfolding computed
-  computed-unary q = rw (eq-eqb (getD ws 0 0) curve q)
+  computed-unary q = rw (eq-eqb (getD ws 0 0) square q)
 
-  computed-binary : (getD ws 0 0 ≡ curve → ⊥) → computed ws ≡ applied (getD ws 0 0) (getD ws 1 0) (getD ws 2 0)
+  computed-binary : (getD ws 0 0 ≡ square → ⊥) → computed ws ≡ applied (getD ws 0 0) (getD ws 1 0) (getD ws 2 0)
   unfolding computed
-  computed-binary q = rw (ne-eqb (getD ws 0 0) curve q)
+  computed-binary q = rw (ne-eqb (getD ws 0 0) square q)
 
 -- ---- what is computed, and of which words
 
@@ -62,7 +62,7 @@ pub data Operates (f a b : ℕ) (x : Computation) : Type 0 where
       x ≡ record { number = maximumRule; word = literal + larger (a - literal) (b - literal) } → Operates f a b x
   by-min : f ≡ minimum → isLiteral a ≡ true → isLiteral b ≡ true →
       x ≡ record { number = minimumRule; word = literal + smaller (a - literal) (b - literal) } → Operates f a b x
-  by-square : f ≡ curve → isLiteral a ≡ true → x ≡ record { number = curveRule; word = literal + squareLaw (a - literal) } → Operates f a b x
+  by-square : f ≡ square → isLiteral a ≡ true → x ≡ record { number = squareRule; word = literal + squareLaw (a - literal) } → Operates f a b x
 
 applied-operates : (f a b : ℕ) (x : Computation) → applied f a b ≡ some x → Operates f a b x
 unfolding applied
@@ -83,11 +83,11 @@ applied-operates f a b x e = go (isLiteral a) refl (isLiteral b) refl e
     go true u false v e = absurd (let z : _≡_ {A = ℕ} 0 1 = cc in omega arith)
     go false u q v e = absurd (let z : _≡_ {A = ℕ} 0 1 = cc in omega arith)
 
-curved-operates : (f a b : ℕ) (x : Computation) → f ≡ curve → curved a ≡ some x → Operates f a b x
-unfolding curved
-curved-operates f a b x q e = go (isLiteral a) refl e
+squared-operates : (f a b : ℕ) (x : Computation) → f ≡ square → squared a ≡ some x → Operates f a b x
+unfolding squared
+squared-operates f a b x q e = go (isLiteral a) refl e
   where
-    go : (p : Bool) → isLiteral a ≡ p → cond p (some (record { number = curveRule; word = literal + squareLaw (a - literal) })) none ≡ some x → Operates f a b x
+    go : (p : Bool) → isLiteral a ≡ p → cond p (some (record { number = squareRule; word = literal + squareLaw (a - literal) })) none ≡ some x → Operates f a b x
     go true u e = by-square q u cc
     go false u e = absurd (let z : _≡_ {A = ℕ} 0 1 = cc in omega arith)
 
@@ -96,8 +96,8 @@ module _ (ws : List ℕ) where
   Found x = Operates (getD ws 0 0) (getD ws 1 0) (getD ws 2 0) x
 
   pub operates : (x : Computation) → computed ws ≡ some x → Found x
-  operates x e = elim (ℕ-discrete (getD ws 0 0) curve) [
-    | yes q ↦ curved-operates _ _ _ x q (sym (computed-unary ws q) ∙ e)
+  operates x e = elim (ℕ-discrete (getD ws 0 0) square) [
+    | yes q ↦ squared-operates _ _ _ x q (sym (computed-unary ws q) ∙ e)
     | no q ↦ applied-operates _ _ _ x (sym (computed-binary ws q) ∙ e)
   ]
 
@@ -115,10 +115,10 @@ module _ (ws : List ℕ) where
   pub computed-first : isLiteral (getD ws 1 0) ≡ false → computed ws ≡ none
   computed-first l = unless (λ x. elim [ by-max q u v e ↦ clash u l | by-min q u v e ↦ clash u l | by-square q u e ↦ clash u l ])
 
-  pub computed-second : (getD ws 0 0 ≡ curve → ⊥) → isLiteral (getD ws 2 0) ≡ false → computed ws ≡ none
+  pub computed-second : (getD ws 0 0 ≡ square → ⊥) → isLiteral (getD ws 2 0) ≡ false → computed ws ≡ none
   computed-second n l = unless (λ x. elim [ by-max q u v e ↦ clash v l | by-min q u v e ↦ clash v l | by-square q u e ↦ n q ])
 
-  pub computed-plain : (getD ws 0 0 ≡ maximum → ⊥) → (getD ws 0 0 ≡ minimum → ⊥) → (getD ws 0 0 ≡ curve → ⊥) → computed ws ≡ none
+  pub computed-plain : (getD ws 0 0 ≡ maximum → ⊥) → (getD ws 0 0 ≡ minimum → ⊥) → (getD ws 0 0 ≡ square → ⊥) → computed ws ≡ none
   computed-plain a b c = unless (λ x. elim [ by-max q u v e ↦ a q | by-min q u v e ↦ b q | by-square q u e ↦ c q ])
 
   pub computed-low : getD ws 0 0 < literal → computed ws ≡ none
@@ -132,16 +132,16 @@ module _ (ws : List ℕ) where
   pub computed-one : length ws < 2 → computed ws ≡ none
   computed-one h = computed-first (absent 1 (omega arith))
 
-  pub computed-two : (getD ws 0 0 ≡ curve → ⊥) → length ws < 3 → computed ws ≡ none
+  pub computed-two : (getD ws 0 0 ≡ square → ⊥) → length ws < 3 → computed ws ≡ none
   computed-two n h = computed-second n (absent 2 (omega arith))
 
   -- the operators on two literals compute with the words themselves
   module _ (u : isLiteral (getD ws 1 0) ≡ true) where
-    pub computed-square : getD ws 0 0 ≡ curve → computed ws ≡ some (record { number = curveRule; word = literal + squareLaw (getD ws 1 0 - literal) })
-    computed-square q = computed-unary ws q ∙ curved-literal (getD ws 1 0) u
+    pub computed-square : getD ws 0 0 ≡ square → computed ws ≡ some (record { number = squareRule; word = literal + squareLaw (getD ws 1 0 - literal) })
+    computed-square q = computed-unary ws q ∙ squared-literal (getD ws 1 0) u
 
     module _ (v : isLiteral (getD ws 2 0) ≡ true) where
-      computed-both : (f : ℕ) → getD ws 0 0 ≡ f → (f ≡ curve → ⊥) → computed ws ≡ operation f (getD ws 1 0 - literal) (getD ws 2 0 - literal)
+      computed-both : (f : ℕ) → getD ws 0 0 ≡ f → (f ≡ square → ⊥) → computed ws ≡ operation f (getD ws 1 0 - literal) (getD ws 2 0 - literal)
       computed-both f q n =
           computed-binary ws (λ e. n (sym q ∙ e)) ∙ applied-literals _ _ _ u v ∙ ap (λ f. operation f (getD ws 1 0 - literal) (getD ws 2 0 - literal)) q
 
@@ -164,7 +164,7 @@ computed-empty = computed-one [] (omega arith)
 lone : {k : ℕ} {r : Rule} → BuiltIn k r → head (r .rhs) ∷ [] ≡ r .rhs
 lone (max a b) = refl
 lone (min a b) = refl
-lone (square a) = refl
+lone (sqr a) = refl
 
 two-of : (f m n : ℕ) → m < literals → n < literals → applied f (literal + m) (literal + n) ≡ operation f m n
 two-of f m n a b =
@@ -173,9 +173,9 @@ two-of f m n a b =
 computed-lhs : {k : ℕ} {r : Rule} → BuiltIn k r → computed (r .lhs) ≡ some (record { number = k; word = head (r .rhs) })
 computed-lhs (max {m} {n} a b) = computed-binary (maximum ∷ (literal + m) ∷ (literal + n) ∷ []) (λ e. omega arith) ∙ two-of maximum m n a b ∙ operation-maximum m n
 computed-lhs (min {m} {n} a b) = computed-binary (minimum ∷ (literal + m) ∷ (literal + n) ∷ []) (λ e. omega arith) ∙ two-of minimum m n a b ∙ operation-minimum m n
-computed-lhs (square {n} a) =
-    computed-unary (curve ∷ (literal + n) ∷ []) refl ∙ curved-literal (literal + n) (literal-is n a)
-    ∙ ap (λ n. some (record { number = curveRule; word = literal + squareLaw n })) (add-sub-cancel-left literal n)
+computed-lhs (sqr {n} a) =
+    computed-unary (square ∷ (literal + n) ∷ []) refl ∙ squared-literal (literal + n) (literal-is n a)
+    ∙ ap (λ n. some (record { number = squareRule; word = literal + squareLaw n })) (add-sub-cancel-left literal n)
 
 pub computed-left : {k : ℕ} {r : Rule} → BuiltIn k r → (x : Computation) → computed (r .lhs) ≡ some x → (x .number ≡ k) × (x .word ∷ [] ≡ r .rhs)
 computed-left {k} {r} d x e =
@@ -234,7 +234,7 @@ module _ (g : Signature) (few : length g ≤ literal) where
       two l h u v =
           two-literals (under (arity-unlisted g w (omega arith) ∙ arity-two w l h)) u v ∙ (λ i. number-of a u .0 i ∷ number-of b v .0 i ∷ [])
 
-      one : w ≡ curve → isLiteral a ≡ true → ws ≡ (literal + (a - literal)) ∷ []
+      one : w ≡ square → isLiteral a ≡ true → ws ≡ (literal + (a - literal)) ∷ []
       one q u = one-literal (under (arity-unlisted g w (omega arith) ∙ arity-one w q)) u ∙ (λ i. number-of a u .0 i ∷ [])
 
       by : {k v : ℕ} {r : Rule} → BuiltIn k r → x ≡ record { number = k; word = v } → v ∷ [] ≡ r .rhs → w ∷ ws ≡ r .lhs → Redex (w ∷ ws) x
@@ -244,7 +244,7 @@ module _ (g : Signature) (few : length g ≤ literal) where
       go : Operates w a b x → Redex (w ∷ ws) x
       go (by-max q u v e) = by (max (number-of a u .1) (number-of b v .1)) e refl (λ i. q i ∷ two (omega arith) (omega arith) u v i)
       go (by-min q u v e) = by (min (number-of a u .1) (number-of b v .1)) e refl (λ i. q i ∷ two (omega arith) (omega arith) u v i)
-      go (by-square q u e) = by (square (number-of a u .1)) e refl (λ i. q i ∷ one q u i)
+      go (by-square q u e) = by (sqr (number-of a u .1)) e refl (λ i. q i ∷ one q u i)
 
   -- what follows the term does not count
   pub computed-rest : {u : List ℕ} (b : List ℕ) → Whole g u → computed (u ++ b) ≡ computed u
@@ -258,11 +258,11 @@ module _ (g : Signature) (few : length g ≤ literal) where
     | unary q ↦
         let k = forest-length f in
         let one = arity-unlisted g w (omega arith) ∙ arity-one w q in
-        computed-unary (w ∷ ws ++ b) q ∙ ap curved (List·getD-append ws b 0 0 (omega arith)) ∙ sym (computed-unary (w ∷ ws) q)
+        computed-unary (w ∷ ws ++ b) q ∙ ap squared (List·getD-append ws b 0 0 (omega arith)) ∙ sym (computed-unary (w ∷ ws) q)
     | nullary n ↦ nothing n (w ∷ ws ++ b) refl ∙ sym (nothing n (w ∷ ws) refl)
   ]
     where
-      nothing : (w < maximum) ⊎ (curve < w) → (us : List ℕ) → getD us 0 0 ≡ w → computed us ≡ none
+      nothing : (w < maximum) ⊎ (square < w) → (us : List ℕ) → getD us 0 0 ≡ w → computed us ≡ none
       nothing (inl l) us q = computed-plain us (λ e. omega arith) (λ e. omega arith) (λ e. omega arith)
       nothing (inr l) us q = computed-plain us (λ e. omega arith) (λ e. omega arith) (λ e. omega arith)
 

@@ -7,10 +7,10 @@ use mathlib.Core.Option.{Option, none, some}
 use lib.ListN.{getD, take, drop}
 use lib.Dec.{ltb, eqb}
 use Rattle.system.specs.Limits.{variable}
-use Rattle.system.specs.BuiltIns.{literal, isLiteral, maximum, minimum, curve, larger, smaller, squareLaw}
+use Rattle.system.specs.BuiltIns.{literal, isLiteral, maximum, minimum, square, larger, smaller, squareLaw}
 use Rattle.system.specs.Signature.{Signature, span, subterm}
 use Rattle.system.specs.System.{System, Rule, instance}
-use Rattle.system.specs.Rules.{RuleOf, maximumRule, minimumRule, curveRule}
+use Rattle.system.specs.Rules.{RuleOf, maximumRule, minimumRule, squareRule}
 use Rattle.system.specs.Terms.{Whole}
 
 -- "A filling gives each placeholder a whole cue, the same wherever it stands; a side so filled is an instance. A rule fits at a place
@@ -65,12 +65,12 @@ unfoldable pub applied : ℕ → ℕ → ℕ → Option Computation
 applied f a b = cond (isLiteral a && isLiteral b) (operation f (a - literal) (b - literal)) none
 
 -- the curve before the word a: "level n becomes (n × n + 127) divided by 255, whole part" (02, F-4)
-unfoldable pub curved : ℕ → Option Computation
-curved a = cond (isLiteral a) (some (record { number = curveRule; word = literal + squareLaw (a - literal) })) none
+unfoldable pub squared : ℕ → Option Computation
+squared a = cond (isLiteral a) (some (record { number = squareRule; word = literal + squareLaw (a - literal) })) none
 
 -- the built-in rule that matches the front of ws
 unfoldable pub computed : List ℕ → Option Computation
-computed ws = cond (eqb (getD ws 0 0) curve) (curved (getD ws 1 0)) (applied (getD ws 0 0) (getD ws 1 0) (getD ws 2 0))
+computed ws = cond (eqb (getD ws 0 0) square) (squared (getD ws 1 0)) (applied (getD ws 0 0) (getD ws 1 0) (getD ws 2 0))
 
 abbrev pub computedContraction : Option Computation → Option Contraction
 computedContraction none = none

@@ -9,17 +9,17 @@ ghost use Rattle.matching.specs.rules.Searches.{searchComputed};
 use crate::FirstRule;
 use crate::Match;
 use crate::rules::Search;
-use system::built_ins::CURVE;
-use system::built_ins::CURVE_RULE;
 use system::built_ins::LITERAL;
 use system::built_ins::MAXIMUM;
 use system::built_ins::MAXIMUM_RULE;
 use system::built_ins::MINIMUM;
 use system::built_ins::MINIMUM_RULE;
-use system::built_ins::curved;
+use system::built_ins::SQUARE;
+use system::built_ins::SQUARE_RULE;
 use system::built_ins::is_literal;
 use system::built_ins::larger;
 use system::built_ins::smaller;
+use system::built_ins::squared;
 use system::limits::VARIABLES;
 use system::words::wide;
 
@@ -75,8 +75,8 @@ pub fn computed(ws: &[u16]) -> Search
     if !is_literal(m) {
         return nothing();
     }
-    if f == CURVE {
-        return puts(CURVE_RULE, curved(m), 2);
+    if f == SQUARE {
+        return puts(SQUARE_RULE, squared(m), 2);
     }
     if ws.len() < 3 {
         return nothing();

@@ -10,7 +10,7 @@ use lib.ListN.{length}
 use lib.Dec.{ltb, leb, eqb}
 use borrow.Author.Tests.{lt-ltb, le-ltb, ltb-true, le-leb, lt-leb, leb-true, eq-eqb, ne-eqb}
 use Rattle.system.specs.Limits.{maxEntries}
-use Rattle.system.specs.BuiltIns.{literal, literals, maximum, minimum, curve, isLiteral, isBuiltIn, isBinary, builtInArity, builtInStrategy, larger, smaller}
+use Rattle.system.specs.BuiltIns.{literal, literals, maximum, minimum, square, isLiteral, isBuiltIn, isBinary, builtInArity, builtInStrategy, larger, smaller}
 use Rattle.system.specs.Terms.{Member, first, later}
 
 -- both of two tests
@@ -23,21 +23,21 @@ both false b e = absurd (let z : _≡_ {A = ℕ} 0 1 = cc in omega arith)
 -- between the first literal and the last operator
 pub record BuiltInWord (w : ℕ) : Type 0 where
   pub low : literal ≤ w
-  pub high : w ≤ curve
+  pub high : w ≤ square
 
 pub builtin-range : (w : ℕ) → isBuiltIn w ≡ true → BuiltInWord w
 unfolding isBuiltIn
-builtin-range w e = let c = both _ _ e in record { low = leb-true literal w (c .0); high = leb-true w curve (c .1) }
+builtin-range w e = let c = both _ _ e in record { low = leb-true literal w (c .0); high = leb-true w square (c .1) }
 
-pub range-builtin : (w : ℕ) → literal ≤ w → w ≤ curve → isBuiltIn w ≡ true
+pub range-builtin : (w : ℕ) → literal ≤ w → w ≤ square → isBuiltIn w ≡ true
 unfolding isBuiltIn
-range-builtin w l h = rw (le-leb literal w l, le-leb w curve h)
+range-builtin w l h = rw (le-leb literal w l, le-leb w square h)
 
 pub below-builtin : (w : ℕ) → w < literal → isBuiltIn w ≡ false
 unfolding isBuiltIn
 below-builtin w h = rw (lt-leb literal w h)
 
-pub above-builtin : (w : ℕ) → literal ≤ w → isBuiltIn w ≡ leb w curve
+pub above-builtin : (w : ℕ) → literal ≤ w → isBuiltIn w ≡ leb w square
 unfolding isBuiltIn
 above-builtin w h = rw (le-leb literal w h)
 
@@ -68,16 +68,16 @@ number-of w e = let c = is-literal w e in (omega arith, omega arith)
 -- the three cases: an operator on two literals, that on one, and all other words
 pub data Operands (w : ℕ) : Type 0 where
   binary : maximum ≤ w → w ≤ minimum → Operands w
-  unary : w ≡ curve → Operands w
-  nullary : (w < maximum) ⊎ (curve < w) → Operands w
+  unary : w ≡ square → Operands w
+  nullary : (w < maximum) ⊎ (square < w) → Operands w
 
 pub operands : (w : ℕ) → Operands w
 operands w = elim (decLt w maximum) [
   | yes l ↦ nullary (inl l)
   | no a ↦
-      elim (decLt w curve) [
+      elim (decLt w square) [
         | yes l ↦ binary (omega arith) (omega arith)
-        | no b ↦ elim (ℕ-discrete w curve) [ yes e ↦ unary e | no c ↦ nullary (inr (omega arith)) ]
+        | no b ↦ elim (ℕ-discrete w square) [ yes e ↦ unary e | no c ↦ nullary (inr (omega arith)) ]
       ]
 ]
 
@@ -97,19 +97,19 @@ module _ (w : ℕ) where
   not-binary (inl h) = rw (ne-eqb w maximum (λ e. omega arith), ne-eqb w minimum (λ e. omega arith))
   not-binary (inr h) = rw (ne-eqb w maximum (λ e. omega arith), ne-eqb w minimum (λ e. omega arith))
 
-  no-operator : (w < maximum) ⊎ (curve < w) → (isBinary w ≡ false) × (eqb w curve ≡ false)
-  no-operator (inl h) = (not-binary (inl h), ne-eqb w curve (λ e. omega arith))
-  no-operator (inr h) = (not-binary (inr (omega arith)), ne-eqb w curve (λ e. omega arith))
+  no-operator : (w < maximum) ⊎ (square < w) → (isBinary w ≡ false) × (eqb w square ≡ false)
+  no-operator (inl h) = (not-binary (inl h), ne-eqb w square (λ e. omega arith))
+  no-operator (inr h) = (not-binary (inr (omega arith)), ne-eqb w square (λ e. omega arith))
 
   pub arity-two : maximum ≤ w → w ≤ minimum → builtInArity w ≡ 2
   unfolding builtInArity
   arity-two l h = rw (is-binary l h)
 
-  pub arity-one : w ≡ curve → builtInArity w ≡ 1
+  pub arity-one : w ≡ square → builtInArity w ≡ 1
   unfolding builtInArity
-  arity-one e = rw (not-binary (inr (omega arith)), eq-eqb w curve e)
+  arity-one e = rw (not-binary (inr (omega arith)), eq-eqb w square e)
 
-  pub arity-none : (w < maximum) ⊎ (curve < w) → builtInArity w ≡ 0
+  pub arity-none : (w < maximum) ⊎ (square < w) → builtInArity w ≡ 0
   unfolding builtInArity
   arity-none h = rw (no-operator h .0, no-operator h .1)
 
@@ -117,7 +117,7 @@ module _ (w : ℕ) where
   unfolding builtInStrategy
   strategy-eager = elim (operands w) [
     | binary l h ↦ rw (arity-two l h, is-binary l h)
-    | unary e ↦ rw (arity-one e, not-binary (inr (omega arith)), eq-eqb w curve e)
+    | unary e ↦ rw (arity-one e, not-binary (inr (omega arith)), eq-eqb w square e)
     | nullary h ↦ rw (arity-none h, no-operator h .0, no-operator h .1)
   ]
 

@@ -6,10 +6,10 @@ use mathlib.Core.Logic.{inl}
 use mathlib.Core.List.{List, [], _∷_, _++_}
 use lib.ListN.{length, getD, List·getD-eq-default}
 use Rattle.system.specs.Limits.{variable}
-use Rattle.system.specs.BuiltIns.{literal, literals, maximum, minimum, curve, builtInArity, builtInStrategy}
+use Rattle.system.specs.BuiltIns.{literal, literals, maximum, minimum, square, builtInArity, builtInStrategy}
 use Rattle.system.specs.Signature.{Signature, Listed}
 use Rattle.system.specs.System.{System, Rule, rule, head, strategy}
-use Rattle.system.specs.Rules.{BuiltIn, max, min, square, RuleOf, listed, builtIn, maximumRule, curveRule}
+use Rattle.system.specs.Rules.{BuiltIn, max, min, sqr, RuleOf, listed, builtIn, maximumRule, squareRule}
 use Rattle.system.specs.Terms.{Forest, empty, more, Side, Word, Member, first, later, Numbered, end, symbol, WellFormedRule, WellFormed}
 use Rattle.system.proofs.BuiltIns.{range-builtin, arity-two, arity-one, arity-none, larger-below, smaller-below}
 use Rattle.system.proofs.SquareLaw.{square-below}
@@ -27,26 +27,26 @@ strategy-unlisted s f h = List·getD-eq-default (s .strategies) (builtInStrategy
 
 -- ---- the built-in rules
 
-pub built-number : {k : ℕ} {r : Rule} → BuiltIn k r → (maximumRule ≤ k) × (k ≤ curveRule)
+pub built-number : {k : ℕ} {r : Rule} → BuiltIn k r → (maximumRule ≤ k) × (k ≤ squareRule)
 built-number (max a b) = (omega arith, omega arith)
 built-number (min a b) = (omega arith, omega arith)
-built-number (square a) = (omega arith, omega arith)
+built-number (sqr a) = (omega arith, omega arith)
 
 -- their left sides are an operator and its arguments
 pub built-length : {k : ℕ} {r : Rule} → BuiltIn k r → length (r .lhs) ≡ suc (builtInArity (head (r .lhs)))
 built-length (max a b) = ap suc (sym (arity-two maximum (omega arith) (omega arith)))
 built-length (min a b) = ap suc (sym (arity-two minimum (omega arith) (omega arith)))
-built-length (square a) = ap suc (sym (arity-one curve refl))
+built-length (sqr a) = ap suc (sym (arity-one square refl))
 
 pub built-front : {k : ℕ} {r : Rule} → BuiltIn k r → (ws : List ℕ) → head (r .lhs ++ ws) ≡ head (r .lhs)
 built-front (max a b) ws = refl
 built-front (min a b) ws = refl
-built-front (square a) ws = refl
+built-front (sqr a) ws = refl
 
 pub built-head : {k : ℕ} {r : Rule} → BuiltIn k r → 0 < builtInArity (head (r .lhs))
 built-head (max a b) = rw (arity-two maximum (omega arith) (omega arith)) (omega arith)
 built-head (min a b) = rw (arity-two minimum (omega arith) (omega arith)) (omega arith)
-built-head (square a) = rw (arity-one curve refl) (omega arith)
+built-head (sqr a) = rw (arity-one square refl) (omega arith)
 
 -- no word of them is a variable
 one-below : {a w : ℕ} → a < variable → Member w (a ∷ []) → w < variable
@@ -64,12 +64,12 @@ three-below h l u (later s) = two-below l u s
 pub built-ground : {k : ℕ} {r : Rule} → BuiltIn k r → (w : ℕ) → Member w (r .lhs) → w < variable
 built-ground (max a b) w = three-below (omega arith) (omega arith) (omega arith)
 built-ground (min a b) w = three-below (omega arith) (omega arith) (omega arith)
-built-ground (square a) w = two-below (omega arith) (omega arith)
+built-ground (sqr a) w = two-below (omega arith) (omega arith)
 
 pub built-plain : {k : ℕ} {r : Rule} → BuiltIn k r → (w : ℕ) → Member w (r .rhs) → w < variable
 built-plain (max {m} {n} a b) w = one-below (let z = larger-below m n literals a b in omega arith)
 built-plain (min {m} {n} a b) w = one-below (let z = smaller-below m n literals a b in omega arith)
-built-plain (square {n} a) w = one-below (let z = square-below n a in omega arith)
+built-plain (sqr {n} a) w = one-below (let z = square-below n a in omega arith)
 
 ground-numbered : (ws : List ℕ) → ((w : ℕ) → Member w ws → w < variable) → Numbered 0 0 ws
 ground-numbered [] h = end
@@ -87,7 +87,7 @@ module _ (g : Signature) (few : length g ≤ literal) where
   alone h = literal-more h empty
 
   -- an operator before its literals, and the literal that is put there
-  ground-formed : {w v n : ℕ} {ws : List ℕ} → maximum ≤ w → w ≤ curve → builtInArity w ≡ n → Forest g (Word g) n ws → length ws ≤ 2 →
+  ground-formed : {w v n : ℕ} {ws : List ℕ} → maximum ≤ w → w ≤ square → builtInArity w ≡ n → Forest g (Word g) n ws → length ws ≤ 2 →
       ((u : ℕ) → Member u (w ∷ ws) → u < variable) → v < literals → WellFormedRule g (record { lhs = w ∷ ws; rhs = (literal + v) ∷ [] })
   ground-formed {w} {v} {ws} l h takes f short ground c =
       let known = symbol-builtin g w (range-builtin w (omega arith) h) in
@@ -115,7 +115,7 @@ module _ (g : Signature) (few : length g ≤ literal) where
       go : {k : ℕ} {r : Rule} → BuiltIn k r → ((u : ℕ) → Member u (r .lhs) → u < variable) → WellFormedRule g r
       go (max {m} {n} a b) = two maximum (omega arith) (omega arith) a b (larger-below m n literals a b)
       go (min {m} {n} a b) = two minimum (omega arith) (omega arith) a b (smaller-below m n literals a b)
-      go (square {n} a) = λ ground. ground-formed (omega arith) (omega arith) (arity-one curve refl) (alone a) (omega arith) ground (square-below n a)
+      go (sqr {n} a) = λ ground. ground-formed (omega arith) (omega arith) (arity-one square refl) (alone a) (omega arith) ground (square-below n a)
 
 -- ---- all rules
 
@@ -126,7 +126,7 @@ module _ (s : System) (wf : WellFormed s) where
   rule-formed (builtIn b) = built-formed (s .arities) (few-listed s wf) b
 
   -- the numbers go up to that of the last built-in rule
-  pub rule-bound : {k : ℕ} {r : Rule} → RuleOf s k r → k ≤ curveRule
+  pub rule-bound : {k : ℕ} {r : Rule} → RuleOf s k r → k ≤ squareRule
   rule-bound (listed h) = let z = wf .ruleBound in omega arith
   rule-bound (builtIn b) = built-number b .1
 

@@ -19,24 +19,24 @@ abbrev pub minimum : ℕ
 minimum = 16641
 
 -- "Word 16642 is 'curve', one argument, order 1 0"
-abbrev pub curve : ℕ
-curve = 16642
+abbrev pub square : ℕ
+square = 16642
 
 unfoldable pub isLiteral : ℕ → Bool
 isLiteral w = leb literal w && ltb w maximum
 
 -- a literal, or one of the three operators behind the literals
 unfoldable pub isBuiltIn : ℕ → Bool
-isBuiltIn w = leb literal w && leb w curve
+isBuiltIn w = leb literal w && leb w square
 
 unfoldable pub isBinary : ℕ → Bool
 isBinary w = eqb w maximum || eqb w minimum
 
 unfoldable pub builtInArity : ℕ → ℕ
-builtInArity w = cond (isBinary w) 2 (cond (eqb w curve) 1 0)
+builtInArity w = cond (isBinary w) 2 (cond (eqb w square) 1 0)
 
 unfoldable pub builtInStrategy : ℕ → List ℕ
-builtInStrategy w = cond (isBinary w) (1 ∷ 2 ∷ 0 ∷ []) (cond (eqb w curve) (1 ∷ 0 ∷ []) [])
+builtInStrategy w = cond (isBinary w) (1 ∷ 2 ∷ 0 ∷ []) (cond (eqb w square) (1 ∷ 0 ∷ []) [])
 
 -- "the larger or smaller level"
 unfoldable pub larger : ℕ → ℕ → ℕ

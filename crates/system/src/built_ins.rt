@@ -12,14 +12,14 @@ pub const MAXIMUM: usize = 16640;
 
 pub const MINIMUM: usize = 16641;
 
-pub const CURVE: usize = 16642;
+pub const SQUARE: usize = 16642;
 
 // The numbers of their rules.
 pub const MAXIMUM_RULE: usize = 128;
 
 pub const MINIMUM_RULE: usize = 129;
 
-pub const CURVE_RULE: usize = 130;
+pub const SQUARE_RULE: usize = 130;
 
 pub fn is_literal(w: u16) -> bool
     ensures { λ r. ⌜ r ≡ isLiteral w ⌝ }
@@ -39,7 +39,7 @@ pub fn is_built_in(w: u16) -> bool
     if x < LITERAL {
         return false;
     }
-    x <= CURVE
+    x <= SQUARE
 }
 
 // How many arguments w takes.
@@ -53,7 +53,7 @@ pub fn built_in_arity(w: u16) -> usize
     if x == MINIMUM {
         return 2;
     }
-    if x == CURVE {
+    if x == SQUARE {
         return 1;
     }
     0
@@ -79,7 +79,7 @@ pub fn smaller(m: u16, n: u16) -> u16
 }
 
 // The word of the level that the curve makes of the literal w.
-pub fn curved(w: u16) -> u16
+pub fn squared(w: u16) -> u16
     requires { ⌜ isLiteral w ≡ true ⌝ }
     ensures { λ r. ⌜ r ≡ literal + squareLaw (w - literal) ⌝ }
 {

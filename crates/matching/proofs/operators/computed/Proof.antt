@@ -6,8 +6,8 @@ use mathlib.Core.Bool.{true}
 use mathlib.Core.Option.{some}
 use mathlib.Core.List.{List}
 use lib.ListN.{getD}
-use Rattle.system.specs.BuiltIns.{maximum, minimum, curve, isLiteral}
-use Rattle.system.specs.Rules.{maximumRule, minimumRule, curveRule}
+use Rattle.system.specs.BuiltIns.{maximum, minimum, square, isLiteral}
+use Rattle.system.specs.Rules.{maximumRule, minimumRule, squareRule}
 use Rattle.system.proofs.BuiltIns.{arity-two, arity-one}
 use Rattle.matching.proofs.Computed.{computed-one, computed-two, computed-first, computed-second, computed-square, computed-maximum, computed-minimum, computed-plain}
 use Rattle.matching.proofs.rules.Widths.{is-nothing, is-put}
@@ -38,7 +38,7 @@ words c = start c .args .ws .now
 left : (c : tie.Else2) → isLiteral (getD (words (second (c .before))) 1 0) ≡ true
 left c = sym (c .before .is-literal .ensures) ∙ not-false _ (c .if2 .left)
 
-other : (c : tie.Else3) → getD (words (second (single c))) 0 0 ≡ curve → ⊥
+other : (c : tie.Else3) → getD (words (second (single c))) 0 0 ≡ square → ⊥
 other c q = c .if3 .left (second (single c) .wide .ensures .0 ∙ q)
 
 right : (c : tie.Else5) → isLiteral (getD (words (second (single (third (c .before))))) 2 0) ≡ true
@@ -54,16 +54,16 @@ returns-2 c s =
     let l = c .before .before in
     c .nothing2 .ensures ∙ is-nothing s (words (second l)) (computed-first _ (sym (l .is-literal .ensures) ∙ not-true _ (c .before .if2 .taken)))
 
-curved-requires : tie.Need-curved-requires
-curved-requires c κs = left (c .before)
+squared-requires : tie.Need-squared-requires
+squared-requires c κs = left (c .before)
 
 returns-3 : tie.Need-returns-3
 returns-3 c s =
     let t = c .before .before in
     let w = second (t .before .before) in
-    let is : getD (words w) 0 0 ≡ curve = sym (w .wide .ensures .0) ∙ t .if3 .taken in
-    c .puts .ensures ∙ is-put s (words w) curveRule (c .before .curved .result) 2
-    (computed-square (words w) (left (t .before)) is ∙ ap (λ v. some (record { number = curveRule; word = v })) (sym (c .before .curved .ensures)))
+    let is : getD (words w) 0 0 ≡ square = sym (w .wide .ensures .0) ∙ t .if3 .taken in
+    c .puts .ensures ∙ is-put s (words w) squareRule (c .before .squared .result) 2
+    (computed-square (words w) (left (t .before)) is ∙ ap (λ v. some (record { number = squareRule; word = v })) (sym (c .before .squared .ensures)))
     (ap suc (sym (arity-one _ is)))
 
 returns-4 : tie.Need-returns-4
@@ -111,5 +111,5 @@ computed-spec =
     tie.close
     (tie.spec
     (λ c κs. search needs) returns (λ c. search needs) (λ c κs. search needs) (λ c. search needs) (λ c κs. search needs) (λ c κs. search needs) returns-2
-    curved-requires (λ c κs. search needs) returns-3 (λ c κs. search needs) returns-4 (λ c. search needs) (λ c κs. search needs) (λ c κs. search needs) returns-5
+    squared-requires (λ c κs. search needs) returns-3 (λ c κs. search needs) returns-4 (λ c. search needs) (λ c κs. search needs) (λ c κs. search needs) returns-5
     (λ c κs. search needs) (λ c κs. search needs) returns-6 (λ c κs. search needs) (λ c κs. search needs) returns-7 (λ c κs. search needs) returns-8)

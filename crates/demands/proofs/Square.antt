@@ -8,10 +8,10 @@ use mathlib.Core.Bool.{true}
 use mathlib.Core.Option.{some}
 use mathlib.Core.List.{List, [], _∷_}
 use lib.ListN.{length, getD}
-use Rattle.system.specs.BuiltIns.{literal, literals, curve, squareLaw}
+use Rattle.system.specs.BuiltIns.{literal, literals, square, squareLaw}
 use Rattle.system.specs.Signature.{Signature, Symbol, arity, span, argument, replace}
 use Rattle.system.specs.System.{System, strategy}
-use Rattle.system.specs.Rules.{curveRule}
+use Rattle.system.specs.Rules.{squareRule}
 use Rattle.system.specs.Terms.{Forest, empty, more, Whole, WellFormed}
 use Rattle.system.specs.Parser.{Parsed, ok, fault, read}
 use Rattle.system.specs.Answers.{answerOf}
@@ -31,53 +31,53 @@ use Rattle.rewriting.proofs.Fuel.{evaluate-again}
 use Rattle.evaluation.specs.Expansion.{Expansion, expansion, handedBack}
 use Rattle.evaluation.proofs.Expanding.{checks}
 use Rattle.evaluation.proofs.Handed.{handed}
-use Rattle.demands.specs.Curve.{curveOf, IsCurved, NeverFalls}
+use Rattle.demands.specs.Square.{squareOf, IsSquared, NeverFalls}
 use Rattle.demands.proofs.Demand3.{is-handed-back, whole-checked}
 
 -- what comes of it: the level alone, after one step at the first word, by the curve's rule
-abbrev curvedRun : ℕ → Config
-curvedRun n = record { term = (literal + squareLaw n) ∷ []; trace = record { at = 0; number = curveRule } ∷ [] }
+abbrev squaredRun : ℕ → Config
+squaredRun n = record { term = (literal + squareLaw n) ∷ []; trace = record { at = 0; number = squareRule } ∷ [] }
 
 -- ---- the words of curve(level n)
 
 -- its argument is the second word
-curve-argument : (g : Signature) (n : ℕ) → argument g (curveOf n) 0 0 ≡ 1
+square-argument : (g : Signature) (n : ℕ) → argument g (squareOf n) 0 0 ≡ 1
 unfolding argument span
-curve-argument g n = refl
+square-argument g n = refl
 
 module _ (g : Signature) (few : length g ≤ literal) where
-  curve-arity : arity g curve ≡ 1
-  curve-arity = arity-unlisted g curve (omega arith) ∙ arity-one curve refl
+  square-arity : arity g square ≡ 1
+  square-arity = arity-unlisted g square (omega arith) ∙ arity-one square refl
 
   level-arity : (n : ℕ) → n < literals → arity g (literal + n) ≡ 0
   level-arity n h = arity-unlisted g (literal + n) (omega arith) ∙ arity-none (literal + n) (inl (omega arith))
 
-  curve-whole : (n : ℕ) → n < literals → Whole g (curveOf n)
-  curve-whole n h =
-      let a = curve-arity in
+  square-whole : (n : ℕ) → n < literals → Whole g (squareOf n)
+  square-whole n h =
+      let a = square-arity in
       let b = level-arity n h in
       let level = more {k = 0} (symbol-builtin g (literal + n) (range-builtin (literal + n) (omega arith) (omega arith))) (subst (λ c. Forest g (Symbol g) c []) (omega arith) empty) in
-      more {k = 0} (symbol-builtin g curve (range-builtin curve (omega arith) (omega arith))) (subst (λ c. Forest g (Symbol g) c ((literal + n) ∷ [])) (omega arith) level)
+      more {k = 0} (symbol-builtin g square (range-builtin square (omega arith) (omega arith))) (subst (λ c. Forest g (Symbol g) c ((literal + n) ∷ [])) (omega arith) level)
 
   -- a step at its first word leaves nothing of it
-  curve-replaced : (n v : ℕ) → replace g (curveOf n) 0 (v ∷ []) ≡ v ∷ []
+  square-replaced : (n v : ℕ) → replace g (squareOf n) 0 (v ∷ []) ≡ v ∷ []
   unfolding replace span
-  curve-replaced n v = rw curve-arity
+  square-replaced n v = rw square-arity
 
 -- ---- its evaluation
 
 module _ (s : System) (wf : WellFormed s) where
-  curve-strategy : strategy s curve ≡ 1 ∷ 0 ∷ []
-  curve-strategy = strategy-unlisted s curve (omega arith) ∙ strategy-eager curve ∙ ap eager (arity-one curve refl)
+  square-strategy : strategy s square ≡ 1 ∷ 0 ∷ []
+  square-strategy = strategy-unlisted s square (omega arith) ∙ strategy-eager square ∙ ap eager (arity-one square refl)
 
   level-strategy : (n : ℕ) → n < literals → strategy s (literal + n) ≡ []
   level-strategy n h = strategy-unlisted s (literal + n) (omega arith) ∙ strategy-eager (literal + n) ∙ ap eager (arity-none (literal + n) (inl (omega arith)))
 
-  curve-contraction : (n : ℕ) → n < literals → contraction s (curveOf n) ≡ some (record { number = curveRule; reduct = (literal + squareLaw n) ∷ [] })
-  curve-contraction n h =
-      contraction-computed s (curveOf n) (first-high s wf (curveOf n) (omega arith))
-      ∙ ap computedContraction (computed-square (curveOf n) (literal-is n h) refl)
-      ∙ ap (λ k. some (record { number = curveRule; reduct = (literal + squareLaw k) ∷ [] })) (add-sub-cancel-left literal n)
+  square-contraction : (n : ℕ) → n < literals → contraction s (squareOf n) ≡ some (record { number = squareRule; reduct = (literal + squareLaw n) ∷ [] })
+  square-contraction n h =
+      contraction-computed s (squareOf n) (first-high s wf (squareOf n) (omega arith))
+      ∙ ap computedContraction (computed-square (squareOf n) (literal-is n h) refl)
+      ∙ ap (λ k. some (record { number = squareRule; reduct = (literal + squareLaw k) ∷ [] })) (add-sub-cancel-left literal n)
 
   module _ (limits : Limits) where
     -- a level is as it is
@@ -88,25 +88,25 @@ module _ (s : System) (wf : WellFormed s) where
         ∙ follow-end s limits (evaluate s limits l) (evaluate s limits (suc l)) p r
 
     -- "level n becomes (n × n + 127) divided by 255, whole part", where a step is allowed and the record, if there is one, has room for it
-    pub evaluation-curve : 1 ≤ limits .steps → hasRoom (limits .room) 0 ≡ true → (n : ℕ) → n < literals →
-        evaluation s limits (curveOf n) ≡ finished (record { term = (literal + squareLaw n) ∷ []; trace = record { at = 0; number = curveRule } ∷ [] })
+    pub evaluation-square : 1 ≤ limits .steps → hasRoom (limits .room) 0 ≡ true → (n : ℕ) → n < literals →
+        evaluation s limits (squareOf n) ≡ finished (record { term = (literal + squareLaw n) ∷ []; trace = record { at = 0; number = squareRule } ∷ [] })
     unfolding evaluation
-    evaluation-curve some-step room n h =
+    evaluation-square some-step room n h =
         evaluate-again s limits 63 0 r
-        ∙ ap (λ es. follow s limits inner again es 0 r) curve-strategy
+        ∙ ap (λ es. follow s limits inner again es 0 r) square-strategy
         ∙ follow-open s limits inner again 0 (0 ∷ []) 0 r
-        ∙ ap (λ p. andThen (inner p r) on) (curve-argument (s .arities) n)
+        ∙ ap (λ p. andThen (inner p r) on) (square-argument (s .arities) n)
         ∙ ap (λ o. andThen o on) (level-rests n 62 1 r h refl)
-        ∙ follow-fire s limits inner again [] 0 r x (curve-contraction n h)
+        ∙ follow-fire s limits inner again [] 0 r x (square-contraction n h)
         ∙ rewrite-goes s limits 0 r x (omega arith) room (omega (arith, ap length same)) (again 0)
         ∙ ap (again 0) left
-        ∙ level-rests (squareLaw n) 63 0 (curvedRun n) (square-below n h) refl
+        ∙ level-rests (squareLaw n) 63 0 (squaredRun n) (square-below n h) refl
       where
         r : Config
-        r = start (curveOf n)
+        r = start (squareOf n)
 
         x : Contraction
-        x = record { number = curveRule; reduct = (literal + squareLaw n) ∷ [] }
+        x = record { number = squareRule; reduct = (literal + squareLaw n) ∷ [] }
 
         inner : ℕ → Config → Outcome
         inner = evaluate s limits 63
@@ -118,10 +118,10 @@ module _ (s : System) (wf : WellFormed s) where
         on r′ = follow s limits inner again (0 ∷ []) 0 r′
 
         same : stepped s 0 r x .term ≡ (literal + squareLaw n) ∷ []
-        same = curve-replaced (s .arities) (few-listed s wf) n (literal + squareLaw n)
+        same = square-replaced (s .arities) (few-listed s wf) n (literal + squareLaw n)
 
-        left : stepped s 0 r x ≡ curvedRun n
-        left = λ i. record { term = same i; trace = record { at = 0; number = curveRule } ∷ [] }
+        left : stepped s 0 r x ≡ squaredRun n
+        left = λ i. record { term = same i; trace = record { at = 0; number = squareRule } ∷ [] }
 
 -- ---- what the evaluator answers
 
@@ -136,29 +136,29 @@ accepted book e = go (read book) refl e
 
 module _ (book : List ℕ) (limit : ℕ) where
   module _ (n : ℕ) (h : n < literals) (out work : List ℕ) where
-    pub is-curved : IsCurved book n limit out work (expansion book (curveOf n) (unrecorded limit) out work)
+    pub is-squared : IsSquared book n limit out work (expansion book (squareOf n) (unrecorded limit) out work)
     unfolding hasRoom
-    is-curved e a b some-step =
+    is-squared e a b some-step =
         let q = accepted book e in
         let wf = read-sound book q .0 in
-        let w = curve-whole (systemOf book .arities) (few-listed (systemOf book) wf) n h in
-        let good = whole-checked book (curveOf n) q w (omega arith) in
-        let run = evaluation-curve (systemOf book) wf (unrecorded limit) some-step refl n h in
-        is-handed-back book (curveOf n) (unrecorded limit) out work a b good (curvedRun n) run
+        let w = square-whole (systemOf book .arities) (few-listed (systemOf book) wf) n h in
+        let good = whole-checked book (squareOf n) q w (omega arith) in
+        let run = evaluation-square (systemOf book) wf (unrecorded limit) some-step refl n h in
+        is-handed-back book (squareOf n) (unrecorded limit) out work a b good (squaredRun n) run
 
     -- of an expansion that hands something back
-    handed-curve : 1 ≤ limit → (x : Expansion) → x ≡ expansion book (curveOf n) (unrecorded limit) out work → x .numbers .number ≡ 0 →
+    handed-square : 1 ≤ limit → (x : Expansion) → x ≡ expansion book (squareOf n) (unrecorded limit) out work → x .numbers .number ≡ 0 →
         getD (handedBack x) 0 0 ≡ literal + squareLaw n
-    handed-curve some-step x e z =
-        let k = handed book (curveOf n) (unrecorded limit) out work (sym (ap (λ y. y .numbers .number) e) ∙ z) in
-        let c = checks book (curveOf n) (k .good) in
+    handed-square some-step x e z =
+        let k = handed book (squareOf n) (unrecorded limit) out work (sym (ap (λ y. y .numbers .number) e) ∙ z) in
+        let c = checks book (squareOf n) (k .good) in
         let z : answerOf (read book) .number ≡ 0 = ap (λ o. answerOf o .number) (c .accepted) in
-        ap (λ y. getD (handedBack y) 0 0) e ∙ ap (λ y. getD y 0 0) (is-curved z (k .room-answer) (k .room-work) some-step .1)
+        ap (λ y. getD (handedBack y) 0 0) e ∙ ap (λ y. getD y 0 0) (is-squared z (k .room-answer) (k .room-work) some-step .1)
 
   -- "It never falls from one level to the next"
   pub never-falls : 1 ≤ limit → {m n : ℕ} → m < literals → n < literals → (out work again spare : List ℕ) (x y : Expansion) →
-      x ≡ expansion book (curveOf m) (unrecorded limit) out work → y ≡ expansion book (curveOf n) (unrecorded limit) again spare → NeverFalls m n x y
+      x ≡ expansion book (squareOf m) (unrecorded limit) out work → y ≡ expansion book (squareOf n) (unrecorded limit) again spare → NeverFalls m n x y
   never-falls some-step {m} {n} h l out work again spare x y e f rises p q =
-      let a = handed-curve m h out work some-step x e p in
-      let b = handed-curve n l again spare some-step y f q in
+      let a = handed-square m h out work some-step x e p in
+      let b = handed-square n l again spare some-step y f q in
       omega (arith, square-rises rises)

@@ -1,20 +1,20 @@
--- `expand_curve` meets its contract.
+-- `expand_square` meets its contract.
 use Prim.Native.Nat.{_<_}
 use native.Mathlib.Omega.{arith}
 use mathlib.Core.Path.{sym, subst}
 use borrow.Author.Needs.{needs}
 use Rattle.system.specs.BuiltIns.{literals}
-use Rattle.demands.specs.Curve.{IsCurved}
-use Rattle.demands.proofs.Curve.{is-curved}
-use Rattle.demands.proofs.expand_curve.Statement.{statement}
-use Rattle.demands.proofs.expand_curve.Tie as tie
+use Rattle.demands.specs.Square.{IsSquared}
+use Rattle.demands.proofs.Square.{is-squared}
+use Rattle.demands.proofs.expand_square.Statement.{statement}
+use Rattle.demands.proofs.expand_square.Tie as tie
 
--- ---- the places of the code that are behind others: the entry, the cue, the expansion
+-- ---- the places of the code that are behind others: the entry, the term, the expansion
 
-abbrev entry : tie.After-cue → tie.Start
+abbrev entry : tie.After-term → tie.Start
 entry c = c .before .before .before .before .before
 
-abbrev made : tie.After-expand-scanned → tie.After-cue
+abbrev made : tie.After-expand-scanned → tie.After-term
 made c = c .before .before .before
 
 abbrev expanded : tie.After-slice-known4 → tie.After-expand-scanned
@@ -29,10 +29,10 @@ returns c =
     let o = a .out .now in
     let w = a .work .now in
     let level : a .n < literals = omega arith in
-    (e, subst (IsCurved b (a .n) (a .limit) o w) (sym e) (is-curved b (a .limit) (a .n) level o w))
+    (e, subst (IsSquared b (a .n) (a .limit) o w) (sym e) (is-squared b (a .limit) (a .n) level o w))
 
-pub expand-curve-spec : {M : Type 1} → statement M
-expand-curve-spec =
+pub expand-square-spec : {M : Type 1} → statement M
+expand-square-spec =
     tie.close
     (tie.spec
     (λ c κs. search needs) (λ c. search needs) (λ c. search needs) (λ c. search needs) (λ c. search needs) (λ c κs. search needs)

@@ -4,19 +4,19 @@ use mathlib.Core.Path.{_≡_}
 use mathlib.Core.List.{List, [], _∷_}
 use lib.ListN.{length, getD}
 use Rattle.system.specs.Limits.{areaWords, termWords}
-use Rattle.system.specs.BuiltIns.{literal, curve, squareLaw}
+use Rattle.system.specs.BuiltIns.{literal, square, squareLaw}
 use Rattle.system.specs.Parser.{read}
 use Rattle.system.specs.Answers.{answerOf}
 use Rattle.evaluation.specs.Expansion.{Expansion, handedBack}
 
 -- "Word 16642 is 'curve', one argument": curve(level n)
-abbrev pub curveOf : ℕ → List ℕ
-curveOf n = curve ∷ (literal + n) ∷ []
+abbrev pub squareOf : ℕ → List ℕ
+squareOf n = square ∷ (literal + n) ∷ []
 
 -- "level n becomes (n × n + 127) divided by 255, whole part", in one step, over every book that the reader accepts and in buffers that pass the
 -- checks: x is what becomes of curve(level n)
-abbrev pub IsCurved : List ℕ → ℕ → ℕ → List ℕ → List ℕ → Expansion → Type 0
-IsCurved book n limit out work x =
+abbrev pub IsSquared : List ℕ → ℕ → ℕ → List ℕ → List ℕ → Expansion → Type 0
+IsSquared book n limit out work x =
     answerOf (read book) .number ≡ 0 → termWords ≤ length out → areaWords ≤ length work → 1 ≤ limit →
     (x .numbers ≡ record { number = 0; place = 1; steps = 1 }) × (handedBack x ≡ (literal + squareLaw n) ∷ [])
 
