@@ -1,0 +1,3 @@
+-- Inner: what the layers above ask of the rows
+pub mod gap
+pub mod lengths

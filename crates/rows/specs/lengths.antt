@@ -1,0 +1,3 @@
+pub mod Spans
+pub mod Measured
+pub mod Written

@@ -1,0 +1,91 @@
+// The lengths beside the words: read, and written from the end of the term to its front, so that those of a symbol's arguments stand there
+// already.
+ghost use mathlib.Core.Path.{_≡_};
+ghost use Prim.Native.Nat.{ℕ, _+_, _≤_, _<_};
+ghost use mathlib.Core.List.{[], _∷_};
+ghost use lib.ListN.{length, drop};
+ghost use Rattle.buffers.specs.moves.Parts.{part};
+ghost use Rattle.system.specs.Limits.{termWords};
+ghost use Rattle.system.specs.Signature.{Signature, span};
+ghost use Rattle.system.specs.Answers.{signatureOf};
+ghost use Rattle.rows.specs.gap.Gaps.{wordsIn, countsAt, behind, wordRow, termIn, Gapped};
+ghost use Rattle.rows.specs.lengths.Measured.{Measured};
+ghost use Rattle.rows.specs.lengths.Written.{Written, Copyable, Apart, Laid};
+use crate::gap::Gap;
+use crate::gap::length_at;
+use crate::gap::words;
+use buffers::copy_in;
+use buffers::move_words;
+use system::limits::TERM_WORDS;
+use system::words::arity;
+
+// Where the third row starts.
+pub const COUNTS: usize = 2 * TERM_WORDS;
+
+// Where k subterms end of which the first starts at `from`: one read for each.
+pub fn hop(area: &[u16], gap: Gap, from: usize, k: usize) -> usize
+    requires { ⌜ Gapped (now area) gap × (from ≤ wordsIn gap) ⌝ }
+    ensures { λ r. ⌜ ((g : Signature) → Measured g (now (area .entry)) gap → r ≡ from + span g (drop from (termIn (now (area .entry)) gap)) k) ⌝ }
+{
+    let n = words(gap);
+    let mut at = from;
+    let mut due = k;
+    while 0 < due {
+        if n <= at {
+            return at;
+        }
+        at += length_at(area, gap, at);
+        due -= 1;
+    }
+    at
+}
+
+// Puts a word before those from `back` on, and beside it its length: its own word and its arguments', which stand there.
+pub fn push(book: &[u16], area: &mut [u16], back: usize, w: u16) -> usize
+    requires { ⌜ Measured (signatureOf (now book)) (now area) (behind back) × (0 < back) ⌝ }
+    ensures { λ r. ⌜ Written (signatureOf (now (book .entry))) (now (area .entry)) back (now (area .exit)) r (w ∷ []) ⌝ }
+{
+    let at = back - 1;
+    let end = hop(area, Gap { front: 0, back }, 0, arity(book, w));
+    area[at] = w;
+    area[TERM_WORDS + at] = (end + 1) as u16;
+    at
+}
+
+// Puts the n words from `from` on before those from `back` on, the last first. They stand behind those that are written.
+pub fn push_all(book: &[u16], area: &mut [u16], back: usize, from: usize, n: usize) -> usize
+    requires { ⌜ Measured (signatureOf (now book)) (now area) (behind back) × (n ≤ back) × Apart (now area) back from n ⌝ }
+    ensures { λ r. ⌜ Written (signatureOf (now (book .entry))) (now (area .entry)) back (now (area .exit)) r (part from n (now (area .entry))) ⌝ }
+{
+    let mut at = back;
+    let mut i = n;
+    while 0 < i {
+        i -= 1;
+        let w = area[from + i];
+        at = push(book, area, at, w);
+    }
+    at
+}
+
+// Copies n words of the term, and the lengths beside them, before those from `back` on.
+pub fn copy(area: &mut [u16], back: usize, from: usize, n: usize) -> usize
+    requires { ⌜ Gapped (now area) (behind back) × (n ≤ back) × (from + n ≤ termWords) ⌝ }
+    ensures { λ r. ⌜ ((g : Signature) → Copyable g (now (area .entry)) back from n →
+        Written g (now (area .entry)) back (now (area .exit)) r (part from n (now (area .entry)))) ⌝ }
+{
+    let to = back - n;
+    move_words(area, from, to, n);
+    move_words(area, TERM_WORDS + from, TERM_WORDS + to, n);
+    to
+}
+
+// The first pass: writes a term at the end of its row, and its lengths. All words of the area may change.
+pub fn lay(book: &[u16], area: &mut [u16], term: &[u16]) -> Gap
+    requires { ⌜ (length (now term) ≤ termWords) × (countsAt + termWords ≤ length (now area)) ⌝ }
+    ensures { λ r. ⌜ Laid (signatureOf (now (book .entry))) (now (term .entry)) (length (now (area .entry))) (now (area .exit)) r ⌝ }
+{
+    let n = term.len();
+    copy_in(area, COUNTS, term);
+    let back = push_all(book, area, TERM_WORDS, COUNTS, n);
+    Gap { front: 0, back }
+}
