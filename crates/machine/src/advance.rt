@@ -1,30 +1,30 @@
 // The machine in an area of lent words: from a state to just before its next rewrite, without recursion.
 ghost use mathlib.Core.Path.{_≡_};
 ghost use Rattle.system.specs.Book.{systemOf, Accepted};
-ghost use Rattle.machine.specs.declared.advance.Stop.the-variants.{Ready};
 ghost use Rattle.machine.specs.advance.Area.{Tracks};
 ghost use Rattle.machine.specs.advance.Transition.{sinceAt, Performed};
 ghost use Rattle.machine.specs.advance.Arrivals.{Advances};
 ghost use Rattle.system.specs.layout.Index.{Indexed};
 use matching::FirstRule;
-use matching::Match;
-use matching::rules::Search;
-use matching::rules::first_rule;
+use matching::redexes::Redex;
+use matching::redexes::first_redex;
+use rows::gap::Gap;
+use rows::gap::word_at;
+use rows::lengths::COUNTS;
+use rows::lengths::hop;
 use system::Shape;
 use system::layout::entries::Entry;
 use system::layout::entries::entry_of;
 use system::limits::LEVELS;
-use system::limits::TERM_WORDS;
 use system::limits::VARIABLES;
-use system::words::spans;
 use system::words::wide;
 
 // How many levels stand around the deepest one.
 const DEEPEST: usize = LEVELS - 1;
 
-// The state that an area holds, but for its words: how many words the term has, and how many levels stand around the innermost one.
+// The state that an area holds, but for its words: where the gap in its rows is, and how many levels stand around the innermost one.
 pub struct State {
-    pub n: usize,
+    pub gap: Gap,
     pub level: usize,
 }
 
@@ -35,13 +35,11 @@ pub enum Stop {
     Ready,
 }
 
-// Where it came to, how many levels stand around the innermost one there, and if a rewrite is next the rule that matches and how many words
-// the subterm has.
+// Where it came to, how many levels stand around the innermost one there, and if a rewrite is next the rule that matches.
 pub struct Advanced {
     pub stop: Stop,
     pub level: usize,
-    pub matched: Match,
-    pub width: usize,
+    pub redex: Redex,
 }
 
 // What a transition came upon: the end of the innermost level's strategy, and the level was left; an entry that is repeated; entry 0: the
@@ -56,21 +54,21 @@ enum Event {
 
 // The innermost level of a state, and how many of its entries were begun before the present run of transitions.
 struct Innermost {
-    n: usize,
+    gap: Gap,
     level: usize,
     since: usize,
 }
 
 // A level above `floor` was opened in this run of transitions, so none of its entries was begun before it.
-fn at_level(n: usize, level: usize, floor: usize, since: usize) -> Innermost
-    ensures { λ r. ⌜ r ≡ record { n = n; level = level; since = sinceAt floor since level } ⌝ }
+fn at_level(gap: Gap, level: usize, floor: usize, since: usize) -> Innermost
+    ensures { λ r. ⌜ r ≡ record { gap = gap; level = level; since = sinceAt floor since level } ⌝ }
 {
     let mut before = since;
     if floor < level {
         before = 0;
     }
     Innermost {
-        n,
+        gap,
         level,
         since: before,
     }
@@ -80,43 +78,43 @@ fn at_level(n: usize, level: usize, floor: usize, since: usize) -> Innermost
 fn take_transition(
     book: &[u16],
     shape: Shape,
-    index: &[usize],
+    index: &[u16],
     area: &mut [u16],
     positions: &mut [usize],
     at: Innermost,
 ) -> Event
     requires { ⌜ Accepted (now book) shape × Indexed (now book) shape (now index)
-        × Tracks (systemOf (now book)) (now area) (now positions) (at .n) (at .level) ⌝ }
+        × Tracks (systemOf (now book)) (now area) (now positions) (at .gap) (at .level) ⌝ }
     ensures { λ r. ⌜ Performed (systemOf (now (book .entry))) at (now (area .entry)) (now (positions .entry)) r
         (now (area .exit)) (now (positions .exit)) ⌝ }
 {
-    let n = at.n;
+    let gap = at.gap;
     let level = at.level;
     let since = at.since;
     let p = positions[level];
-    let c = area[TERM_WORDS + level];
+    let c = area[COUNTS + level];
     let begun = c + 1;
-    let e = entry_of(book, shape, index, area[p], since, wide(c));
+    let w = word_at(area, gap, p);
+    let e = entry_of(book, shape, index, w, since, wide(c));
     match e {
         Entry::End => {
-            area[TERM_WORDS + level] = 0;
             return Event::End;
         }
         Entry::Repeated => {
-            area[TERM_WORDS + level] = begun;
+            area[COUNTS + level] = begun;
             return Event::Repeated;
         }
         Entry::Rules => {
-            area[TERM_WORDS + level] = begun;
+            area[COUNTS + level] = begun;
             return Event::Rules;
         }
         Entry::Argument(i) => {
             if DEEPEST <= level {
                 return Event::TooDeep;
             }
-            let a = p + 1;
-            let q = a + spans(book, &area[a..n], i);
-            area[TERM_WORDS + level] = begun;
+            let q = hop(area, gap, p + 1, i);
+            area[COUNTS + level] = begun;
+            area[COUNTS + level + 1] = 0;
             positions[level + 1] = q;
             return Event::Argument;
         }
@@ -130,33 +128,35 @@ fn take_transition(
 pub fn advance(
     book: &[u16],
     shape: Shape,
-    index: &[usize],
+    index: &[u16],
     area: &mut [u16],
     positions: &mut [usize],
     state: State,
 ) -> Advanced
     requires { ⌜ Accepted (now book) shape × Indexed (now book) shape (now index)
-        × Tracks (systemOf (now book)) (now area) (now positions) (state .n) (state .level) ⌝ }
+        × Tracks (systemOf (now book)) (now area) (now positions) (state .gap) (state .level) ⌝ }
     ensures { λ r. ⌜ Advances (systemOf (now (book .entry))) state (now (area .entry)) r (now (area .exit)) (now (positions .exit)) ⌝ }
 {
-    let n = state.n;
+    let gap = state.gap;
     let mut level = state.level;
     let mut floor = level;
-    let mut since = wide(area[TERM_WORDS + level]);
+    let mut since = wide(area[COUNTS + level]);
     loop {
-        let at = at_level(n, level, floor, since);
+        let at = at_level(gap, level, floor, since);
         let event = take_transition(book, shape, index, area, positions, at);
         match event {
             Event::Repeated => {}
             Event::Rules => {
-                let p = positions[level];
-                let fit = first_rule(book, shape, &area[p..n]);
-                let m = fit.matched;
-                let found = m.rule;
+                let redex = first_redex(book, shape, index, area, gap, positions[level]);
+                let found = redex.rule;
                 match found {
                     FirstRule::Nothing => {}
                     _ => {
-                        return ready(level, fit);
+                        return Advanced {
+                            stop: Stop::Ready,
+                            level,
+                            redex,
+                        };
                     }
                 }
             }
@@ -170,7 +170,7 @@ pub fn advance(
                 level -= 1;
                 if level < floor {
                     floor = level;
-                    since = wide(area[TERM_WORDS + level]);
+                    since = wide(area[COUNTS + level]);
                 }
             }
             Event::TooDeep => {
@@ -180,30 +180,16 @@ pub fn advance(
     }
 }
 
-fn ready(level: usize, fit: Search) -> Advanced
-    ensures { λ r. ⌜ r ≡ record { stop = Ready; level = level; matched = fit .matched; width = fit .width } ⌝ }
-{
-    let matched = fit.matched;
-    let width = fit.width;
-    Advanced {
-        stop: Stop::Ready,
-        level,
-        matched,
-        width,
-    }
-}
-
 fn stopped(stop: Stop, level: usize) -> Advanced
     ensures { λ r. ⌜ (r .stop ≡ stop) × (r .level ≡ level) ⌝ }
 {
     Advanced {
         stop,
         level,
-        matched: Match {
+        redex: Redex {
             rule: FirstRule::Nothing,
             starts: [0; VARIABLES],
             lengths: [0; VARIABLES],
         },
-        width: 0,
     }
 }

@@ -1,23 +1,32 @@
-// One rewrite in an area of lent words.
+// One rewrite in the rows: the reduct is written before what follows the redex, from its end to its front, with its lengths, and what follows
+// stays where it is. The words with which both sides of the rule end stay too.
 ghost use mathlib.Core.Path.{_≡_};
-ghost use Prim.Native.Nat.{_+_, _-_, _≤_};
-ghost use lib.ListN.{length, drop};
+ghost use Prim.Native.Nat.{ℕ, _+_, _-_, _≤_};
+ghost use mathlib.Core.Bool.{Bool};
+ghost use lib.ListN.{length, getD, drop};
 ghost use Rattle.buffers.specs.moves.Parts.{part};
-ghost use Rattle.buffers.specs.Words.{over, zeros};
-ghost use Rattle.machine.specs.reducts.Reduct.{Writable, reduct};
-ghost use Rattle.machine.specs.reducts.Replaced.{Replaceable, Replaced, Puttable, Put};
+ghost use Rattle.system.specs.Answers.{signatureOf};
+ghost use Rattle.rows.specs.lengths.Written.{Written};
+ghost use Rattle.matching.specs.rules.Searches.{reductLength};
+ghost use Rattle.machine.specs.reducts.Reduct.{Sided, stretchAt, Stretchable, Writable, reduct};
+ghost use Rattle.machine.specs.reducts.Replaced.{Removable, Aside, Puttable, Put};
 ghost use Rattle.machine.specs.reducts.Rewritten.{Reducible, Rewrites};
-use buffers::clear;
 use buffers::move_words;
 use matching::FirstRule;
-use matching::Match;
-use matching::rules::reduct_length;
-use system::limits::TERM_WORDS;
+use matching::redexes::Redex;
+use rows::gap::Gap;
+use rows::gap::move_gap;
+use rows::lengths::COUNTS;
+use rows::lengths::copy;
+use rows::lengths::push;
+use rows::lengths::push_all;
+use system::layout::index::rule_start;
+use system::layout::rules::rule_at;
 use system::limits::VARIABLE;
 use system::limits::VARIABLES;
 use system::words::wide;
 
-// The subterm of the innermost level: how many levels stand around it, its position in the term, and how many words it has.
+// Words of the term that are to be replaced: how many levels stand around them, the position of the first, and how many they are.
 pub struct Subterm {
     pub level: usize,
     pub at: usize,
@@ -26,130 +35,188 @@ pub struct Subterm {
 
 // What the variables of a right side stand for: stretches of the redex, by the first word and the number of words of each.
 struct Stretches {
-    starts: [usize; VARIABLES],
-    lengths: [usize; VARIABLES],
+    starts: [u16; VARIABLES],
+    lengths: [u16; VARIABLES],
 }
 
-// What a rewrite came to: it is done, and the term has so many words now; or the term would have more than 4,096.
+// Where the words of the redex stand in the area: those before word `end` from `base` on; word i from there on at `later` and i. They are
+// crowded if the reduct has no room beside them: then the first ones stand behind the counts, without their lengths.
+struct Source {
+    base: usize,
+    end: usize,
+    later: usize,
+    crowded: bool,
+}
+
+// What a rewrite came to: it is done, and the gap is there now; or the term would have more than 4,096 words.
 pub enum Reduced {
-    Done(usize),
+    Done(Gap),
     TooLong,
 }
 
-// Moves n words; where they stay where they are, nothing is done.
-fn move_tail(area: &mut [u16], from: usize, to: usize, n: usize)
-    requires { ⌜ (from + n ≤ length (now area)) × (to + n ≤ length (now area)) ⌝ }
-    ensures { λ _. ⌜ now (area .exit) ≡ over (now (area .entry)) to (part from n (now (area .entry))) ⌝ }
+// How many words the reduct has: the side's, with the variables' terms of these lengths in their places.
+fn reduct_length(side: &[u16], lengths: [u16; VARIABLES]) -> usize
+    requires { ⌜ Sided (now side) ⌝ }
+    ensures { λ r. ⌜ r ≡ reductLength lengths (now (side .entry)) ⌝ }
 {
-    if from != to {
-        move_words(area, from, to, n);
+    let mut total = 0;
+    let mut j = 0;
+    while j < side.len() {
+        let w = wide(side[j]);
+        j += 1;
+        if w < VARIABLE {
+            total += 1;
+        } else {
+            total += wide(lengths[w - VARIABLE]);
+        }
     }
+    total
 }
 
-// Zeros from index a up to b, none where b is not above a.
-fn clear_between(area: &mut [u16], a: usize, b: usize)
-    requires { ⌜ b ≤ length (now area) ⌝ }
-    ensures { λ _. ⌜ now (area .exit) ≡ over (now (area .entry)) a (zeros (b - a)) ⌝ }
+// With how many words both sides end alike.
+fn shared_end(lhs: &[u16], rhs: &[u16]) -> usize
+    ensures { λ r. ⌜ (r ≤ length (now (lhs .entry))) × (r ≤ length (now (rhs .entry)))
+        × (drop (length (now (lhs .entry)) - r) (now (lhs .entry)) ≡ drop (length (now (rhs .entry)) - r) (now (rhs .entry))) ⌝ }
 {
-    if a < b {
-        clear(area, a, b - a);
+    let mut j = 0;
+    while j < lhs.len() {
+        if rhs.len() <= j {
+            return j;
+        }
+        if lhs[lhs.len() - 1 - j] != rhs[rhs.len() - 1 - j] {
+            return j;
+        }
+        j += 1;
     }
+    j
 }
 
-// Writes the reduct over the area from `at` on: the words of the right side, each variable filled with its stretch of the words from
-// `base` on.
-fn write_reduct(side: &[u16], area: &mut [u16], c: Stretches, at: usize, base: usize)
-    requires { ⌜ Writable (now side) (now area) c at base ⌝ }
-    ensures { λ _. ⌜ now (area .exit) ≡ over (now (area .entry)) at (reduct (now (side .entry)) c (drop base (now (area .entry)))) ⌝ }
+// Where word i of the redex stands in the area.
+fn stretch_at(source: Source, i: usize) -> usize
+    requires { ⌜ (source .base ≤ 65535) × (source .later ≤ 65535) × (i ≤ 65535) ⌝ }
+    ensures { λ r. ⌜ r ≡ stretchAt source i ⌝ }
+{
+    if i < source.end {
+        return source.base + i;
+    }
+    source.later + i
+}
+
+// Puts n words from `from` on before those from `back` on, with their lengths: copied, or measured anew where they stand alone.
+fn put_stretch(book: &[u16], area: &mut [u16], back: usize, from: usize, n: usize, crowded: bool) -> usize
+    requires { ⌜ Stretchable (signatureOf (now book)) (now area) back from n crowded ⌝ }
+    ensures { λ r. ⌜ Written (signatureOf (now (book .entry))) (now (area .entry)) back (now (area .exit)) r (part from n (now (area .entry))) ⌝ }
+{
+    if crowded {
+        return push_all(book, area, back, from, n);
+    }
+    copy(area, back, from, n)
+}
+
+// Writes the reduct before the words from `back` on: the words of the side, each variable filled with its stretch.
+fn write_reduct(book: &[u16], side: &[u16], area: &mut [u16], back: usize, c: Stretches, source: Source) -> usize
+    requires { ⌜ Writable (signatureOf (now book)) (now side) (now area) back c source ⌝ }
+    ensures { λ r. ⌜ Written (signatureOf (now (book .entry))) (now (area .entry)) back (now (area .exit)) r
+        (reduct (now (side .entry)) c source (now (area .entry))) ⌝ }
 {
     let starts = c.starts;
     let lengths = c.lengths;
-    let mut to = at;
-    let mut j = 0;
-    while j < side.len() {
+    let crowded = source.crowded;
+    let mut to = back;
+    let mut j = side.len();
+    while 0 < j {
+        j -= 1;
         let w = side[j];
         let v = wide(w);
-        j += 1;
         if v < VARIABLE {
-            area[to] = w;
-            to += 1;
+            to = push(book, area, to, w);
         } else {
-            let n = lengths[v - VARIABLE];
-            move_words(area, base + starts[v - VARIABLE], to, n);
-            to += n;
+            let from = stretch_at(source, wide(starts[v - VARIABLE]));
+            to = put_stretch(book, area, to, from, wide(lengths[v - VARIABLE]), crowded);
         }
     }
+    to
 }
 
-// Puts the reduct, of k words, in the place of the subterm u of a term of n words.
-//
-// While it is written the subterm's words, but for its first, stand behind the counts: at `level` levels around the innermost one the term
-// has at least as many words before the subterm, so there is always room. Then they are cleared again, and with them the count of the
-// innermost level, which so starts anew.
-fn replace_subterm(side: &[u16], area: &mut [u16], n: usize, u: Subterm, c: Stretches, k: usize)
-    requires { ⌜ Replaceable (now side) (now area) n u c k ⌝ }
-    ensures { λ _. ⌜ Replaced (now (side .entry)) (now (area .entry)) n u c (now (area .exit)) ⌝ }
+// Where the words of the redex are to be read, if k words come in the place of those of u, which stand before the gap. Where these would be
+// written over they are set aside behind the counts: the term has at least as many words before them as there are levels around.
+fn set_aside(area: &mut [u16], gap: Gap, u: Subterm, k: usize) -> Source
+    requires { ⌜ Removable (now area) gap u ⌝ }
+    ensures { λ r. ⌜ Aside (now (area .entry)) gap u k r (now (area .exit)) ⌝ }
 {
-    let p = u.at;
-    let width = u.width;
-    let base = TERM_WORDS + u.level;
-    let end = p + width;
-    move_words(area, p + 1, base + 1, width - 1);
-    move_tail(area, end, p + k, n - end);
-    write_reduct(side, area, c, p, base);
-    clear_between(area, n - width + k, n);
-    clear(area, base, width);
+    let room = gap.back - gap.front;
+    let later = u.at + room;
+    let end = u.width;
+    if k <= room {
+        return Source {
+            base: u.at,
+            end,
+            later,
+            crowded: false,
+        };
+    }
+    let base = COUNTS + u.level;
+    move_words(area, u.at, base, end);
+    Source {
+        base,
+        end,
+        later,
+        crowded: true,
+    }
 }
 
-// Puts the reduct of a right side, its variables filled with these stretches, in the place of the subterm u of a term of n words. The area is
-// unchanged where the term would be too long.
-fn put_reduct(
-    side: &[u16],
-    area: &mut [u16],
-    n: usize,
-    u: Subterm,
-    starts: [usize; VARIABLES],
-    lengths: [usize; VARIABLES],
-) -> Reduced
-    requires { ⌜ Puttable (now side) (now area) n u (record { starts = starts; lengths = lengths }) ⌝ }
-    ensures { λ r. ⌜ Put (now (side .entry)) (now (area .entry)) n u (record { starts = starts; lengths = lengths }) r (now (area .exit)) ⌝ }
+// Puts the reduct of a side, its variables filled with these stretches, in the place of the words of u. Where the term would be too long it is
+// given up.
+fn put_reduct(book: &[u16], side: &[u16], area: &mut [u16], gap: Gap, u: Subterm, c: Stretches) -> Reduced
+    requires { ⌜ Puttable (signatureOf (now book)) (now side) (now area) gap u c ⌝ }
+    ensures { λ r. ⌜ Put (signatureOf (now (book .entry))) (now (side .entry)) (now (area .entry)) gap u c r (now (area .exit)) ⌝ }
 {
-    let k = reduct_length(side, lengths);
-    let after = n - u.width + k;
-    if TERM_WORDS < after {
+    let front = u.at;
+    let k = reduct_length(side, c.lengths);
+    let g = move_gap(area, gap, front + u.width);
+    if g.back < front + k {
         return Reduced::TooLong;
     }
-    let c = Stretches { starts, lengths };
-    replace_subterm(side, area, n, u, c, k);
-    Reduced::Done(after)
+    let source = set_aside(area, g, u, k);
+    let back = write_reduct(book, side, area, g.back, c, source);
+    Reduced::Done(Gap { front, back })
 }
 
-// Puts the reduct of the match m in the place of the subterm u of a term of n words, and starts the innermost level anew: the right side of
-// a listed rule stands in the book, that of a built-in one is the word that it puts there. The area is unchanged where the term would be too
-// long.
-pub fn rewrite(book: &[u16], area: &mut [u16], n: usize, u: Subterm, m: Match) -> Reduced
-    requires { ⌜ Reducible (now book) (now area) n u m ⌝ }
-    ensures { λ r. ⌜ Rewrites (now (book .entry)) (now (area .entry)) n u r (now (area .exit)) ⌝ }
+// Puts the reduct of the match m in the place of the subterm u: the right side of a listed rule stands in the book, that of a built-in one is
+// the word that it puts there.
+pub fn rewrite(book: &[u16], index: &[u16], area: &mut [u16], gap: Gap, u: Subterm, m: Redex) -> Reduced
+    requires { ⌜ Reducible (now book) (now index) (now area) gap u m ⌝ }
+    ensures { λ r. ⌜ Rewrites (now (book .entry)) (now (area .entry)) gap u r (now (area .exit)) ⌝ }
 {
     let found = m.rule;
-    let starts = m.starts;
-    let lengths = m.lengths;
+    let c = Stretches {
+        starts: m.starts,
+        lengths: m.lengths,
+    };
     match found {
         // It never is: the caller found a rule.
         FirstRule::Nothing => {
             return Reduced::TooLong;
         }
         FirstRule::First {
-            number: _,
+            number,
             rhs,
             size,
         } => {
-            let end = rhs + size;
-            return put_reduct(&book[rhs..end], area, n, u, starts, lengths);
+            let r = rule_at(book, rule_start(index, number));
+            let shared = shared_end(&book[r.lhs..r.lhs + r.width], &book[rhs..rhs + size]);
+            let mid = rhs + size - shared;
+            let kept = reduct_length(&book[mid..rhs + size], m.lengths);
+            let front = Subterm {
+                level: u.level,
+                at: u.at,
+                width: u.width - kept,
+            };
+            return put_reduct(book, &book[rhs..mid], area, gap, front, c);
         }
         FirstRule::Computed { number: _, word } => {
             let side = [word; 1];
-            return put_reduct(&side, area, n, u, starts, lengths);
+            return put_reduct(book, &side, area, gap, u, c);
         }
     }
 }

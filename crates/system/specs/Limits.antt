@@ -31,9 +31,10 @@ variables = 16
 abbrev pub termWords : ℕ
 termWords = 4096
 
--- the words of a work buffer that are used: the term, and the counts behind it
+-- the words of a work buffer that are used ("the work buffer becomes 12,288 words"): the term, "beside each word .. the length of the part
+-- that starts there", and the counts of begun entries, a row of 4,096 words each
 abbrev pub areaWords : ℕ
-areaWords = 8192
+areaWords = 12288
 
 -- the deepest level ("from level 64 this is 13")
 abbrev pub levels : ℕ

@@ -23,8 +23,8 @@ pub const PAST_VARIABLES: usize = VARIABLE + VARIABLES;
 // The most words of a term, and the least of an answer buffer.
 pub const TERM_WORDS: usize = 4096;
 
-// The words of a work buffer that are used: the term, and the counts behind it.
-pub const AREA_WORDS: usize = 8192;
+// The words of a work buffer that are used: a row of 4,096 words each for the term, for the lengths beside its words, and for the counts.
+pub const AREA_WORDS: usize = 12288;
 
 // The deepest level of an evaluation.
 pub const LEVELS: usize = 64;

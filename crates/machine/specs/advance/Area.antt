@@ -1,40 +1,32 @@
--- The machine's state as it lies in memory: an area of 8,192 words that holds the term and then the counts of begun entries, outermost
--- level first, each filled up with zeros to 4,096 words.
-use Prim.Native.Nat.{ℕ, suc, _+_, _≤_, _<_}
+-- The machine's state as it lies in memory: an area of 12,288 words. Two rows hold the term and, beside each of its words, the length of the
+-- subterm that starts there; the third one holds the counts of begun entries, outermost level first. What stands in the gap of the rows and
+-- behind the counts does not matter.
+use Prim.Native.Nat.{ℕ, _+_, _≤_, _<_}
 use mathlib.Core.Path.{_≡_}
-use mathlib.Core.List.{List, [], _∷_, _++_}
+use mathlib.Core.List.{List}
 use lib.ListN.{length, getD, take, drop}
-use Rattle.buffers.specs.moves.Parts.{pad}
+use Rattle.system.specs.Signature.{Signature}
 use Rattle.system.specs.System.{System}
 use Rattle.system.specs.Terms.{Whole}
-use Rattle.rewriting.specs.Machine.{strategyAt, down, position}
+use Rattle.rows.specs.declared.gap.Gap.{Gap}
+use Rattle.rows.specs.gap.Gaps.{countsAt, termIn}
+use Rattle.rows.specs.lengths.Measured.{Measured}
+use Rattle.rewriting.specs.Machine.{Opened, strategyAt, position}
 use Rattle.system.specs.Limits.{areaWords, levels, termWords}
 
-unfoldable pub area : List ℕ → List ℕ → List ℕ
-area t counts = pad termWords t ++ pad termWords counts
-
--- what an area holds: a term of n words; and with `level` levels around the innermost one, the counts of those and the innermost one's
-abbrev pub termIn : List ℕ → ℕ → List ℕ
-termIn ws n = take n ws
-
+-- with `level` levels around the innermost one, the counts of those and the innermost one's
 abbrev pub outerIn : List ℕ → ℕ → List ℕ
-outerIn ws level = take level (drop termWords ws)
+outerIn ws level = take level (drop countsAt ws)
 
 abbrev pub countIn : List ℕ → ℕ → ℕ
-countIn ws level = getD ws (termWords + level) 0
+countIn ws level = getD ws (countsAt + level) 0
 
--- an area that holds nothing but a term of n words and the counts of level + 1 levels: zeros stand behind each
-pub record Layout (ws : List ℕ) (n level : ℕ) : Type 0 where
-  pub bounded : n ≤ termWords
-  pub room : level < levels
+-- the area holds the term t, with true lengths, and these counts
+pub record Stands (g : Signature) (ws : List ℕ) (gap : Gap) (t cs : List ℕ) : Type 0 where
   pub total : length ws ≡ areaWords
-  pub equal : ws ≡ area (termIn ws n) (outerIn ws level ++ countIn ws level ∷ [])
-
--- the levels cs are open from p on: at each, the entry last begun is an argument
-pub data Opened (s : System) (t : List ℕ) : ℕ → List ℕ → Type 0 where
-  base : {p : ℕ} → Opened s t p []
-  level : {p c i : ℕ} {cs : List ℕ} → c < length (strategyAt s t p) → getD (strategyAt s t p) c 0 ≡ suc i →
-      Opened s t (down s t p (suc c)) cs → Opened s t p (suc c ∷ cs)
+  pub measured : Measured g ws gap
+  pub term : termIn ws gap ≡ t
+  pub counts : take (length cs) (drop countsAt ws) ≡ cs
 
 -- a state that the machine may be in, the levels `outer` around the innermost one, of which c entries are begun:
 -- never more than 4,096 words in the term, never more than 64 levels
@@ -49,15 +41,15 @@ pub record Valid (s : System) (t outer : List ℕ) (c : ℕ) : Type 0 where
 abbrev pub Positioned : System → List ℕ → List ℕ → List ℕ → Type 0
 Positioned s t outer positions = (k : ℕ) → k ≤ length outer → getD positions k 0 ≡ position s t (take k outer) 0
 
--- an area that holds a state
-pub record Represents (s : System) (ws : List ℕ) (n level : ℕ) : Type 0 where
-  pub valid : Valid s (termIn ws n) (outerIn ws level) (countIn ws level)
-  pub words : length (termIn ws n) ≡ n
+-- an area that holds a state. (02, F-5: the lengths are "true after every step and every opened argument")
+pub record Represents (s : System) (ws : List ℕ) (gap : Gap) (level : ℕ) : Type 0 where
+  pub total : length ws ≡ areaWords
+  pub measured : Measured (s .arities) ws gap
+  pub valid : Valid s (termIn ws gap) (outerIn ws level) (countIn ws level)
   pub levels : length (outerIn ws level) ≡ level
-  pub equal : ws ≡ area (termIn ws n) (outerIn ws level ++ countIn ws level ∷ [])
 
 -- and the positions of its levels
-pub record Tracks (s : System) (ws positions : List ℕ) (n level : ℕ) : Type 0 where
-  pub represents : Represents s ws n level
+pub record Tracks (s : System) (ws positions : List ℕ) (gap : Gap) (level : ℕ) : Type 0 where
+  pub represents : Represents s ws gap level
   pub slots : length positions ≡ levels
-  pub positioned : Positioned s (termIn ws n) (outerIn ws level) positions
+  pub positioned : Positioned s (termIn ws gap) (outerIn ws level) positions

@@ -4,31 +4,31 @@ use mathlib.Core.Path.{_≡_}
 use mathlib.Core.Option.{some}
 use mathlib.Core.List.{List, [], _∷_, _++_}
 use lib.ListN.{length, drop}
-use Rattle.system.specs.Signature.{span}
 use Rattle.system.specs.System.{System}
 use Rattle.matching.specs.Matching.{Contraction, contraction}
-use Rattle.matching.specs.Bindings.{matchOf}
+use Rattle.matching.specs.redexes.Redexes.{redexOf}
 use Rattle.system.specs.Limits.{levels}
 use Rattle.machine.specs.declared.advance.State.{State}
 use Rattle.machine.specs.declared.advance.Advanced.{Advanced}
 use Rattle.machine.specs.declared.advance.Stop.{Stop}
 use Rattle.machine.specs.declared.advance.Stop.the-variants.{Final, Deep, Ready}
 use Rattle.rewriting.specs.Machine.{Next, final, deep, ready, position, advance}
-use Rattle.machine.specs.advance.Area.{area, termIn, outerIn, countIn, Represents, Tracks}
+use Rattle.rows.specs.gap.Gaps.{termIn}
+use Rattle.machine.specs.advance.Area.{outerIn, countIn, Stands, Represents, Tracks}
 
 -- where the machine comes to from the state in an area
 abbrev pub comes : System → State → List ℕ → Next
-comes s at ws = advance s levels (outerIn ws (at .level) ++ countIn ws (at .level) ∷ []) (termIn ws (at .n)) 0
+comes s at ws = advance s levels (outerIn ws (at .level) ++ countIn ws (at .level) ∷ []) (termIn ws (at .gap)) 0
 
 -- its end: the counts are gone
 pub record FinalAt (s : System) (at : State) (ws ws′ : List ℕ) : Type 0 where
   pub next : comes s at ws ≡ final
-  pub stands : ws′ ≡ area (termIn ws (at .n)) []
+  pub stands : Stands (s .arities) ws′ (at .gap) (termIn ws (at .gap)) []
 
 -- an argument that would be opened too deep: the area holds the state as it stands
 pub record DeepAt (s : System) (at : State) (ws : List ℕ) (level : ℕ) (ws′ : List ℕ) : Type 0 where
   pub next : comes s at ws ≡ deep
-  pub represents : Represents s ws′ (at .n) level
+  pub represents : Represents s ws′ (at .gap) level
 
 -- a rewrite: the area holds the state just before it, its 0 counted as begun
 pub record ReadyAt (s : System) (at : State) (ws : List ℕ) (r : Advanced) (ws′ positions′ : List ℕ) : Type 0 where
@@ -37,11 +37,10 @@ pub record ReadyAt (s : System) (at : State) (ws : List ℕ) (r : Advanced) (ws�
   pub x : Contraction
   pub next : comes s at ws ≡ ready outer begun x
   pub level : r .level ≡ length outer
-  pub match : r .matched ≡ matchOf s (drop (position s (termIn ws (at .n)) outer 0) (termIn ws (at .n)))
-  pub contracts : contraction s (drop (position s (termIn ws (at .n)) outer 0) (termIn ws (at .n))) ≡ some x
-  pub width : r .width ≡ span (s .arities) (drop (position s (termIn ws (at .n)) outer 0) (termIn ws (at .n))) 1
-  pub stands : ws′ ≡ area (termIn ws (at .n)) (outer ++ begun ∷ [])
-  pub holds : Tracks s ws′ positions′ (at .n) (r .level)
+  pub redex : r .redex ≡ redexOf s (drop (position s (termIn ws (at .gap)) outer 0) (termIn ws (at .gap)))
+  pub contracts : contraction s (drop (position s (termIn ws (at .gap)) outer 0) (termIn ws (at .gap))) ≡ some x
+  pub stands : Stands (s .arities) ws′ (at .gap) (termIn ws (at .gap)) (outer ++ begun ∷ [])
+  pub holds : Tracks s ws′ positions′ (at .gap) (r .level)
 
 -- which of them, by where it stopped
 abbrev pub Arrives : Stop → System → State → List ℕ → Advanced → List ℕ → List ℕ → Type 0

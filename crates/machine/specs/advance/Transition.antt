@@ -8,7 +8,8 @@ use lib.Dec.{ltb, leb}
 use Rattle.system.specs.Limits.{levels}
 use Rattle.system.specs.System.{System}
 use Rattle.rewriting.specs.Machine.{strategyAt, position}
-use Rattle.machine.specs.advance.Area.{area, termIn, outerIn, countIn, Tracks}
+use Rattle.rows.specs.gap.Gaps.{termIn}
+use Rattle.machine.specs.advance.Area.{outerIn, countIn, Stands, Tracks}
 use Rattle.system.specs.layout.Entries.{entryOf}
 use Rattle.system.specs.declared.layout.entries.Entry.the-variants as entry
 use Rattle.machine.specs.declared.advance.Event.{Event}
@@ -67,7 +68,7 @@ positionsAfter s t positions tooDeep = positions
 
 -- the transition of the state in an area, and the counts there
 abbrev pub next : System → Innermost → List ℕ → Transition
-next s at ws = transition s (termIn ws (at .n)) (outerIn ws (at .level)) (at .since) (countIn ws (at .level))
+next s at ws = transition s (termIn ws (at .gap)) (outerIn ws (at .level)) (at .since) (countIn ws (at .level))
 
 abbrev pub countsIn : Innermost → List ℕ → List ℕ
 countsIn at ws = outerIn ws (at .level) ++ countIn ws (at .level) ∷ []
@@ -75,6 +76,6 @@ countsIn at ws = outerIn ws (at .level) ++ countIn ws (at .level) ∷ []
 -- what `take_transition` hands back and leaves in the area and in the positions; where a level is still open the area holds a state
 pub record Performed (s : System) (at : Innermost) (ws positions : List ℕ) (r : Event) (ws′ positions′ : List ℕ) : Type 0 where
   pub event : r ≡ eventOf (next s at ws)
-  pub stands : ws′ ≡ area (termIn ws (at .n)) (countsAfter (countsIn at ws) (next s at ws))
-  pub noted : positions′ ≡ positionsAfter s (termIn ws (at .n)) positions (next s at ws)
-  pub holds : (level : ℕ) → length (countsAfter (countsIn at ws) (next s at ws)) ≡ suc level → Tracks s ws′ positions′ (at .n) level
+  pub stands : Stands (s .arities) ws′ (at .gap) (termIn ws (at .gap)) (countsAfter (countsIn at ws) (next s at ws))
+  pub noted : positions′ ≡ positionsAfter s (termIn ws (at .gap)) positions (next s at ws)
+  pub holds : (level : ℕ) → length (countsAfter (countsIn at ws) (next s at ws)) ≡ suc level → Tracks s ws′ positions′ (at .gap) level

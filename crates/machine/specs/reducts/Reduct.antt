@@ -1,27 +1,68 @@
--- The reduct of a right side, "the right side, so filled", and what is asked where it is written.
-use Prim.Native.Nat.{ℕ, _+_, _≤_}
+-- The reduct of a side, "the right side, so filled", and what is asked where it is written.
+use Prim.Native.Nat.{ℕ, _+_, _-_, _≤_, _<_}
+use mathlib.Core.Path.{_≡_}
+use mathlib.Core.Logic.{_⊎_}
+use mathlib.Core.Bool.{Bool, true, false, cond}
 use mathlib.Core.List.{List}
-use lib.ListN.{length, drop}
+use lib.ListN.{length, getD}
+use lib.Dec.{ltb}
+use Rattle.buffers.specs.moves.Parts.{part}
+use Rattle.system.specs.Limits.{sideWords, variable, variables, termWords}
+use Rattle.system.specs.Signature.{Signature}
 use Rattle.system.specs.System.{instance}
-use Rattle.matching.specs.declared.Match.{Match}
-use Rattle.matching.specs.Bindings.{Bindings, value}
-use Rattle.matching.specs.rules.Searches.{reductLength, RightSide, Within}
+use Rattle.system.specs.Terms.{Whole, Member}
+use Rattle.rows.specs.gap.Gaps.{behind}
+use Rattle.rows.specs.lengths.Spans.{spans}
+use Rattle.rows.specs.lengths.Measured.{Measured}
+use Rattle.rows.specs.lengths.Written.{Apart, Copyable}
+use Rattle.matching.specs.rules.Searches.{reductLength}
 use Rattle.machine.specs.declared.reducts.Stretches.{Stretches}
+use Rattle.machine.specs.declared.reducts.Source.{Source}
 
--- of a match that was found
-abbrev pub stretchesOf : Match → Stretches
-stretchesOf m = record { starts = m .starts; lengths = m .lengths }
+-- words of a side, or some at its front: symbols and variables of number 0 to 15
+pub record Sided (side : List ℕ) : Type 0 where
+  pub small : length side ≤ sideWords
+  pub known : (j : ℕ) → j < length side → getD side j 0 < variable + variables
 
-abbrev pub stretchBindings : Stretches → Bindings
-stretchBindings c = record { starts = c .starts; lengths = c .lengths }
+-- where word i of the redex stands
+unfoldable pub stretchAt : Source → ℕ → ℕ
+stretchAt source i = cond (ltb i (source .end)) (source .base + i) (source .later + i)
 
--- the right side, in which each variable stands for its stretch of ws
-abbrev pub reduct : List ℕ → Stretches → List ℕ → List ℕ
-reduct side c ws = instance (value ws (stretchBindings c)) side
+-- what variable v stands for, and the side in which each variable stands for that
+abbrev pub stretch : List ℕ → Stretches → Source → ℕ → List ℕ
+stretch ws c source v = part (stretchAt source (getD (c .starts) v 0)) (getD (c .lengths) v 0) ws
 
--- the reduct is to be written at `at`, and the words of the redex stand from `base` on, behind it
-pub record Writable (side ws : List ℕ) (c : Stretches) (at base : ℕ) : Type 0 where
-  pub right : RightSide side
-  pub inside : Within (drop base ws) (c .starts) (c .lengths)
-  pub based : base ≤ length ws
-  pub room : at + reductLength (c .lengths) side ≤ base
+abbrev pub reduct : List ℕ → Stretches → Source → List ℕ → List ℕ
+reduct side c source ws = instance (stretch ws c source) side
+
+-- n words from `from` on may be put before those from `back` on: crowded ones stand where nothing is written, others have true lengths
+abbrev pub Lent : Signature → List ℕ → ℕ → ℕ → ℕ → Bool → Type 0
+Lent g ws back from n true = Apart ws back from n
+Lent g ws back from n false = (from + n ≤ termWords) × Copyable g ws back from n
+
+pub record Stretchable (g : Signature) (ws : List ℕ) (back from n : ℕ) (crowded : Bool) : Type 0 where
+  pub measured : Measured g ws (behind back)
+  pub room : n ≤ back
+  pub lent : Lent g ws back from n crowded
+
+-- the same of a stretch that is to stay while words are written from `back` down to `low`
+pub record Unwritten (g : Signature) (ws : List ℕ) (low back from n : ℕ) : Type 0 where
+  pub whole : Whole g (part from n ws)
+  pub lengths : part (termWords + from) n ws ≡ spans g (part from n ws)
+  pub apart : (from + n ≤ low) ⊎ ((back ≤ from) × (from + n ≤ termWords))
+
+abbrev pub Stays : Signature → List ℕ → ℕ → ℕ → ℕ → ℕ → Bool → Type 0
+Stays g ws low back from n true = Apart ws back from n
+Stays g ws low back from n false = Unwritten g ws low back from n
+
+-- the reduct is to be written before the words from `back` on
+pub record Writable (g : Signature) (side ws : List ℕ) (back : ℕ) (c : Stretches) (source : Source) : Type 0 where
+  pub measured : Measured g ws (behind back)
+  pub sided : Sided side
+  pub starts : length (c .starts) ≡ variables
+  pub lengths : length (c .lengths) ≡ variables
+  pub based : source .base ≤ 65535
+  pub later : source .later ≤ 65535
+  pub room : reductLength (c .lengths) side ≤ back
+  pub stays : (v : ℕ) → Member (variable + v) side →
+      Stays g ws (back - reductLength (c .lengths) side) back (stretchAt source (getD (c .starts) v 0)) (getD (c .lengths) v 0) (source .crowded)

@@ -1,67 +1,92 @@
--- A subterm replaced in an area: what is asked, and what stands there then.
+-- Words of the term replaced by a reduct: what is asked, and what stands in the area then.
 use Prim.Native.Nat.{ℕ, _+_, _-_, _≤_, _<_}
 use mathlib.Core.Path.{_≡_}
-use mathlib.Core.List.{List, _++_}
+use mathlib.Core.Logic.{_⊎_}
+use mathlib.Core.Bool.{true, false, cond}
+use mathlib.Core.List.{List}
 use lib.ListN.{length, getD, take, drop}
-use Rattle.buffers.specs.moves.Parts.{part, pad, splice}
-use Rattle.buffers.specs.Words.{over, zeros}
-use Rattle.matching.specs.rules.Searches.{reductLength, RightSide, Within}
+use lib.Dec.{leb}
+use Rattle.buffers.specs.Words.{over}
+use Rattle.buffers.specs.moves.Parts.{part, splice}
+use Rattle.system.specs.Limits.{areaWords, termWords, variable, variables}
+use Rattle.system.specs.Signature.{Signature}
+use Rattle.system.specs.System.{instance}
+use Rattle.system.specs.Terms.{Whole, Member}
+use Rattle.rows.specs.declared.gap.Gap.{Gap}
+use Rattle.rows.specs.gap.Gaps.{countsAt, lengthRow, termIn, wordsIn, behind, Lies, Gapped}
+use Rattle.rows.specs.lengths.Spans.{spans}
+use Rattle.rows.specs.lengths.Measured.{Measured}
 use Rattle.machine.specs.declared.reducts.Reduced.{Reduced}
 use Rattle.machine.specs.declared.reducts.Reduced.the-variants.{Done, TooLong}
+use Rattle.machine.specs.declared.reducts.Source.{Source}
 use Rattle.machine.specs.declared.reducts.Stretches.{Stretches}
 use Rattle.machine.specs.declared.reducts.Subterm.{Subterm}
-use Rattle.machine.specs.reducts.Reduct.{reduct}
-use Rattle.system.specs.Limits.{areaWords, termWords}
+use Rattle.machine.specs.reducts.Reduct.{Sided}
 
-abbrev pub subtermIn : List ℕ → Subterm → List ℕ
-subtermIn ws u = part (u .at) (u .width) ws
+-- ---- the words set aside
 
--- no stretch starts at the first word: a left side starts with a symbol
-pub record Behind (starts lengths : List ℕ) : Type 0 where
-  pub same : length starts ≡ length lengths
-  pub later : (v : ℕ) → 0 < getD lengths v 0 → 0 < getD starts v 0
+-- the words of u stand before the gap, and there is room for them behind the counts of the levels around them
+pub record Removable (ws : List ℕ) (gap : Gap) (u : Subterm) : Type 0 where
+  pub total : length ws ≡ areaWords
+  pub lies : Lies gap
+  pub stand : u .at + u .width ≡ gap .front
+  pub around : u .level + u .width ≤ termWords
 
--- where `size` words come in the place of the subterm: a term of n words and zeros behind it in the first half of the area, room for the
--- change, and room behind the counts of the levels around the subterm for all its words but the first
-pub record Room (ws : List ℕ) (n : ℕ) (u : Subterm) (size : ℕ) : Type 0 where
-  pub words : length ws ≡ areaWords
-  pub bounded : n ≤ termWords
-  pub zeroed : drop n (take termWords ws) ≡ zeros (termWords - n)
-  pub some : 0 < u .width
-  pub within : u .at + u .width ≤ n
-  pub around : u .level ≤ u .at
-  pub fits : n - u .width + size ≤ termWords
+abbrev pub gapSize : Gap → ℕ
+gapSize gap = gap .back - gap .front
 
--- the reduct of a right side, of k words, comes there
-pub record Replaceable (side ws : List ℕ) (n : ℕ) (u : Subterm) (c : Stretches) (k : ℕ) : Type 0 where
-  pub room : Room ws n u k
-  pub right : RightSide side
-  pub counted : k ≡ reductLength (c .lengths) side
-  pub inside : Within (subtermIn ws u) (c .starts) (c .lengths)
-  pub behind : Behind (c .starts) (c .lengths)
+-- where they are read, if k words come in their place
+abbrev pub sourceOf : Gap → Subterm → ℕ → Source
+sourceOf gap u k =
+    cond (leb k (gapSize gap))
+    (record { base = u .at; end = u .width; later = u .at + gapSize gap; crowded = false })
+    (record { base = countsAt + u .level; end = u .width; later = u .at + gapSize gap; crowded = true })
 
--- what stands there then, with the words v in the subterm's place: the first half with the change and zeros behind the term, the second
--- half with the count and the words behind it cleared
-abbrev pub replaced : List ℕ → ℕ → Subterm → List ℕ → List ℕ
-replaced ws n u v = pad termWords (splice (take n ws) (u .at) (u .width) v) ++ over (drop termWords ws) (u .level) (zeros (u .width))
+-- the area then
+abbrev pub aside : List ℕ → Gap → Subterm → ℕ → List ℕ
+aside ws gap u k = cond (leb k (gapSize gap)) ws (over ws (countsAt + u .level) (part (u .at) (u .width) ws))
 
-abbrev pub Replaced : List ℕ → List ℕ → ℕ → Subterm → Stretches → List ℕ → Type 0
-Replaced side ws n u c ws′ = ws′ ≡ replaced ws n u (reduct side c (subtermIn ws u))
+abbrev pub Aside : List ℕ → Gap → Subterm → ℕ → Source → List ℕ → Type 0
+Aside ws gap u k r ws′ = (r ≡ sourceOf gap u k) × (ws′ ≡ aside ws gap u k)
 
--- ---- the same, where it is not yet known whether the reduct fits
+-- ---- the reduct put in their place
 
-pub record Puttable (side ws : List ℕ) (n : ℕ) (u : Subterm) (c : Stretches) : Type 0 where
-  pub room : (k : ℕ) → n - u .width + k ≤ termWords → Room ws n u k
-  pub bounded : n ≤ termWords
-  pub within : u .at + u .width ≤ n
-  pub right : RightSide side
-  pub inside : Within (subtermIn ws u) (c .starts) (c .lengths)
-  pub behind : Behind (c .starts) (c .lengths)
+-- what variable v stands for: a stretch of the term t, by where it starts behind the first word of u
+abbrev pub filling : List ℕ → Subterm → Stretches → ℕ → List ℕ
+filling t u c v = part (u .at + getD (c .starts) v 0) (getD (c .lengths) v 0) t
 
--- how many words the term has then
-abbrev pub wordsThen : List ℕ → List ℕ → ℕ → Subterm → Stretches → ℕ
-wordsThen side ws n u c = n - u .width + length (reduct side c (subtermIn ws u))
+-- a whole subterm, which lies among the words of u or behind them
+pub record Filled (g : Signature) (t : List ℕ) (u : Subterm) (c : Stretches) (v : ℕ) : Type 0 where
+  pub whole : Whole g (filling t u c v)
+  pub within : u .at + getD (c .starts) v 0 + getD (c .lengths) v 0 ≤ length t
+  pub parted : (getD (c .starts) v 0 + getD (c .lengths) v 0 ≤ u .width) ⊎ (u .width ≤ getD (c .starts) v 0)
 
-pub data Put (side ws : List ℕ) (n : ℕ) (u : Subterm) (c : Stretches) (r : Reduced) (ws′ : List ℕ) : Type 0 where
-  fits : wordsThen side ws n u c ≤ termWords → r ≡ Done (wordsThen side ws n u c) → Replaced side ws n u c ws′ → Put side ws n u c r ws′
-  exceeds : termWords < wordsThen side ws n u c → r ≡ TooLong → ws′ ≡ ws → Put side ws n u c r ws′
+pub record Puttable (g : Signature) (side ws : List ℕ) (gap : Gap) (u : Subterm) (c : Stretches) : Type 0 where
+  pub total : length ws ≡ areaWords
+  pub measured : Measured g ws gap
+  pub within : u .at + u .width ≤ wordsIn gap
+  pub around : u .level + u .width ≤ termWords
+  pub sided : Sided side
+  pub starts : length (c .starts) ≡ variables
+  pub lengths : length (c .lengths) ≡ variables
+  pub filled : (v : ℕ) → Member (variable + v) side → Filled g (termIn ws gap) u c v
+
+-- the term then
+abbrev pub spliced : List ℕ → List ℕ → Subterm → Stretches → List ℕ
+spliced side t u c = splice t (u .at) (u .width) (instance (filling t u c) side)
+
+-- the area ws′ holds the term t′ in the place of t, with the gap before what was put there. The lengths of what stands behind the gap are true;
+-- those before it are still those of t; the counts of `level` levels are what they were in ws
+pub record Placed (g : Signature) (ws t t′ : List ℕ) (at level : ℕ) (gap′ : Gap) (ws′ : List ℕ) : Type 0 where
+  pub front : gap′ .front ≡ at
+  pub gapped : Gapped ws′ gap′
+  pub total : length ws′ ≡ areaWords
+  pub term : termIn ws′ gap′ ≡ t′
+  pub later : Measured g ws′ (behind (gap′ .back))
+  pub before : take at (lengthRow ws′) ≡ take at (spans g t)
+  pub outer : take level (drop countsAt ws′) ≡ take level (drop countsAt ws)
+
+pub data Put (g : Signature) (side ws : List ℕ) (gap : Gap) (u : Subterm) (c : Stretches) (r : Reduced) (ws′ : List ℕ) : Type 0 where
+  fits : length (spliced side (termIn ws gap) u c) ≤ termWords → (gap′ : Gap) → r ≡ Done gap′ →
+      Placed g ws (termIn ws gap) (spliced side (termIn ws gap) u c) (u .at) (u .level) gap′ ws′ → Put g side ws gap u c r ws′
+  exceeds : termWords < length (spliced side (termIn ws gap) u c) → r ≡ TooLong → length ws′ ≡ areaWords → Put g side ws gap u c r ws′
