@@ -26,7 +26,7 @@ place-after g i h = ap (λ b. cond b i (i + (g .back - g .front))) (le-ltb i (g 
 -- ---- over one row
 
 module _ (g : Gap) (row : List ℕ) (lies : Lies g) (whole : length row ≡ termWords) where
-  front-length : length (take (g .front) row) ≡ g .front
+  pub front-length : length (take (g .front) row) ≡ g .front
   front-length = length-take-le (g .front) row (omega (arith, lies .low, lies .high))
 
   pub closed-row-length : length (closed g row) ≡ wordsIn g
@@ -76,6 +76,12 @@ place-bound g i lies h = at (ltb i (g .front)) refl
 pub closed-open : (b : ℕ) (row : List ℕ) → closed (behind b) row ≡ drop b row
 unfolding closed
 closed-open b row = refl
+
+pub term-behind : (ws : List ℕ) (b : ℕ) → termIn ws (behind b) ≡ drop b (wordRow ws)
+term-behind ws b = closed-open b (wordRow ws)
+
+pub lengths-behind : (ws : List ℕ) (b : ℕ) → lengthsIn ws (behind b) ≡ drop b (lengthRow ws)
+lengths-behind ws b = closed-open b (lengthRow ws)
 
 -- ---- over an area
 

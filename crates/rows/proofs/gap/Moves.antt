@@ -53,16 +53,16 @@ closed-moved-on g g′ n row lies whole ef eb high′ =
 
 module _ (ws ws₁ ws₂ : List ℕ) (from to n : ℕ) (room : countsAt ≤ length ws) (source : from + n ≤ termWords) (target : to + n ≤ termWords)
     (first : ws₁ ≡ over ws to (part from n ws)) (second : ws₂ ≡ over ws₁ (termWords + to) (part (termWords + from) n ws₁)) where
-  length₁ : length ws₁ ≡ length ws
+  pub length₁ : length ws₁ ≡ length ws
   length₁ = ap (λ (l : List ℕ). length l) first ∙ length-sets ws to (part from n ws)
 
   pub rows-total : length ws₂ ≡ length ws
   rows-total = ap (λ (l : List ℕ). length l) second ∙ length-sets ws₁ (termWords + to) (part (termWords + from) n ws₁) ∙ length₁
 
-  words₁ : RowsOf ws₁ (over (wordRow ws) to (part from n ws)) (lengthRow ws) (drop countsAt ws)
+  pub words₁ : RowsOf ws₁ (over (wordRow ws) to (part from n ws)) (lengthRow ws) (drop countsAt ws)
   words₁ = rw first (word-over-row ws to (part from n ws) (rw (length-part from n ws (omega arith)) target))
 
-  lengths₂ : RowsOf ws₂ (wordRow ws₁) (over (lengthRow ws₁) to (part (termWords + from) n ws₁)) (drop countsAt ws₁)
+  pub lengths₂ : RowsOf ws₂ (wordRow ws₁) (over (lengthRow ws₁) to (part (termWords + from) n ws₁)) (drop countsAt ws₁)
   lengths₂ = rw second (length-over-row ws₁ to (part (termWords + from) n ws₁) (rw (length-part (termWords + from) n ws₁ (omega (arith, length₁))) target))
 
   pub rows-moved : RowsOf ws₂ (over (wordRow ws) to (part from n (wordRow ws))) (over (lengthRow ws) to (part from n (lengthRow ws))) (drop countsAt ws)
@@ -76,7 +76,7 @@ module _ (ws ws₁ ws₂ : List ℕ) (from to n : ℕ) (room : countsAt ≤ leng
       }
 
 -- both rows without their gap are what they were
-moved-by : (ws ws₂ : List ℕ) (g g′ : Gap) (words lengths : List ℕ) → Gapped ws g → Lies g′ → wordsIn g′ ≡ wordsIn g → length ws₂ ≡ length ws →
+pub moved-by : (ws ws₂ : List ℕ) (g g′ : Gap) (words lengths : List ℕ) → Gapped ws g → Lies g′ → wordsIn g′ ≡ wordsIn g → length ws₂ ≡ length ws →
     RowsOf ws₂ words lengths (drop countsAt ws) → closed g′ words ≡ closed g (wordRow ws) → closed g′ lengths ≡ closed g (lengthRow ws) →
     Moved ws g (g′ .front) g′ ws₂
 moved-by ws ws₂ g g′ words lengths h lies size total rows ew el = record {

@@ -5,10 +5,10 @@ use Prim.Native.Nat.{ℕ, suc, _+_, _≤_, _<_}
 use native.Mathlib.Omega.{arith}
 use native.Mathlib.Nat.{add-suc}
 use lib.ListN.{length, take, drop, getD, set, length-take, length-drop}
-use lib.Seq.{sets, take-set-le, take-set-lt, drop-set-lt, drop-set-add, take-take, drop-drop, getD-take, getD-drop}
+use lib.Seq.{sets, take-set-le, take-set-lt, drop-set-add, take-take, drop-drop, getD-take, getD-drop}
 use Rattle.buffers.specs.Words.{over}
 use Rattle.buffers.specs.moves.Parts.{part}
-use Rattle.buffers.proofs.Over.{part-slice, take-over, drop-over, part-below, part-above}
+use Rattle.buffers.proofs.Over.{part-slice, take-over, drop-over, part-above}
 use Rattle.system.specs.Limits.{termWords}
 use Rattle.rows.specs.gap.Gaps.{countsAt, wordRow, lengthRow, closed, termIn, lengthsIn}
 use Rattle.rows.specs.declared.gap.Gap.{Gap}
@@ -63,10 +63,10 @@ pub same-lengths : {ws ws′ : List ℕ} → SameRows ws ws′ → (g : Gap) →
 same-lengths s g = ap (λ (row : List ℕ). closed g row) (s .lengths)
 
 -- a row of an area is one of its first words
-word-row-in : (ws : List ℕ) → wordRow ws ≡ wordRow (take countsAt ws)
+pub word-row-in : (ws : List ℕ) → wordRow ws ≡ wordRow (take countsAt ws)
 word-row-in ws = sym (take-take termWords countsAt ws (omega arith))
 
-length-row-in : (ws : List ℕ) → lengthRow ws ≡ drop termWords (take countsAt ws)
+pub length-row-in : (ws : List ℕ) → lengthRow ws ≡ drop termWords (take countsAt ws)
 length-row-in ws = part-slice termWords termWords ws
 
 pub rows-same : (ws ws′ : List ℕ) → take countsAt ws ≡ take countsAt ws′ → SameRows ws ws′
