@@ -1,5 +1,5 @@
 // Matching a left side, the first rule that matches, and the strategy test (01: the order test): the second library, built on the
-// contracts of `system`. The two operations here ask nothing of their caller; `rules` and `safety::test` are the inner interface for
+// contracts of `system` and `rows`. The two operations here ask nothing of their caller; `redexes`, `rules` and `safety::test` are the inner interface for
 // the layers above, over a book that was scanned.
 ghost use mathlib.Core.Path.{_≡_};
 ghost use Rattle.matching.specs.Bindings.{matchIn};
@@ -11,6 +11,7 @@ use system::numbers::TAKEN;
 use system::reader::scan_book;
 
 mod operators;
+pub mod redexes;
 pub mod rules;
 pub mod safety;
 
@@ -48,8 +49,7 @@ pub fn first_match(book: &[u16], ws: &[u16]) -> Match
             lengths: [0; VARIABLES],
         };
     }
-    let fit = rules::first_rule(book, s.shape, ws);
-    fit.matched
+    rules::first_rule(book, s.shape, ws)
 }
 
 // The strategy test: the reader's answer where it refuses the book, else 0 0 0 where every symbol passes, and otherwise 14 with the

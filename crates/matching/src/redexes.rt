@@ -3,13 +3,13 @@
 ghost use mathlib.Core.Path.{_≡_};
 ghost use Prim.Native.Nat.{_≤_, _<_};
 ghost use lib.ListN.{getD, drop};
+ghost use Rattle.system.specs.Signature.{Signature};
 ghost use Rattle.system.specs.Answers.{signatureOf};
 ghost use Rattle.system.specs.Book.{systemOf, Accepted};
 ghost use Rattle.system.specs.layout.Index.{Indexed};
 ghost use Rattle.rows.specs.gap.Gaps.{wordsIn, termIn, Gapped};
 ghost use Rattle.rows.specs.lengths.Measured.{Measured};
-ghost use Rattle.matching.specs.Matching.{computed};
-ghost use Rattle.matching.specs.Bindings.{consumed, computedRule};
+ghost use Rattle.matching.specs.Bindings.{noBindings, consumed};
 ghost use Rattle.matching.specs.redexes.Redexes.{redexOf};
 use crate::FirstRule;
 use crate::operators::computed;
@@ -84,6 +84,7 @@ pub fn first_redex(book: &[u16], shape: Shape, index: &[u16], area: &[u16], gap:
     if LITERAL <= wide(head) {
         return unbound(computed(head, word_or_none(area, gap, p + 1), word_or_none(area, gap, p + 2)));
     }
+    let mut found = unbound(FirstRule::Nothing);
     let mut k = first_of(index, shape, head);
     'rules: while k < shape.rules {
         let number = k;
@@ -114,11 +115,12 @@ pub fn first_redex(book: &[u16], shape: Shape, index: &[u16], area: &[u16], gap:
             rhs: r.rhs,
             size: r.size,
         };
-        return Redex {
+        found = Redex {
             rule,
             starts,
             lengths,
         };
+        break 'rules;
     }
-    unbound(FirstRule::Nothing)
+    found
 }

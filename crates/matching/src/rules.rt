@@ -1,16 +1,16 @@
 // The inner interface for the layers above: matching against an accepted book whose shape is known.
 ghost use mathlib.Core.Path.{_≡_};
-ghost use Prim.Native.Nat.{ℕ, _≤_};
+ghost use Prim.Native.Nat.{_≤_};
 ghost use lib.ListN.{length, getD};
 ghost use Rattle.system.specs.Answers.{signatureOf};
 ghost use Rattle.system.specs.Book.{systemOf, Accepted};
-ghost use Rattle.matching.specs.Bindings.{consumed};
-ghost use Rattle.matching.specs.rules.Searches.{searchOf, ruleNumber, RightSide, reductLength};
+ghost use Rattle.matching.specs.Bindings.{consumed, matchOf};
+ghost use Rattle.matching.specs.rules.Searches.{ruleNumber};
 use crate::FirstRule;
 use crate::Match;
 use crate::operators::computed;
-use crate::operators::starts_built_in;
 use system::Shape;
+use system::built_ins::LITERAL;
 use system::layout::rules::rule_at;
 use system::limits::VARIABLE;
 use system::limits::VARIABLES;
@@ -19,12 +19,6 @@ use system::words::wide;
 
 // No rule's number, and no word's.
 const UNNUMBERED: usize = 65536;
-
-// What was found, and how many words the left side that matched took: all those of the subterm.
-pub struct Search {
-    pub matched: Match,
-    pub width: usize,
-}
 
 // How many words at the front of ws a word of a left side takes; 0 where the words are unequal.
 fn consumed(book: &[u16], l: u16, ws: &[u16]) -> usize
@@ -42,20 +36,33 @@ fn consumed(book: &[u16], l: u16, ws: &[u16]) -> usize
     1
 }
 
+// Word i of ws; 0, which is no literal, where it has no such word.
+fn word_of(ws: &[u16], i: usize) -> u16
+    ensures { λ r. ⌜ r ≡ getD (now (ws .entry)) i 0 ⌝ }
+{
+    if ws.len() <= i {
+        return 0;
+    }
+    ws[i]
+}
+
 // The first rule that matches the subterm at the front of ws; what follows the subterm does not count. A listed left side starts below the
 // literals, a built-in one above them, so that one look at the first word tells which rules there may be. Most listed rules start with
 // another symbol: they are given up before the stretches are cleared.
-pub fn first_rule(book: &[u16], shape: Shape, ws: &[u16]) -> Search
+pub fn first_rule(book: &[u16], shape: Shape, ws: &[u16]) -> Match
     requires { ⌜ Accepted (now book) shape ⌝ }
-    ensures { λ r. ⌜ r ≡ searchOf (systemOf (now (book .entry))) (now (ws .entry)) ⌝ }
+    ensures { λ r. ⌜ r ≡ matchOf (systemOf (now (book .entry))) (now (ws .entry)) ⌝ }
 {
-    if starts_built_in(ws) {
-        return computed(ws);
+    if LITERAL <= wide(word_of(ws, 0)) {
+        return Match {
+            rule: computed(word_of(ws, 0), word_of(ws, 1), word_of(ws, 2)),
+            starts: [0; VARIABLES],
+            lengths: [0; VARIABLES],
+        };
     }
     let mut found = FirstRule::Nothing;
     let mut starts = [0usize; VARIABLES];
     let mut lengths = [0usize; VARIABLES];
-    let mut end = 0;
     let mut k = 0;
     let mut at = shape.first_rule;
     'rules: while k < shape.rules {
@@ -93,36 +100,13 @@ pub fn first_rule(book: &[u16], shape: Shape, ws: &[u16]) -> Search
         };
         starts = s;
         lengths = l;
-        end = q;
         break 'rules;
     }
-    Search {
-        matched: Match {
-            rule: found,
-            starts: starts,
-            lengths: lengths,
-        },
-        width: end,
+    Match {
+        rule: found,
+        starts: starts,
+        lengths: lengths,
     }
-}
-
-// How many words the reduct has: the right side's, with the variables' terms of these lengths in their places.
-pub fn reduct_length(side: &[u16], lengths: [usize; VARIABLES]) -> usize
-    requires { ⌜ RightSide (now side) × ((v : ℕ) → getD lengths v 0 ≤ 65535) ⌝ }
-    ensures { λ r. ⌜ r ≡ reductLength lengths (now (side .entry)) ⌝ }
-{
-    let mut total = 0;
-    let mut j = 0;
-    while j < side.len() {
-        let w = wide(side[j]);
-        j += 1;
-        if w < VARIABLE {
-            total += 1;
-        } else {
-            total += lengths[w - VARIABLE];
-        }
-    }
-    total
 }
 
 // The number of the rule that was found; where none was, one that no word is.
