@@ -22,7 +22,7 @@ use machine::reducts::Subterm;
 use machine::reducts::rewrite;
 use matching::rules::rule_number;
 use system::Shape;
-use system::layout::index::MARKS;
+use system::layout::index::INDEX;
 use system::layout::index::build_index;
 use system::limits::AREA_WORDS;
 use system::limits::LEVELS;
@@ -85,7 +85,7 @@ pub fn run(
         (traceOf (evaluation (systemOf (now (book .entry))) (limitsOf bounds (length (now («record» .entry)))) (now (term .entry)))) ⌝ }
 {
     start(area, term);
-    let mut index = [0usize; MARKS];
+    let mut index = [0u16; INDEX];
     build_index(book, shape, &mut index);
     let mut positions = [0usize; LEVELS];
     let mut n = term.len();

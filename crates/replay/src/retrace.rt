@@ -20,7 +20,7 @@ use machine::reducts::rewrite;
 use matching::rules::first_rule;
 use matching::rules::rule_number;
 use system::Shape;
-use system::layout::index::MARKS;
+use system::layout::index::INDEX;
 use system::layout::index::build_index;
 use system::limits::TERM_WORDS;
 use system::numbers::OVERLONG;
@@ -52,7 +52,7 @@ pub struct Retraced {
 fn follow(
     book: &[u16],
     shape: Shape,
-    index: &[usize],
+    index: &[u16],
     area: &mut [u16],
     from: Finger,
     pair: Pair,
@@ -123,7 +123,7 @@ pub fn retrace(
     ensures { λ r. ⌜ Retraces (replay (systemOf (now (book .entry))) (now («record» .entry)) (start (now (term .entry)))) r (now (area .exit)) ⌝ }
 {
     start(area, term);
-    let mut index = [0usize; MARKS];
+    let mut index = [0u16; INDEX];
     build_index(book, shape, &mut index);
     let n = term.len();
     let mut f = Finger { n, level: 0, at: 0 };

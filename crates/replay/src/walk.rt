@@ -84,7 +84,7 @@ fn climb(book: &[u16], area: &mut [u16], f: Finger, q: usize) -> Finger
 fn descend(
     book: &[u16],
     shape: Shape,
-    index: &[usize],
+    index: &[u16],
     area: &mut [u16],
     f: Finger,
     q: usize,
@@ -112,7 +112,7 @@ fn descend(
 pub fn find(
     book: &[u16],
     shape: Shape,
-    index: &[usize],
+    index: &[u16],
     area: &mut [u16],
     f: Finger,
     q: usize,

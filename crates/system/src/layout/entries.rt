@@ -56,7 +56,7 @@ fn built_in_entry(w: u16, c: usize) -> Entry
 }
 
 // Entry c of the strategy of w, of which f entries were begun before the present run of transitions.
-pub fn entry_of(book: &[u16], shape: Shape, index: &[usize], w: u16, f: usize, c: usize) -> Entry
+pub fn entry_of(book: &[u16], shape: Shape, index: &[u16], w: u16, f: usize, c: usize) -> Entry
     requires { ⌜ Accepted (now book) shape × Indexed (now book) shape (now index) ⌝ }
     ensures { λ r. ⌜ r ≡ entryOf (strategy (systemOf (now (book .entry))) w) f c ⌝ }
 {
@@ -104,7 +104,7 @@ fn built_in_among(w: u16, e: usize) -> bool
 }
 
 // Whether entry e stands in the strategy of w: above 0, whether its argument e is evaluated.
-pub fn stands_in(book: &[u16], shape: Shape, index: &[usize], w: u16, e: usize) -> bool
+pub fn stands_in(book: &[u16], shape: Shape, index: &[u16], w: u16, e: usize) -> bool
     requires { ⌜ Accepted (now book) shape × Indexed (now book) shape (now index) ⌝ }
     ensures { λ r. ⌜ r ≡ among e (strategy (systemOf (now (book .entry))) w) ⌝ }
 {
