@@ -8,15 +8,17 @@ use lib.ListN.{length, getD, take, drop, length-append}
 use lib.Seq.{take-all, take-suc, length-take-le, append-snoc}
 use Rattle.system.specs.declared.Shape.{Shape}
 use Rattle.system.specs.System.{System}
-use Rattle.matching.specs.declared.rules.Search.{Search}
+use Rattle.matching.specs.declared.redexes.Redex.{Redex}
 use Rattle.matching.specs.declared.FirstRule.the-variants.{Nothing}
 use Rattle.system.specs.Book.{systemOf, Accepted}
-use Rattle.matching.specs.rules.Searches.{searchOf}
+use Rattle.matching.specs.redexes.Redexes.{redexOf}
 use Rattle.machine.specs.declared.advance.State.{State}
 use Rattle.machine.specs.declared.advance.Event.{Event}
 use Rattle.machine.specs.declared.advance.Event.the-variants.{End, Repeated, Rules, Argument}
-use Rattle.rewriting.specs.Machine.{strategyAt, position, advance}
-use Rattle.machine.specs.advance.Area.{Opened, area, termIn, outerIn, countIn, Valid, Tracks}
+use Rattle.rewriting.specs.Machine.{Opened, strategyAt, position, advance}
+use Rattle.rows.specs.declared.gap.Gap.{Gap}
+use Rattle.rows.specs.gap.Gaps.{termIn}
+use Rattle.machine.specs.advance.Area.{outerIn, countIn, Stands, Valid, Tracks}
 use Rattle.machine.specs.advance.Transition as to
 use Rattle.machine.specs.advance.Transition.{sinceAt, Transition, countsAfter, Performed}
 use Rattle.machine.specs.advance.Arrivals.{comes}
@@ -25,23 +27,23 @@ use Rattle.system.proofs.layout.entries.Asks.{stood}
 use Rattle.machine.proofs.advance.Skipping.{Skips, Skipped, skipped-start, skipped-again, skipped-more, skipped-open, skipped-left}
 use Rattle.machine.proofs.advance.Measure.{remaining, less-end, less-entry, less-argument}
 use Rattle.machine.proofs.advance.Advances.{advance-pop, advance-pass, advance-open}
-use Rattle.machine.proofs.advance.Areas.{held-term, held-outer, held-count}
+use Rattle.machine.proofs.advance.Areas.{held-outer, held-count}
 use Rattle.machine.proofs.advance.Bounds.{Bounds, bounds}
 use Rattle.machine.proofs.advance.Transitions.{Entered, entered-by}
 use Rattle.machine.proofs.advance.Trying.{tried-none}
 
 -- the transitions that are left in the state in an area
-unfoldable pub remainingIn : System → List ℕ → ℕ → ℕ → ℕ
-remainingIn s ws n level = remaining s (termIn ws n) 64 (outerIn ws level ++ countIn ws level ∷ []) 0
+unfoldable pub remainingIn : System → List ℕ → Gap → ℕ → ℕ
+remainingIn s ws gap level = remaining s (termIn ws gap) 64 (outerIn ws level ++ countIn ws level ∷ []) 0
 
 -- a state, of the same term, from which the machine comes to the same place; and what is known of the entries that were followed
 pub record Advancing (s : System) (state : State) (ws₀ ws positions : List ℕ) (level floor since : ℕ) : Type 0 where
-  pub held : Tracks s ws positions (state .n) level
-  pub term : termIn ws (state .n) ≡ termIn ws₀ (state .n)
-  pub same : comes s (record { n = state .n; level = level }) ws ≡ comes s state ws₀
-  pub skipped : Skipped s (termIn ws (state .n)) (outerIn ws level) (countIn ws level) floor since
+  pub held : Tracks s ws positions (state .gap) level
+  pub term : termIn ws (state .gap) ≡ termIn ws₀ (state .gap)
+  pub same : comes s (record { gap = state .gap; level = level }) ws ≡ comes s state ws₀
+  pub skipped : Skipped s (termIn ws (state .gap)) (outerIn ws level) (countIn ws level) floor since
 
-pub advancing-start : (s : System) (state : State) (ws positions : List ℕ) (since : ℕ) → Tracks s ws positions (state .n) (state .level) →
+pub advancing-start : (s : System) (state : State) (ws positions : List ℕ) (since : ℕ) → Tracks s ws positions (state .gap) (state .level) →
     since ≡ countIn ws (state .level) → Advancing s state ws ws positions (state .level) (state .level) since
 advancing-start s state ws positions since h q =
     let level = state .level in
@@ -49,7 +51,7 @@ advancing-start s state ws positions since h q =
       held = h;
       term = refl;
       same = refl;
-      skipped = rw q (skipped-start s (termIn ws (state .n)) (outerIn ws level) (countIn ws level) level (sym (h .represents .levels)));
+      skipped = rw q (skipped-start s (termIn ws (state .gap)) (outerIn ws level) (countIn ws level) level (sym (h .represents .levels)));
     }
 
 -- a round of the loop: the book, the state at the loop's start, the state before the transition, and what the transition left
@@ -68,19 +70,19 @@ pub record Round : Type 0 where
   pub event : Event
   pub ws′ : List ℕ
   pub positions′ : List ℕ
-  pub performed : Performed (systemOf book) (record { n = state .n; level = level; since = sinceAt floor since level }) ws positions event ws′ positions′
+  pub performed : Performed (systemOf book) (record { gap = state .gap; level = level; since = sinceAt floor since level }) ws positions event ws′ positions′
 
 -- it goes on: the same is kept, with fewer transitions left
 pub record Goes (τ : Round) (level floor since : ℕ) : Type 0 where
   pub on : Advancing (systemOf (τ .book)) (τ .state) (τ .ws₀) (τ .ws′) (τ .positions′) level floor since
-  pub less : remainingIn (systemOf (τ .book)) (τ .ws′) (τ .state .n) level < remainingIn (systemOf (τ .book)) (τ .ws) (τ .state .n) (τ .level)
+  pub less : remainingIn (systemOf (τ .book)) (τ .ws′) (τ .state .gap) level < remainingIn (systemOf (τ .book)) (τ .ws) (τ .state .gap) (τ .level)
 
 module _ (τ : Round) where
   abbrev s : System
   s = systemOf (τ .book)
 
-  abbrev n : ℕ
-  n = τ .state .n
+  abbrev gap : Gap
+  gap = τ .state .gap
 
   abbrev ws′ : List ℕ
   ws′ = τ .ws′
@@ -98,7 +100,7 @@ module _ (τ : Round) where
   since = τ .since
 
   abbrev t : List ℕ
-  t = termIn (τ .ws) n
+  t = termIn (τ .ws) gap
 
   abbrev outer : List ℕ
   outer = outerIn (τ .ws) level
@@ -121,14 +123,11 @@ module _ (τ : Round) where
   valid : Valid s t outer c
   valid = τ .kept .held .represents .valid
 
-  words : length t ≡ n
-  words = τ .kept .held .represents .words
-
   levels : length outer ≡ level
   levels = τ .kept .held .represents .levels
 
-  pub round-bounds : Bounds (τ .ws) (τ .positions) n level
-  round-bounds = bounds (τ .book) (τ .shape) (τ .accepted) (τ .ws) (τ .positions) n level (τ .kept .held)
+  pub round-bounds : Bounds (τ .ws) (τ .positions) gap level
+  round-bounds = bounds (τ .book) (τ .shape) (τ .accepted) (τ .ws) (τ .positions) gap level (τ .kept .held)
 
   -- what the event tells
   pub told : (e : Event) → τ .event ≡ e → Entered s t outer f c e
@@ -136,26 +135,23 @@ module _ (τ : Round) where
 
   -- and what stands in the area where the transition is known
   module _ (o : Transition) (q : to.transition s t outer f c ≡ o) where
-    pub stands : ws′ ≡ area t (countsAfter counts o)
-    stands = τ .performed .stands ∙ ap (λ y. area t (countsAfter counts y)) q
+    pub stands : Stands (s .arities) ws′ gap t (countsAfter counts o)
+    stands = subst (λ y. Stands (s .arities) ws′ gap t (countsAfter counts y)) q (τ .performed .stands)
 
-    pub holds-there : (level′ : ℕ) → length (countsAfter counts o) ≡ suc level′ → Tracks s ws′ positions′ n level′
+    pub holds-there : (level′ : ℕ) → length (countsAfter counts o) ≡ suc level′ → Tracks s ws′ positions′ gap level′
     holds-there level′ l = τ .performed .holds level′ (ap (λ y. length (countsAfter counts y)) q ∙ l)
 
   -- ---- to another state
 
-  module _ (outer′ : List ℕ) (c′ level′ : ℕ) (is : ws′ ≡ area t (outer′ ++ c′ ∷ [])) (h : Tracks s ws′ positions′ n level′) (levels′ : length outer′ ≡ level′) where
-    room′ : level′ < 64
-    room′ = let z = h .represents .valid .room in omega (arith, h .represents .levels)
-
-    term′ : termIn ws′ n ≡ t
-    term′ = held-term ws′ t outer′ c′ n level′ is (valid .bounded) words levels′ room′
+  module _ (outer′ : List ℕ) (c′ level′ : ℕ) (is : Stands (s .arities) ws′ gap t (outer′ ++ c′ ∷ [])) (h : Tracks s ws′ positions′ gap level′) (levels′ : length outer′ ≡ level′) where
+    term′ : termIn ws′ gap ≡ t
+    term′ = is .term
 
     outer-is : outerIn ws′ level′ ≡ outer′
-    outer-is = held-outer ws′ t outer′ c′ n level′ is (valid .bounded) words levels′ room′
+    outer-is = held-outer is levels′
 
     count-is : countIn ws′ level′ ≡ c′
-    count-is = held-count ws′ t outer′ c′ n level′ is (valid .bounded) words levels′ room′
+    count-is = held-count is levels′
 
     moved : (floor′ since′ : ℕ) → Skipped s t outer′ c′ floor′ since′ → advance s 64 counts t 0 ≡ advance s 64 (outer′ ++ c′ ∷ []) t 0 →
         remaining s t 64 (outer′ ++ c′ ∷ []) 0 < remaining s t 64 counts 0 → Goes τ level′ floor′ since′
@@ -174,7 +170,7 @@ module _ (τ : Round) where
 
   -- ---- the entry leads to no rewrite
 
-  module _ (more : c < length entries) (is : ws′ ≡ area t (outer ++ suc c ∷ [])) (h : Tracks s ws′ positions′ n level) where
+  module _ (more : c < length entries) (is : Stands (s .arities) ws′ gap t (outer ++ suc c ∷ [])) (h : Tracks s ws′ positions′ gap level) where
     over-it : Skips s t (63 - length outer) here (getD entries c 0) → Goes τ level floor since
     over-it w =
         let z : 63 - length outer ≡ 64 - suc (length outer) = omega arith in
@@ -212,8 +208,8 @@ module _ (τ : Round) where
     depth : length ds ≡ below
     depth = length-take-le below outer (omega (arith, levels))
 
-    left-is : ws′ ≡ area t (ds ++ d ∷ [])
-    left-is = stands (to.end outer) (told End e .1) ∙ ap (area t) snoc
+    left-is : Stands (s .arities) ws′ gap t (ds ++ d ∷ [])
+    left-is = subst (Stands (s .arities) ws′ gap t) snoc (stands (to.end outer) (told End e .1))
 
     left-to : (floor′ since′ : ℕ) → Skipped s t ds d floor′ since′ → Goes τ below floor′ since′
     left-to floor′ since′ w =
@@ -233,8 +229,7 @@ module _ (τ : Round) where
     -- one that was open before
     pub goes-down : (since′ : ℕ) → since′ ≡ countIn ws′ (level - 1) → Goes τ (level - 1) (level - 1) since′
     goes-down since′ e′ =
-        let z : level - 1 < 64 = (let z = valid .room in omega (arith, levels)) in
-        let q : since′ ≡ d = e′ ∙ held-count ws′ t ds d n below left-is (valid .bounded) words depth z in
+        let q : since′ ≡ d = e′ ∙ held-count left-is depth in
         left-to below since′ (subst (λ y. Skipped s t ds d below y) (sym q) (skipped-start s t ds d below (sym depth)))
 
   -- ---- an argument is opened
@@ -254,28 +249,28 @@ module _ (τ : Round) where
   -- ---- the rules are to be tried
 
   module _ (e : τ .event ≡ Rules) where
-    pub tries-is : ws′ ≡ area t (outer ++ suc c ∷ [])
+    pub tries-is : Stands (s .arities) ws′ gap t (outer ++ suc c ∷ [])
     tries-is = stands (to.rules outer (suc c)) (told Rules e .2)
 
-    pub tries-held : Tracks s ws′ positions′ n level
+    pub tries-held : Tracks s ws′ positions′ gap level
     tries-held = holds-there (to.rules outer (suc c)) (told Rules e .2) level begun-one
 
-    pub rules-bounds : Bounds ws′ positions′ n level
-    rules-bounds = bounds (τ .book) (τ .shape) (τ .accepted) ws′ positions′ n level tries-held
+    pub rules-bounds : Bounds ws′ positions′ gap level
+    rules-bounds = bounds (τ .book) (τ .shape) (τ .accepted) ws′ positions′ gap level tries-held
 
     abbrev p : ℕ
     p = getD positions′ level 0
 
     -- the subterm there is the one here
-    pub same-subterm : drop (position s (termIn ws′ n) (outerIn ws′ level) 0) (termIn ws′ n) ≡ drop here t
+    pub same-subterm : drop (position s (termIn ws′ gap) (outerIn ws′ level) 0) (termIn ws′ gap) ≡ drop here t
     same-subterm =
         let et = term′ outer (suc c) level tries-is tries-held levels in
         let eo = outer-is outer (suc c) level tries-is tries-held levels in
         λ j. drop (position s (et j) (eo j) 0) (et j)
 
     -- none matches
-    pub goes-rules : (fit : Search) → fit ≡ searchOf s (take (n - p) (drop p ws′)) → fit .matched .rule ≡ Nothing → Goes τ level floor since
-    goes-rules fit fits q =
+    pub goes-rules : (r : Redex) → r ≡ redexOf s (drop p (termIn ws′ gap)) → r .rule ≡ Nothing → Goes τ level floor since
+    goes-rules r is q =
         let x = told Rules e in
-        let no = tried-none (τ .book) (τ .shape) (τ .accepted) ws′ positions′ n level tries-held fit fits q in
+        let no = tried-none (τ .book) (τ .shape) (τ .accepted) ws′ positions′ gap level tries-held r is q in
         over-it (x .0) tries-is tries-held (subst (Skips s t (63 - length outer) here) (sym (x .1)) (rw same-subterm at no))

@@ -1,89 +1,108 @@
--- The machine's state in an area of words: what is read from it, and what a store in it leaves.
+-- The machine's state in an area of words: what is read from it, and what a store among the counts leaves.
 -- Lengths that the code holds in numbers go in by equations.
-use Prim.Native.Nat.{ℕ, _+_, _-_, _≤_, _<_}
+use Prim.Native.Nat.{ℕ, suc, _+_, _-_, _≤_, _<_}
 use native.Mathlib.Omega.{arith}
-use mathlib.Core.Path.{_≡_, sym, ap, _∙_, subst}
+use mathlib.Core.Path.{_≡_, refl, sym, ap, _∙_, subst}
 use mathlib.Core.List.{List, [], _∷_, _++_}
-use lib.ListN.{length, drop, set, length-append}
-use lib.Seq.{take-at, drop-at, getD-at, getD-drop, set-set, append-snoc}
+use lib.ListN.{length, getD, take, drop, set, length-append, length-drop, length-set}
+use lib.Seq.{take-take, take-suc-set, take-suc, take-append-seam, drop-set-add, getD-take, getD-drop, getD-at}
 use Rattle.system.specs.Limits.{areaWords, termWords}
-use Rattle.buffers.specs.moves.Parts.{pad}
-use Rattle.buffers.specs.Words.{zeros}
-use Rattle.buffers.proofs.Over.{set-right}
-use Rattle.buffers.proofs.Pads.{length-pad, take-pad, pad-zero, pad-push}
+use Rattle.system.specs.Signature.{Signature}
 use Rattle.system.specs.System.{System}
-use Rattle.machine.specs.advance.Area.{area, termIn, outerIn, countIn, Valid, Positioned, Represents, Tracks}
+use Rattle.rows.specs.declared.gap.Gap.{Gap}
+use Rattle.rows.specs.gap.Gaps.{countsAt, termIn}
+use Rattle.rows.specs.lengths.Measured.{Measured}
+use Rattle.rows.proofs.gap.Rows.{rows-set, same-term}
+use Rattle.rows.proofs.lengths.Laws.{measured-same}
+use Rattle.machine.specs.advance.Area.{outerIn, countIn, Stands, Valid, Positioned, Represents, Tracks}
 
-module _ (t counts : List ℕ) (small : length t ≤ termWords) where
-  pub area-length : length counts ≤ termWords → length (area t counts) ≡ areaWords
-  unfolding area
-  area-length h = rw (length-append, length-pad termWords t small, length-pad termWords counts h)
+-- the words behind the rows
+third : (ws : List ℕ) → length ws ≡ areaWords → length (drop countsAt ws) ≡ termWords
+third ws e = length-drop countsAt ws ∙ omega arith
 
-  pub area-term : (n : ℕ) → length t ≡ n → termIn (area t counts) n ≡ t
-  unfolding area
-  area-term n e = take-pad termWords t (pad termWords counts) n e
+module _ {g : Signature} {ws : List ℕ} {gap : Gap} {t : List ℕ} where
+  -- fewer counts
+  pub stands-front : (cs ds : List ℕ) → Stands g ws gap t (cs ++ ds) → Stands g ws gap t cs
+  stands-front cs ds h = record {
+    total = h .total;
+    measured = h .measured;
+    term = h .term;
+    counts = sym (take-take (length cs) (length (cs ++ ds)) (drop countsAt ws) (let z = length-append cs ds in omega arith))
+        ∙ ap (take (length cs)) (h .counts) ∙ take-append-seam cs ds;
+  }
 
-  area-counts : drop termWords (area t counts) ≡ pad termWords counts
-  unfolding area
-  area-counts = drop-at (pad termWords t) (pad termWords counts) termWords (length-pad termWords t small)
+  -- another count behind them
+  pub stands-set : (cs : List ℕ) (level v : ℕ) → length cs ≡ level → level < termWords → Stands g ws gap t cs →
+      Stands g (set ws (countsAt + level) v) gap t (cs ++ v ∷ [])
+  stands-set cs level v e l h =
+      let same = rows-set ws (countsAt + level) v (omega arith) in
+      let n : length (cs ++ v ∷ []) ≡ suc level = length-append cs (v ∷ []) ∙ omega arith in
+      record {
+        total = length-set ws (countsAt + level) v ∙ h .total;
+        measured = measured-same same (length-set ws (countsAt + level) v) (h .measured);
+        term = same-term same gap ∙ h .term;
+        counts = ap (λ y. take y (drop countsAt (set ws (countsAt + level) v))) n
+            ∙ ap (take (suc level)) (drop-set-add countsAt ws level v)
+            ∙ take-suc-set (drop countsAt ws) level v (let z = third ws (h .total) in omega arith)
+            ∙ ap (λ y. y ++ v ∷ []) (ap (λ y. take y (drop countsAt ws)) (sym e) ∙ h .counts);
+      }
 
-  -- a store among the counts
-  area-set : (i v : ℕ) → set (area t counts) (termWords + i) v ≡ pad termWords t ++ set (pad termWords counts) i v
-  unfolding area
-  area-set i v = set-right (pad termWords t) (pad termWords counts) termWords i v (length-pad termWords t small)
+-- what the counts of an area are
+module _ {g : Signature} {ws : List ℕ} {gap : Gap} {t outer : List ℕ} {c level : ℕ} (is : Stands g ws gap t (outer ++ c ∷ [])) (levels : length outer ≡ level) where
+  size : length (outer ++ c ∷ []) ≡ suc level
+  size = length-append outer (c ∷ []) ∙ omega (arith, levels)
 
-module _ (ws t outer : List ℕ) (c n level : ℕ) (is : ws ≡ area t (outer ++ c ∷ [])) (small : length t ≤ termWords) (words : length t ≡ n) (levels : length outer ≡ level) (room : level < 64) where
-  padded : pad termWords (outer ++ c ∷ []) ≡ outer ++ (c ∷ zeros (termWords - length (outer ++ c ∷ [])))
-  unfolding pad
-  padded = append-snoc outer c (zeros (termWords - length (outer ++ c ∷ [])))
-
-  -- what it holds
-  pub held-term : termIn ws n ≡ t
-  held-term = rw is (area-term t (outer ++ c ∷ []) small n words)
+  pub stands-outer : Stands g ws gap t outer
+  stands-outer = stands-front outer (c ∷ []) is
 
   pub held-outer : outerIn ws level ≡ outer
-  held-outer = rw (is, area-counts t (outer ++ c ∷ []) small, padded) (take-at outer _ level levels)
+  held-outer = ap (λ y. take y (drop countsAt ws)) (sym levels) ∙ stands-outer .counts
 
   pub held-count : countIn ws level ≡ c
-  held-count = rw is (sym (getD-drop termWords (area t (outer ++ c ∷ [])) level 0) ∙ rw (area-counts t (outer ++ c ∷ []) small, padded) (getD-at outer c _ 0 level levels))
-
-  pub held-length : length ws ≡ areaWords
-  held-length = rw is (area-length t (outer ++ c ∷ []) small (rw length-append (omega arith)))
+  held-count =
+      let D = drop countsAt ws in
+      let e : take (suc level) D ≡ outer ++ c ∷ [] = ap (λ y. take y D) (sym size) ∙ is .counts in
+      sym (getD-drop countsAt ws level 0) ∙ sym (getD-front D) ∙ ap (λ y. getD y level 0) e ∙ getD-at outer c [] 0 level levels
+    where
+      getD-front : (l : List ℕ) → getD (take (suc level) l) level 0 ≡ getD l level 0
+      getD-front l = getD-take (suc level) l level 0 (omega arith)
 
   -- another count for the innermost level
-  pub count-set : (v : ℕ) → set ws (termWords + level) v ≡ area t (outer ++ v ∷ [])
-  unfolding area
-  count-set v =
-      let e : (x : ℕ) → pad termWords (outer ++ x ∷ []) ≡ set (pad termWords outer) level x = λ x. sym (pad-push termWords outer level x levels (omega arith)) in
-      rw is (area-set t (outer ++ c ∷ []) small level v ∙ ap (λ y. pad termWords t ++ y) (rw (e c, e v) (set-set (pad termWords outer) level c v)))
+  pub count-set : (v : ℕ) → level < termWords → Stands g (set ws (countsAt + level) v) gap t (outer ++ v ∷ [])
+  count-set v l = stands-set outer level v levels l stands-outer
 
-  -- none: the level is left
-  pub count-cleared : set ws (termWords + level) 0 ≡ area t outer
-  unfolding area
-  count-cleared = count-set 0 ∙ ap (λ y. pad termWords t ++ y) (pad-zero termWords outer (omega arith))
+module _ {s : System} {ws : List ℕ} {gap : Gap} {t outer : List ℕ} {c level : ℕ} (is : Stands (s .arities) ws gap t (outer ++ c ∷ [])) (levels : length outer ≡ level)
+    (valid : Valid s t outer c) where
+  pub represents : Represents s ws gap level
+  represents =
+      let e₁ = sym (is .term) in
+      let e₂ = sym (held-outer is levels) in
+      let e₃ = sym (held-count is levels) in
+      record {
+        total = is .total;
+        measured = is .measured;
+        valid = subst (λ y. Valid s y (outerIn ws level) (countIn ws level)) e₁
+            (subst (λ y. Valid s t y (countIn ws level)) e₂ (subst (λ y. Valid s t outer y) e₃ valid));
+        levels = ap length (held-outer is levels) ∙ levels;
+      }
 
-  module _ (s : System) (valid : Valid s t outer c) where
-    pub represents : Represents s ws n level
-    represents =
-        let e₁ = sym held-term in
-        let e₂ = sym held-outer in
-        let e₃ = sym held-count in
-        record {
-          valid = subst (λ y. Valid s y (outerIn ws level) (countIn ws level)) e₁
-              (subst (λ y. Valid s t y (countIn ws level)) e₂ (subst (λ y. Valid s t outer y) e₃ valid));
-          words = ap length held-term ∙ words;
-          levels = ap length held-outer ∙ levels;
-          equal = is ∙ (λ i. area (e₁ i) (e₂ i ++ e₃ i ∷ []));
-        }
+  pub holds : (positions : List ℕ) → length positions ≡ 64 → Positioned s t outer positions → Tracks s ws positions gap level
+  holds positions slots at = record {
+    represents = represents;
+    slots = slots;
+    positioned = subst (λ y. Positioned s y (outerIn ws level) positions) (sym (is .term)) (subst (λ y. Positioned s t y positions) (sym (held-outer is levels)) at);
+  }
 
-    pub holds : (positions : List ℕ) → length positions ≡ 64 → Positioned s t outer positions → Tracks s ws positions n level
-    holds positions slots at = record {
-      represents = represents;
-      slots = slots;
-      positioned = subst (λ y. Positioned s y (outerIn ws level) positions) (sym held-term) (subst (λ y. Positioned s t y positions) (sym held-outer) at);
+-- an area that holds a state, as it stands
+pub stands-state : {s : System} {ws : List ℕ} {gap : Gap} {level : ℕ} → Represents s ws gap level →
+    Stands (s .arities) ws gap (termIn ws gap) (outerIn ws level ++ countIn ws level ∷ [])
+stands-state {s} {ws} {gap} {level} h =
+    let n : length (outerIn ws level ++ countIn ws level ∷ []) ≡ suc level = length-append (outerIn ws level) (countIn ws level ∷ []) ∙ omega (arith, h .levels) in
+    let z = h .valid .room in
+    record {
+      total = h .total;
+      measured = h .measured;
+      term = refl;
+      counts = ap (λ y. take y (drop countsAt ws)) n ∙ take-suc (drop countsAt ws) level 0 (let y = third ws (h .total) in omega (arith, h .levels))
+          ∙ ap (λ y. outerIn ws level ++ y ∷ []) (getD-drop countsAt ws level 0);
     }
-
--- a new level's count is 0 already
-pub area-pushed : (t outer : List ℕ) → length outer < termWords → area t outer ≡ area t (outer ++ 0 ∷ [])
-unfolding area
-area-pushed t outer h = ap (λ y. pad termWords t ++ y) (sym (pad-zero termWords outer h))

@@ -11,25 +11,28 @@ use Rattle.system.specs.System.{System}
 use Rattle.system.specs.Book.{systemOf, Accepted}
 use Rattle.system.proofs.layout.Books.{well}
 use Rattle.rewriting.specs.Machine.{position}
-use Rattle.machine.specs.advance.Area.{termIn, outerIn, countIn, Valid, Tracks}
+use Rattle.rows.specs.declared.gap.Gap.{Gap}
+use Rattle.rows.specs.gap.Gaps.{termIn, wordsIn, Gapped}
+use Rattle.rows.proofs.gap.Closed.{closed-length}
+use Rattle.machine.specs.advance.Area.{outerIn, countIn, Valid, Tracks}
 use Rattle.machine.proofs.advance.States.{valid-within}
-use Rattle.machine.proofs.advance.Areas.{held-length}
 
-pub record Bounds (ws positions : List ℕ) (n level : ℕ) : Type 0 where
+pub record Bounds (ws positions : List ℕ) (gap : Gap) (level : ℕ) : Type 0 where
   pub total : length ws ≡ areaWords
   pub slots : length positions ≡ 64
-  pub small : n ≤ termWords
+  pub gapped : Gapped ws gap
   pub shallow : level < 64
-  pub within : getD positions level 0 < n
+  pub within : getD positions level 0 < wordsIn gap
+  pub small : wordsIn gap ≤ termWords
   -- so that one more fits a word
   pub few : countIn ws level ≤ 16
 
-module _ (b : List ℕ) (sh : Shape) (acc : Accepted b sh) (ws positions : List ℕ) (n level : ℕ) (v : Tracks (systemOf b) ws positions n level) where
+module _ (b : List ℕ) (sh : Shape) (acc : Accepted b sh) (ws positions : List ℕ) (gap : Gap) (level : ℕ) (v : Tracks (systemOf b) ws positions gap level) where
   abbrev s : System
   s = systemOf b
 
   abbrev t : List ℕ
-  t = termIn ws n
+  t = termIn ws gap
 
   abbrev outer : List ℕ
   outer = outerIn ws level
@@ -47,13 +50,16 @@ module _ (b : List ℕ) (sh : Shape) (acc : Accepted b sh) (ws positions : List 
   pub spot : getD positions level 0 ≡ position s t outer 0
   spot = v .positioned level (omega (arith, levels)) ∙ ap (λ y. position s t y 0) (take-all level outer (omega (arith, levels)))
 
-  pub bounds : Bounds ws positions n level
+  words : length t ≡ wordsIn gap
+  words = closed-length ws gap (v .represents .measured .gapped)
+
+  pub bounds : Bounds ws positions gap level
   bounds =
-      let words = v .represents .words in
       let room : level < 64 = (let z = valid .room in omega (arith, levels)) in
       record {
-        total = held-length ws t outer c n level (v .represents .equal) (valid .bounded) words levels room;
+        total = v .represents .total;
         slots = v .slots;
+        gapped = v .represents .measured .gapped;
         small = (let z = valid .bounded in omega (arith, words));
         shallow = room;
         within = (let z = valid-within s (well b sh acc) t outer c valid in omega (arith, spot, words));

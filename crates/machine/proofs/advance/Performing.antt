@@ -1,5 +1,5 @@
 -- One transition of the machine in an area of words, by what the next entry asks for.
-use Prim.Native.Nat.{ℕ, suc, _+_, _-_, _≤_, _<_}
+use Prim.Native.Nat.{ℕ, suc, _+_, _≤_, _<_}
 use native.Mathlib.Omega.{arith}
 use native.Mathlib.Numerals.{add-one}
 use native.Mathlib.Decide.{ℕ-discrete}
@@ -7,41 +7,40 @@ use mathlib.Core.Path.{_≡_, refl, sym, ap, _∙_, subst}
 use mathlib.Core.Bool.{false}
 use mathlib.Core.List.{List, [], _∷_, _++_}
 use lib.ListN.{length, getD, take, drop, set, length-append, length-set}
-use lib.Seq.{take-all, take-suc, take-take, take-append-le, getD-take, getD-set-same, getD-set-other, length-take-le}
-use Rattle.system.specs.Limits.{termWords}
-use Rattle.buffers.proofs.Over.{part-slice}
+use lib.Seq.{take-all, take-suc, take-take, take-append-le, getD-set-same, getD-set-other, length-take-le}
 use Rattle.system.specs.declared.Shape.{Shape}
 use Rattle.system.specs.Signature.{span, argument}
 use Rattle.system.specs.System.{System, strategy}
 use Rattle.system.specs.Terms.{WellFormed}
-use Rattle.system.specs.Answers.{signatureOf}
 use Rattle.system.specs.Book.{systemOf, Accepted}
-use Rattle.system.proofs.layout.Books.{well, signature}
+use Rattle.system.proofs.layout.Books.{well}
 use Rattle.system.specs.declared.layout.entries.Entry.{Entry}
 use Rattle.system.specs.declared.layout.entries.Entry.the-variants as entry
 use Rattle.machine.specs.declared.advance.Event.the-variants.{End, Repeated, Rules, Argument, TooDeep}
 use Rattle.machine.specs.declared.advance.Innermost.{Innermost}
 use Rattle.rewriting.specs.Machine.{strategyAt, down, position}
-use Rattle.machine.specs.advance.Area.{area, termIn, outerIn, countIn, Valid, Positioned, Tracks}
+use Rattle.rows.specs.declared.gap.Gap.{Gap}
+use Rattle.rows.specs.gap.Gaps.{countsAt, termIn, wordsIn}
+use Rattle.machine.specs.advance.Area.{outerIn, countIn, Stands, Valid, Positioned, Tracks}
 use Rattle.system.specs.layout.Entries.{entryOf}
 use Rattle.machine.specs.advance.Transition as to
 use Rattle.machine.specs.advance.Transition.{Transition, eventOf, countsAfter, countsIn, positionsAfter, next, Performed}
 use Rattle.rewriting.proofs.Laws.{position-snoc}
 use Rattle.machine.proofs.advance.States.{valid-pop, valid-pass, valid-open}
 use Rattle.system.proofs.layout.entries.Asks.{stood, Asks, asks, asked-end, asked-again, asked-rules, asked-argument}
-use Rattle.machine.proofs.advance.Areas.{count-set, count-cleared, area-pushed, holds}
+use Rattle.machine.proofs.advance.Areas.{stands-set, stands-outer, stands-state, count-set, holds}
 use Rattle.machine.proofs.advance.Bounds.{spot, bounds}
 use Rattle.machine.proofs.advance.Transitions.{leads-end, leads-repeated, leads-rules, leads-argument, leads-deep}
 
 -- a transition, told by where it leads
 performed : (s : System) (at : Innermost) (ws positions : List ℕ) (o : Transition) → next s at ws ≡ o → (ws′ positions′ : List ℕ) →
-    ws′ ≡ area (termIn ws (at .n)) (countsAfter (countsIn at ws) o) → positions′ ≡ positionsAfter s (termIn ws (at .n)) positions o →
-    ((level : ℕ) → length (countsAfter (countsIn at ws) o) ≡ suc level → Tracks s ws′ positions′ (at .n) level) →
+    Stands (s .arities) ws′ (at .gap) (termIn ws (at .gap)) (countsAfter (countsIn at ws) o) → positions′ ≡ positionsAfter s (termIn ws (at .gap)) positions o →
+    ((level : ℕ) → length (countsAfter (countsIn at ws) o) ≡ suc level → Tracks s ws′ positions′ (at .gap) level) →
     Performed s at ws positions (eventOf o) ws′ positions′
 performed s at ws positions o q ws′ positions′ stands noted holds = record {
   event = ap eventOf (sym q);
-  stands = stands ∙ ap (λ y. area (termIn ws (at .n)) (countsAfter (countsIn at ws) y)) (sym q);
-  noted = noted ∙ ap (positionsAfter s (termIn ws (at .n)) positions) (sym q);
+  stands = subst (λ y. Stands (s .arities) ws′ (at .gap) (termIn ws (at .gap)) (countsAfter (countsIn at ws) y)) (sym q) stands;
+  noted = noted ∙ ap (positionsAfter s (termIn ws (at .gap)) positions) (sym q);
   holds = λ level l. holds level (ap (λ y. length (countsAfter (countsIn at ws) y)) (sym q) ∙ l);
 }
 
@@ -53,11 +52,11 @@ pub record Taking : Type 0 where
   pub at : Innermost
   pub ws : List ℕ
   pub positions : List ℕ
-  pub held : Tracks (systemOf book) ws positions (at .n) (at .level)
+  pub held : Tracks (systemOf book) ws positions (at .gap) (at .level)
   pub k : ℕ
   pub is : k ≡ countIn ws (at .level)
   pub e : Entry
-  pub answers : e ≡ entryOf (strategy (systemOf book) (getD ws (getD positions (at .level) 0) 0)) (at .since) k
+  pub answers : e ≡ entryOf (strategy (systemOf book) (getD (termIn ws (at .gap)) (getD positions (at .level) 0) 0)) (at .since) k
 
 module _ (τ : Taking) where
   abbrev b : List ℕ
@@ -72,8 +71,8 @@ module _ (τ : Taking) where
   abbrev positions : List ℕ
   positions = τ .positions
 
-  abbrev n : ℕ
-  n = at .n
+  abbrev gap : Gap
+  gap = at .gap
 
   abbrev level : ℕ
   level = at .level
@@ -82,7 +81,7 @@ module _ (τ : Taking) where
   s = systemOf b
 
   abbrev t : List ℕ
-  t = termIn ws n
+  t = termIn ws gap
 
   abbrev outer : List ℕ
   outer = outerIn ws level
@@ -99,7 +98,7 @@ module _ (τ : Taking) where
   abbrev f : ℕ
   f = at .since
 
-  v : Tracks s ws positions n level
+  v : Tracks s ws positions gap level
   v = τ .held
 
   valid : Valid s t outer c
@@ -108,11 +107,8 @@ module _ (τ : Taking) where
   wf : WellFormed s
   wf = well b (τ .shape) (τ .accepted)
 
-  small : length t ≤ termWords
-  small = valid .bounded
-
-  words : length t ≡ n
-  words = v .represents .words
+  standing : Stands (s .arities) ws gap t (outer ++ c ∷ [])
+  standing = stands-state (v .represents)
 
   levels : length outer ≡ level
   levels = v .represents .levels
@@ -122,60 +118,61 @@ module _ (τ : Taking) where
 
   -- the innermost level starts where its slot says
   here-is : p ≡ position s t outer 0
-  here-is = spot b (τ .shape) (τ .accepted) ws positions n level v
+  here-is = spot b (τ .shape) (τ .accepted) ws positions gap level v
 
-  within : p < n
-  within = bounds b (τ .shape) (τ .accepted) ws positions n level v .within
+  within : p < wordsIn gap
+  within = bounds b (τ .shape) (τ .accepted) ws positions gap level v .within
 
   asked : Asks entries f c (τ .e)
   asked = subst (Asks entries f c)
       (ap (λ y. entryOf entries f y) (sym (τ .is))
-      ∙ ap (λ y. entryOf (strategy s y) f (τ .k)) (ap (λ y. getD t y 0) (sym here-is) ∙ getD-take n ws p 0 within)
+      ∙ ap (λ y. entryOf (strategy s y) f (τ .k)) (ap (λ y. getD t y 0) (sym here-is))
       ∙ sym (τ .answers))
       (asks entries f c)
 
   -- no entry is left
-  pub performed-end : τ .e ≡ entry.End → Performed s at ws positions End (set ws (termWords + level) 0) positions
+  pub performed-end : τ .e ≡ entry.End → Performed s at ws positions End ws positions
   performed-end q =
       performed s at ws positions (to.end outer) (leads-end s t outer f c (asked-end entries f c (subst (Asks entries f c) q asked)))
-      (set ws (termWords + level) 0) positions cleared refl popped
+      ws positions left refl popped
     where
-      cleared : set ws (termWords + level) 0 ≡ area t outer
-      cleared = count-cleared ws t outer c n level (v .represents .equal) small words levels room
+      left : Stands (s .arities) ws gap t outer
+      left = stands-outer standing levels
 
-      popped : (m : ℕ) → length outer ≡ suc m → Tracks s (set ws (termWords + level) 0) positions n m
+      popped : (m : ℕ) → length outer ≡ suc m → Tracks s ws positions gap m
       popped m z =
           let ds = take m outer in
           let d = getD outer m 0 in
           let y : outer ≡ ds ++ d ∷ [] = sym (take-all (suc m) outer (omega arith)) ∙ take-suc outer m 0 (omega arith) in
           let l : length ds ≡ m = length-take-le m outer (omega arith) in
-          holds (set ws (termWords + level) 0) t ds d n m (cleared ∙ ap (area t) y) small words l (omega (arith, room, levels)) s
-          (valid-pop s wf t outer c valid ds d y) positions (v .slots)
+          holds (subst (Stands (s .arities) ws gap t) y left) l (valid-pop s wf t outer c valid ds d y) positions (v .slots)
           (λ j g. v .positioned j (omega arith) ∙ ap (λ y. position s t y 0) (sym (take-take j m outer (omega arith))))
 
   -- one more entry is begun
-  begun : set ws (termWords + level) (c + 1) ≡ area t (outer ++ suc c ∷ [])
-  begun = count-set ws t outer c n level (v .represents .equal) small words levels room (c + 1) ∙ ap (λ y. area t (outer ++ y ∷ [])) (add-one c)
+  abbrev ws₁ : List ℕ
+  ws₁ = set ws (countsAt + level) (c + 1)
 
-  begun-holds : c < length entries → (m : ℕ) → length (outer ++ suc c ∷ []) ≡ suc m → Tracks s (set ws (termWords + level) (c + 1)) positions n m
+  begun : Stands (s .arities) ws₁ gap t (outer ++ suc c ∷ [])
+  begun = subst (λ y. Stands (s .arities) ws₁ gap t (outer ++ y ∷ [])) (add-one c) (count-set standing levels (c + 1) (omega (arith, room)))
+
+  begun-holds : c < length entries → (m : ℕ) → length (outer ++ suc c ∷ []) ≡ suc m → Tracks s ws₁ positions gap m
   begun-holds more m z =
       let l : length outer ≡ m = (let y = length-append outer (suc c ∷ []) in omega arith) in
-      holds (set ws (termWords + level) (c + 1)) t outer (suc c) n m begun small words l (omega (arith, valid .room)) s
-      (valid-pass s wf t outer c valid more) positions (v .slots) (v .positioned)
+      holds begun l (valid-pass s wf t outer c valid more) positions (v .slots) (v .positioned)
 
   -- the entry stood before
-  pub performed-repeated : τ .e ≡ entry.Repeated → Performed s at ws positions Repeated (set ws (termWords + level) (c + 1)) positions
+  pub performed-repeated : τ .e ≡ entry.Repeated → Performed s at ws positions Repeated ws₁ positions
   performed-repeated q =
       let a = asked-again entries f c (subst (Asks entries f c) q asked) in
       performed s at ws positions (to.repeated outer (suc c)) (leads-repeated s t outer f c (a .0) (a .1))
-      (set ws (termWords + level) (c + 1)) positions begun refl (begun-holds (a .0))
+      ws₁ positions begun refl (begun-holds (a .0))
 
   -- the rules are to be tried
-  pub performed-rules : τ .e ≡ entry.Rules → Performed s at ws positions Rules (set ws (termWords + level) (c + 1)) positions
+  pub performed-rules : τ .e ≡ entry.Rules → Performed s at ws positions Rules ws₁ positions
   performed-rules q =
       let a = asked-rules entries f c (subst (Asks entries f c) q asked) in
       performed s at ws positions (to.rules outer (suc c)) (leads-rules s t outer f c (a .0) (a .1) (a .2))
-      (set ws (termWords + level) (c + 1)) positions begun refl (begun-holds (a .0))
+      ws₁ positions begun refl (begun-holds (a .0))
 
   module _ (i : ℕ) (q : τ .e ≡ entry.Argument i) where
     asks-inner : (c < length entries) × (stood entries f c ≡ false) × (getD entries c 0 ≡ suc i)
@@ -186,14 +183,14 @@ module _ (τ : Taking) where
     performed-deep h =
         let a = asks-inner in
         performed s at ws positions to.tooDeep (leads-deep s t outer f c (a .0) (a .1) i (a .2) (omega (arith, levels)))
-        ws positions (v .represents .equal) refl same
+        ws positions standing refl same
       where
-        same : (m : ℕ) → length (outer ++ c ∷ []) ≡ suc m → Tracks s ws positions n m
+        same : (m : ℕ) → length (outer ++ c ∷ []) ≡ suc m → Tracks s ws positions gap m
         same m z =
             let l : level ≡ m = (let y = length-append outer (c ∷ []) in omega (arith, levels)) in
-            subst (Tracks s ws positions n) l v
+            subst (Tracks s ws positions gap) l v
 
-    module _ (h : level < 63) (r : ℕ) (spans : r ≡ span (signatureOf b) (take (n - (p + 1)) (drop (p + 1) ws)) i) where
+    module _ (h : level < 63) (q′ : ℕ) (hops : q′ ≡ p + 1 + span (s .arities) (drop (p + 1) t) i) where
       more : c < length entries
       more = asks-inner .0
 
@@ -207,35 +204,39 @@ module _ (τ : Taking) where
       depth : length inner ≡ level + 1
       depth = rw length-append (omega (arith, levels))
 
-      start : p + 1 + r ≡ position s t inner 0
+      start : q′ ≡ position s t inner 0
       unfolding down argument
-      start =
-          let e : p + 1 + (n - (p + 1)) ≡ n = omega (arith, within) in
-          let w : take (n - (p + 1)) (drop (p + 1) ws) ≡ drop (suc p) t = part-slice (p + 1) (n - (p + 1)) ws ∙ rw (e, add-one p) in
-          rw (spans, w, add-one p, ← signature b (τ .shape) (τ .accepted), here-is) (sym (position-snoc s t outer (suc c) 0 ∙ rw entry-is))
+      start = rw (hops, add-one p, here-is) (sym (position-snoc s t outer (suc c) 0 ∙ rw entry-is))
+
+      abbrev ws₂ : List ℕ
+      ws₂ = set ws₁ (countsAt + level + 1) 0
+
+      abbrev positions₂ : List ℕ
+      positions₂ = set positions (level + 1) q′
 
       -- the argument is opened
-      pub performed-argument : Performed s at ws positions Argument (set ws (termWords + level) (c + 1)) (set positions (level + 1) (p + 1 + r))
+      pub performed-argument : Performed s at ws positions Argument ws₂ positions₂
       performed-argument =
           performed s at ws positions (to.argument inner) (leads-argument s t outer f c more (asks-inner .1) i entry-is (omega (arith, levels)))
-          (set ws (termWords + level) (c + 1)) (set positions (level + 1) (p + 1 + r)) pushed (λ j. set positions (sym depth j) (start j)) opened
+          ws₂ positions₂ pushed (λ j. set positions (sym depth j) (start j)) opened
         where
-          pushed : set ws (termWords + level) (c + 1) ≡ area t (inner ++ 0 ∷ [])
-          pushed = begun ∙ area-pushed t inner (omega (arith, depth))
+          pushed : Stands (s .arities) ws₂ gap t (inner ++ 0 ∷ [])
+          pushed =
+              let e : countsAt + (level + 1) ≡ countsAt + level + 1 = omega arith in
+              subst (λ y. Stands (s .arities) (set ws₁ y 0) gap t (inner ++ 0 ∷ [])) e (stands-set inner (level + 1) 0 depth (omega (arith, h)) begun)
 
-          positioned : Positioned s t inner (set positions (level + 1) (p + 1 + r))
+          positioned : Positioned s t inner positions₂
           positioned j g = elim (ℕ-discrete j (level + 1)) [
             | yes z ↦
-                rw (z, getD-set-same positions (level + 1) (p + 1 + r) 0 (omega (arith, v .slots)))
+                rw (z, getD-set-same positions (level + 1) q′ 0 (omega (arith, v .slots)))
                 (start ∙ ap (λ y. position s t y 0) (sym (take-all (level + 1) inner (omega (arith, depth)))))
             | no z ↦
-                getD-set-other positions (level + 1) j (p + 1 + r) 0 z ∙ v .positioned j (omega (arith, depth, levels))
+                getD-set-other positions (level + 1) j q′ 0 z ∙ v .positioned j (omega (arith, depth, levels))
                 ∙ ap (λ y. position s t y 0) (sym (take-append-le j outer (suc c ∷ []) (omega (arith, depth, levels))))
           ]
 
-          opened : (m : ℕ) → length (inner ++ 0 ∷ []) ≡ suc m → Tracks s (set ws (termWords + level) (c + 1)) (set positions (level + 1) (p + 1 + r)) n m
+          opened : (m : ℕ) → length (inner ++ 0 ∷ []) ≡ suc m → Tracks s ws₂ positions₂ gap m
           opened m z =
               let l : length inner ≡ m = (let y = length-append inner (0 ∷ []) in omega arith) in
-              holds (set ws (termWords + level) (c + 1)) t inner 0 n m pushed small words l (omega (arith, depth)) s
-              (valid-open s wf t outer c valid more i entry-is (omega (arith, levels))) (set positions (level + 1) (p + 1 + r))
-              (length-set positions (level + 1) (p + 1 + r) ∙ v .slots) positioned
+              holds pushed l (valid-open s wf t outer c valid more i entry-is (omega (arith, levels))) positions₂
+              (length-set positions (level + 1) q′ ∙ v .slots) positioned
