@@ -1,0 +1,2 @@
+-- The lengths of a term's subterms
+pub mod Spans

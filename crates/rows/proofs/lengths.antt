@@ -1,0 +1,4 @@
+-- The lengths are true of a term around a gap
+pub mod Measures
+-- How they are read, from subterm to subterm
+pub mod Hops
