@@ -2,3 +2,5 @@
 pub mod Measures
 -- How they are read, from subterm to subterm
 pub mod Hops
+-- How they are written, with the words, from the end to the front
+pub mod Writes

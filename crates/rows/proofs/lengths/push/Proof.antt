@@ -1,5 +1,60 @@
--- `lengths::push` meets its contract.
+-- `lengths::push` meets its contract: the word's arguments end where `hop` says, and its length is told by that.
+use Prim.Native.Nat.{_+_, _-_, _≤_}
+use native.Mathlib.Omega.{arith}
+use lib.ListN.{length-set}
+use borrow.Author.Needs.{needs}
+use Rattle.system.specs.Limits.{termWords}
+use Rattle.system.specs.Answers.{signatureOf}
+use Rattle.rows.proofs.lengths.Writes.{push-small, written-word}
 use Rattle.rows.proofs.lengths.push.Statement.{statement}
+use Rattle.rows.proofs.lengths.push.Tie as tie
+
+-- ---- the places of the code: the entry, seen from where the arguments' end is known
+
+abbrev entry : tie.After-hop → tie.Start
+entry c = c .before .before .before .before .before
+
+small : (c : tie.After-hop) → c .hop .result + entry c .args .back ≤ termWords
+small c =
+    let x = entry c in
+    let a = x .args in
+    let k = c .before .arity in
+    push-small (x .pre .0) (a .w) (k .result) (c .hop .result) (k .ensures .0) (c .hop .ensures (signatureOf (a .book .now)) (x .pre .0))
+
+-- ---- the needs
+
+hop-requires : tie.Need-hop-requires
+hop-requires c κs = (c .before .before .before .before .pre .0 .gapped, omega arith)
+
+add-area : tie.Need-add-area
+add-area c = let s = small c in omega arith
+
+cast-area : tie.Need-cast-area
+cast-area c = let s = small c in omega arith
+
+slice-write-area-2 : tie.Need-slice-write-area-2
+slice-write-area-2 c =
+    let x = entry c in
+    let a = x .args in
+    let h = x .pre .0 .gapped in
+    let r = h .room in
+    let l = h .lies .high in
+    let s = x .pre .1 in
+    let z = length-set (a .area .now) (a .back - 1) (a .w) in
+    omega arith
+
+returns : tie.Need-returns
+returns c =
+    let x = entry c in
+    let a = x .args in
+    let k = c .before .arity in
+    let s = x .pre .1 in
+    written-word (x .pre .0) (a .w) (k .result) (c .hop .result) (k .ensures .0) (c .hop .ensures (signatureOf (a .book .now)) (x .pre .0))
+    (a .back - 1) (omega arith)
 
 pub push-spec : {M : Type 1} → statement M
-push-spec = ?
+push-spec =
+    tie.close
+    (tie.spec
+    (λ c. search needs) (λ c κs. search needs) hop-requires (λ c. search needs) (λ c. search needs) add-area cast-area (λ c. search needs)
+    (λ c. search needs) slice-write-area-2 (λ c. search needs) returns)

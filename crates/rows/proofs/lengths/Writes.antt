@@ -1,0 +1,103 @@
+-- Words and their lengths written before those behind a gap: in one go, and one after the other.
+use Prim.Native.Nat.{ℕ, suc, _+_, _≤_, _<_}
+use native.Mathlib.Nat.{zero-add, add-zero}
+use native.Mathlib.Omega.{arith}
+use mathlib.Core.Path.{_≡_, refl, sym, ap, _∙_, subst}
+use mathlib.Core.List.{List, [], _∷_, _++_, append-assoc}
+use lib.ListN.{length, take, drop, set, length-append}
+use lib.Seq.{sets, length-sets, sets-eq, drop-at, drop-drop, take-take, take-set-lt, drop-set-add, length-take-le}
+use Rattle.buffers.specs.Words.{over}
+use Rattle.buffers.proofs.Over.{take-over, drop-over}
+use Rattle.system.specs.Limits.{termWords}
+use Rattle.system.specs.Signature.{Signature, arity, span}
+use Rattle.system.proofs.words.SpanSteps.{span-le}
+use Rattle.rows.specs.gap.Gaps.{countsAt, wordRow, lengthRow, Gapped, termIn, behind}
+use Rattle.rows.specs.lengths.Spans.{spans}
+use Rattle.rows.specs.lengths.Measured.{Measured}
+use Rattle.rows.specs.lengths.Written.{Written}
+use Rattle.rows.proofs.Spans.{spans-drop, spans-word, spans-length}
+use Rattle.rows.proofs.lengths.Measures.{word-row-length, length-row-length, row-behind, words-length}
+
+-- ---- written over a list, as the front and the rest of it see it
+
+over-front : (n : ℕ) (l : List ℕ) (i : ℕ) (vs : List ℕ) → i + length vs ≤ n → take n (over l i vs) ≡ over (take n l) i vs
+over-front n l i [] h = refl
+over-front n l i (v ∷ vs) h = over-front n (set l i v) (suc i) vs (omega arith) ∙ ap (λ z. over z (suc i) vs) (take-set-lt n l i v (omega arith))
+
+over-rest : (n : ℕ) (l : List ℕ) (i : ℕ) (vs : List ℕ) → drop n (over l (n + i) vs) ≡ over (drop n l) i vs
+over-rest n l i [] = refl
+over-rest n l i (v ∷ vs) =
+    let e : suc (n + i) ≡ n + suc i = omega arith in
+    ap (λ k. drop n (over (set l (n + i) v) k vs)) e ∙ over-rest n (set l (n + i) v) (suc i) vs ∙ ap (λ z. over z (suc i) vs) (drop-set-add n l i v)
+
+over-behind : (l : List ℕ) (i : ℕ) (vs : List ℕ) → i + length vs ≤ length l → drop i (over l i vs) ≡ vs ++ drop (i + length vs) l
+over-behind l i vs h =
+    ap (drop i) (sets-eq vs l i h ∙ append-assoc (take i l) vs (drop (i + length vs) l))
+    ∙ drop-at (take i l) (vs ++ drop (i + length vs) l) i (length-take-le i l (omega arith))
+
+-- ---- the words `new` and beside them the numbers `ls`, written from `to` on
+
+module _ (ws : List ℕ) (to : ℕ) (new ls : List ℕ) (same : length ls ≡ length new) (fits : to + length new ≤ termWords) (room : countsAt ≤ length ws) where
+  abbrev both : List ℕ
+  both = over (over ws to new) (termWords + to) ls
+
+  both-length : length both ≡ length ws
+  both-length = length-sets (over ws to new) (termWords + to) ls ∙ length-sets ws to new
+
+  both-words : wordRow both ≡ over (wordRow ws) to new
+  both-words = take-over termWords (over ws to new) (termWords + to) ls (omega arith) ∙ over-front termWords ws to new fits
+
+  both-lengths : lengthRow both ≡ over (lengthRow ws) to ls
+  both-lengths =
+      ap (take termWords) (over-rest termWords (over ws to new) to ls ∙ ap (λ z. over z to ls) (drop-over termWords ws to new fits))
+      ∙ over-front termWords (drop termWords ws) to ls (omega arith)
+
+  both-counts : drop countsAt both ≡ drop countsAt ws
+  both-counts = drop-over countsAt (over ws to new) (termWords + to) ls (omega arith) ∙ drop-over countsAt ws to new (omega arith)
+
+  module _ {g : Signature} {back : ℕ} (size : to + length new ≡ back) (m : Measured g ws (behind back)) where
+    both-term : termIn both (behind to) ≡ new ++ termIn ws (behind back)
+    both-term =
+        row-behind to (wordRow both) ∙ ap (drop to) both-words
+        ∙ over-behind (wordRow ws) to new (let z = word-row-length ws room in omega arith)
+        ∙ ap (λ b. new ++ drop b (wordRow ws)) size ∙ ap (λ z. new ++ z) (sym (row-behind back (wordRow ws)))
+
+    both-behind : drop to (lengthRow both) ≡ ls ++ spans g (termIn ws (behind back))
+    both-behind =
+        let e : to + length ls ≡ back = omega arith in
+        ap (drop to) both-lengths ∙ over-behind (lengthRow ws) to ls (let z = length-row-length ws room in omega arith)
+        ∙ ap (λ b. ls ++ drop b (lengthRow ws)) e ∙ ap (λ z. ls ++ z) (sym (row-behind back (lengthRow ws)) ∙ m .lengths)
+
+    -- they are the lengths of the words
+    pub written-over : ls ++ spans g (termIn ws (behind back)) ≡ spans g (new ++ termIn ws (behind back)) →
+        Written g ws back (over (over ws to new) (termWords + to) ls) to new
+    written-over e = record {
+      size = size;
+      measured = record {
+        gapped = record { room = let z = both-length in omega arith; lies = record { low = omega arith; high = omega arith } };
+        lengths = row-behind to (lengthRow both) ∙ both-behind ∙ e ∙ ap (spans g) (sym both-term);
+      };
+      words = both-term;
+      front = ap (take to) both-words ∙ take-over to (wordRow ws) to new (omega arith);
+      lengths = ap (take to) both-lengths ∙ take-over to (lengthRow ws) to ls (omega arith);
+      total = both-length;
+      counts = both-counts;
+    }
+
+-- ---- one word: its length is told by those behind it
+
+module _ {g : Signature} {ws : List ℕ} {back : ℕ} (m : Measured g ws (behind back)) (w k end : ℕ) (counts : k ≡ arity g w)
+    (ends : end ≡ 0 + span g (drop 0 (termIn ws (behind back))) k) where
+  pub push-small : end + back ≤ termWords
+  push-small =
+      let x = span-le g (termIn ws (behind back)) k in
+      let y = words-length (m .gapped) in
+      let z = m .gapped .lies .high in
+      omega arith
+
+  pub written-word : (at : ℕ) → at + 1 ≡ back → Written g ws back (set (set ws at w) (termWords + at) (end + 1)) at (w ∷ [])
+  written-word at e =
+      let t = termIn ws (behind back) in
+      let n : suc (span g t (arity g w)) ≡ end + 1 = (let z = ap (span g t) counts in omega arith) in
+      written-over ws at (w ∷ []) ((end + 1) ∷ []) refl (let z = m .gapped .lies .high in omega arith) (m .gapped .room) e m
+      (sym (spans-word g w t ∙ ap (λ z. z ∷ spans g t) n))
