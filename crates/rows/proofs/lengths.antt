@@ -4,3 +4,4 @@ pub mod Measures
 pub mod Hops
 -- How they are written, with the words, from the end to the front
 pub mod Writes
+pub mod Pushes

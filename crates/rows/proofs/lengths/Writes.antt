@@ -101,3 +101,41 @@ module _ {g : Signature} {ws : List ℕ} {back : ℕ} (m : Measured g ws (behind
       let n : suc (span g t (arity g w)) ≡ end + 1 = (let z = ap (span g t) counts in omega arith) in
       written-over ws at (w ∷ []) ((end + 1) ∷ []) refl (let z = m .gapped .lies .high in omega arith) (m .gapped .room) e m
       (sym (spans-word g w t ∙ ap (λ z. z ∷ spans g t) n))
+
+-- ---- one after the other
+
+pub written-none : {g : Signature} {ws : List ℕ} {b : ℕ} → Measured g ws (behind b) → Written g ws b ws b []
+written-none {b} m = record { size = add-zero b; measured = m; words = refl; front = refl; lengths = refl; total = refl; counts = refl }
+
+module _ {g : Signature} {ws ws′ : List ℕ} {b b′ : ℕ} {new : List ℕ} (v : Written g ws b ws′ b′ new) where
+  pub written-before : b′ ≤ b
+  written-before = let z = v .size in omega arith
+
+  pub written-then : {ws″ : List ℕ} {b″ : ℕ} {new′ : List ℕ} → Written g ws′ b′ ws″ b″ new′ → Written g ws b ws″ b″ (new′ ++ new)
+  written-then {ws″} {b″} {new′} u =
+      let l : b″ ≤ b′ = (let z = u .size in omega arith) in
+      record {
+        size = let x = u .size in let y = v .size in let z = length-append new′ new in omega arith;
+        measured = u .measured;
+        words = u .words ∙ ap (λ z. new′ ++ z) (v .words) ∙ sym (append-assoc new′ new (termIn ws (behind b)));
+        front = u .front ∙ sym (take-take b″ b′ (wordRow ws′) l) ∙ ap (take b″) (v .front) ∙ take-take b″ b′ (wordRow ws) l;
+        lengths = u .lengths ∙ sym (take-take b″ b′ (lengthRow ws′) l) ∙ ap (take b″) (v .lengths) ∙ take-take b″ b′ (lengthRow ws) l;
+        total = u .total ∙ v .total;
+        counts = u .counts ∙ v .counts;
+      }
+
+  -- what stood behind the gap still stands there
+  behind-new : (row : List ℕ) → drop b row ≡ drop (length new) (drop b′ row)
+  behind-new row = ap (λ k. drop k row) (sym (v .size)) ∙ sym (drop-drop (length new) b′ row)
+
+  pub written-words : drop b (wordRow ws′) ≡ drop b (wordRow ws)
+  written-words =
+      behind-new (wordRow ws′) ∙ ap (drop (length new)) (sym (row-behind b′ (wordRow ws′)) ∙ v .words)
+      ∙ drop-at new (termIn ws (behind b)) (length new) refl ∙ row-behind b (wordRow ws)
+
+  pub written-lengths : Measured g ws (behind b) → drop b (lengthRow ws′) ≡ drop b (lengthRow ws)
+  written-lengths m =
+      behind-new (lengthRow ws′) ∙ ap (drop (length new)) (sym (row-behind b′ (lengthRow ws′)) ∙ v .measured .lengths)
+      ∙ sym (spans-drop g (termIn ws′ (behind b′)) (length new))
+      ∙ ap (λ z. spans g z) (ap (drop (length new)) (v .words) ∙ drop-at new (termIn ws (behind b)) (length new) refl)
+      ∙ sym (m .lengths) ∙ row-behind b (lengthRow ws)
