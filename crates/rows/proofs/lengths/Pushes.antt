@@ -13,7 +13,7 @@ use Rattle.system.specs.Signature.{Signature}
 use Rattle.rows.specs.gap.Gaps.{countsAt, wordRow, behind}
 use Rattle.rows.specs.lengths.Measured.{Measured}
 use Rattle.rows.specs.lengths.Written.{Written, Apart}
-use Rattle.rows.proofs.lengths.Writes.{written-none, written-then, written-words}
+use Rattle.rows.proofs.lengths.Writes.{written-none, written-then, written-behind}
 
 -- what is behind the gap or behind both rows is read as before
 module _ {g : Signature} {ws ws′ : List ℕ} {b b′ : ℕ} {new : List ℕ} (v : Written g ws b ws′ b′ new) where
@@ -22,7 +22,7 @@ module _ {g : Signature} {ws ws′ : List ℕ} {b b′ : ℕ} {new : List ℕ} (
       let e : b + (j - b) ≡ j = omega arith in
       let read : (row : List ℕ) → getD (drop b (wordRow row)) (j - b) 0 ≡ getD row j 0 =
           λ row. getD-drop b (wordRow row) (j - b) 0 ∙ ap (λ k. getD (wordRow row) k 0) e ∙ getD-take termWords row j 0 h in
-      sym (read ws′) ∙ ap (λ z. getD z (j - b) 0) (written-words v) ∙ read ws
+      sym (read ws′) ∙ ap (λ z. getD z (j - b) 0) (written-behind v) ∙ read ws
 
   pub written-read-on : (j : ℕ) → countsAt ≤ j → getD ws′ j 0 ≡ getD ws j 0
   written-read-on j l =

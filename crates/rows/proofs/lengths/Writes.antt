@@ -1,21 +1,23 @@
 -- Words and their lengths written before those behind a gap: in one go, and one after the other.
-use Prim.Native.Nat.{ℕ, suc, _+_, _≤_, _<_}
-use native.Mathlib.Nat.{zero-add, add-zero}
+use Prim.Native.Nat.{ℕ, suc, _+_, _-_, _≤_}
+use native.Mathlib.Nat.{add-zero}
 use native.Mathlib.Omega.{arith}
 use mathlib.Core.Path.{_≡_, refl, sym, ap, _∙_, subst}
-use mathlib.Core.List.{List, [], _∷_, _++_, append-assoc}
-use lib.ListN.{length, take, drop, set, length-append}
-use lib.Seq.{sets, length-sets, sets-eq, drop-at, drop-drop, take-take, take-set-lt, drop-set-add, length-take-le}
+use mathlib.Core.List.{List, [], _∷_, _++_, append-assoc, append-nil}
+use mathlib.Core.Logic.{inr}
+use lib.ListN.{length, take, drop, set, length-append, drop-of-length-le}
+use lib.Seq.{length-sets, sets-eq, drop-at, drop-drop, take-take, take-append-seam, take-set-lt, drop-set-add, length-take-le}
 use Rattle.buffers.specs.Words.{over}
-use Rattle.buffers.proofs.Over.{take-over, drop-over}
+use Rattle.buffers.specs.moves.Parts.{part}
+use Rattle.buffers.proofs.Over.{length-part, part-above, take-over, drop-over}
 use Rattle.system.specs.Limits.{termWords}
 use Rattle.system.specs.Signature.{Signature, arity, span}
 use Rattle.system.proofs.words.SpanSteps.{span-le}
-use Rattle.rows.specs.gap.Gaps.{countsAt, wordRow, lengthRow, Gapped, termIn, behind}
+use Rattle.rows.specs.gap.Gaps.{countsAt, wordRow, lengthRow, termIn, behind}
 use Rattle.rows.specs.lengths.Spans.{spans}
 use Rattle.rows.specs.lengths.Measured.{Measured}
-use Rattle.rows.specs.lengths.Written.{Written}
-use Rattle.rows.proofs.Spans.{spans-drop, spans-word, spans-length}
+use Rattle.rows.specs.lengths.Written.{Written, Copyable, Apart, Laid}
+use Rattle.rows.proofs.Spans.{spans-drop, spans-word, spans-append}
 use Rattle.rows.proofs.lengths.Measures.{word-row-length, length-row-length, row-behind, words-length}
 
 -- ---- written over a list, as the front and the rest of it see it
@@ -128,14 +130,69 @@ module _ {g : Signature} {ws ws′ : List ℕ} {b b′ : ℕ} {new : List ℕ} (
   behind-new : (row : List ℕ) → drop b row ≡ drop (length new) (drop b′ row)
   behind-new row = ap (λ k. drop k row) (sym (v .size)) ∙ sym (drop-drop (length new) b′ row)
 
-  pub written-words : drop b (wordRow ws′) ≡ drop b (wordRow ws)
-  written-words =
+  pub written-behind : drop b (wordRow ws′) ≡ drop b (wordRow ws)
+  written-behind =
       behind-new (wordRow ws′) ∙ ap (drop (length new)) (sym (row-behind b′ (wordRow ws′)) ∙ v .words)
       ∙ drop-at new (termIn ws (behind b)) (length new) refl ∙ row-behind b (wordRow ws)
 
-  pub written-lengths : Measured g ws (behind b) → drop b (lengthRow ws′) ≡ drop b (lengthRow ws)
-  written-lengths m =
+  pub written-behind-lengths : Measured g ws (behind b) → drop b (lengthRow ws′) ≡ drop b (lengthRow ws)
+  written-behind-lengths m =
       behind-new (lengthRow ws′) ∙ ap (drop (length new)) (sym (row-behind b′ (lengthRow ws′)) ∙ v .measured .lengths)
       ∙ sym (spans-drop g (termIn ws′ (behind b′)) (length new))
       ∙ ap (λ z. spans g z) (ap (drop (length new)) (v .words) ∙ drop-at new (termIn ws (behind b)) (length new) refl)
       ∙ sym (m .lengths) ∙ row-behind b (lengthRow ws)
+
+-- ---- a whole subterm, copied with its lengths
+
+module _ {g : Signature} {ws : List ℕ} {back from n : ℕ} (few : n ≤ back) (within : from + n ≤ termWords) (c : Copyable g ws back from n) where
+  pub written-copy : {first second : List ℕ} → first ≡ over ws (back - n) (part from n ws) →
+      second ≡ over first (termWords + (back - n)) (part (termWords + from) n first) → Written g ws back second (back - n) (part from n ws)
+  written-copy {first} e e′ =
+      let to = back - n in
+      let new = part from n ws in
+      let ls = part (termWords + from) n ws in
+      let t = termIn ws (behind back) in
+      let room = c .measured .gapped .room in
+      let high = c .measured .gapped .lies .high in
+      let long : length new ≡ n = length-part from n ws (omega arith) in
+      let long′ : length ls ≡ n = length-part (termWords + from) n ws (omega arith) in
+      let kept : part (termWords + from) n first ≡ ls = ap (part (termWords + from) n) e ∙ part-above (termWords + from) n ws to new (omega arith) in
+      subst (λ z. Written g ws back z to new) (sym (e′ ∙ (λ i. over (e i) (termWords + to) (kept i))))
+      (written-over ws to new ls (omega arith) (omega arith) room (omega arith) (c .measured)
+      (ap (λ z. z ++ spans g t) (c .lengths) ∙ sym (spans-append g t (c .whole))))
+
+-- ---- a term at the end of its row
+
+pub term-end : (ws : List ℕ) → countsAt ≤ length ws → termIn ws (behind termWords) ≡ []
+term-end ws h = row-behind termWords (wordRow ws) ∙ drop-of-length-le (wordRow ws) {i = termWords} (let z = word-row-length ws h in omega arith)
+
+pub measured-end : {g : Signature} {ws : List ℕ} → countsAt ≤ length ws → Measured g ws (behind termWords)
+unfolding spans
+measured-end {g} {ws} h = record {
+  gapped = record { room = h; lies = record { low = omega arith; high = omega arith } };
+  lengths = row-behind termWords (lengthRow ws) ∙ drop-of-length-le (lengthRow ws) {i = termWords} (let z = length-row-length ws h in omega arith) ∙ ap (spans g) (sym (term-end ws h));
+}
+
+-- written from the third row
+module _ (ws t : List ℕ) {first : List ℕ} (short : length t ≤ termWords) (room : countsAt + termWords ≤ length ws) (e : first ≡ over ws countsAt t) where
+  first-long : length first ≡ length ws
+  first-long = ap length e ∙ length-sets ws countsAt t
+
+  pub lay-measured : {g : Signature} → Measured g first (behind termWords)
+  lay-measured = measured-end (let z = first-long in omega arith)
+
+  pub lay-apart : Apart first termWords countsAt (length t)
+  lay-apart = record { later = omega arith; fits = let z = first-long in omega arith; either = inr (omega arith) }
+
+  third : part countsAt (length t) first ≡ t
+  third =
+      ap (part countsAt (length t)) e ∙ ap (take (length t)) (over-behind ws countsAt t (omega arith))
+      ∙ take-append-seam t (drop (countsAt + length t) ws)
+
+  pub written-laid : {g : Signature} {second : List ℕ} {b : ℕ} → Written g first termWords second b (part countsAt (length t) first) → Laid g t (length ws) second (behind b)
+  written-laid v = record {
+    measured = v .measured;
+    words = v .words ∙ (λ i. third i ++ term-end first (let z = first-long in omega arith) i) ∙ append-nil t;
+    front = refl;
+    total = v .total ∙ first-long;
+  }
