@@ -1,6 +1,6 @@
 -- The lengths of a term's subterms: how they are read, and how a word's own is told by those behind it, so that the row is written from its end
 -- to its front.
-use Prim.Native.Nat.{ℕ, zero, suc, _+_, _≤_, _<_}
+use Prim.Native.Nat.{ℕ, zero, suc, _+_, _≤_}
 use native.Mathlib.Nat.{zero-add}
 use native.Mathlib.Omega.{arith}
 use mathlib.Core.Path.{_≡_, refl, sym, ap, _∙_}

@@ -1,9 +1,9 @@
 -- From subterm to subterm, by one read for each: what the loop of `lengths::hop` keeps, and its turns.
-use Prim.Native.Nat.{ℕ, zero, suc, _+_, _-_, _≤_, _<_}
+use Prim.Native.Nat.{ℕ, suc, _+_, _-_, _≤_, _<_}
 use native.Mathlib.Omega.{arith}
 use mathlib.Core.Path.{_≡_, refl, sym, ap, _∙_}
-use mathlib.Core.List.{List, []}
-use lib.ListN.{length, getD, drop, drop-of-length-le}
+use mathlib.Core.List.{List}
+use lib.ListN.{getD, drop, drop-of-length-le}
 use Rattle.system.specs.Signature.{Signature, span}
 use Rattle.system.proofs.Forests.{span-zero}
 use Rattle.rows.specs.declared.gap.Gap.{Gap}
@@ -29,11 +29,11 @@ module _ (ws : List ℕ) (gap : Gap) (from k : ℕ) where
         record {
           bound = omega arith;
           here = λ g m.
-            let t = termIn ws gap in
-            let y : getD (spans g t) at 0 ≡ n = sym (e ∙ ap (λ z. getD z at 0) (m .lengths)) in
-            let x : span g (drop at t) due ≡ n + span g (drop (at + n) t) (due - 1) =
-                ap (span g (drop at t)) d ∙ span-hop g t at (due - 1) ∙ ap (λ z. z + span g (drop (at + z) t) (due - 1)) y in
-            omega (arith, v .here g m);
+              let t = termIn ws gap in
+              let y : getD (spans g t) at 0 ≡ n = sym (e ∙ ap (λ z. getD z at 0) (m .lengths)) in
+              let x : span g (drop at t) due ≡ n + span g (drop (at + n) t) (due - 1) =
+              ap (span g (drop at t)) d ∙ span-hop g t at (due - 1) ∙ ap (λ z. z + span g (drop (at + z) t) (due - 1)) y in
+              omega (arith, v .here g m);
         }
 
     -- no word is left

@@ -1,15 +1,15 @@
 -- Lengths that are true of a term around a gap: behind it, before it, and wherever it is moved.
-use Prim.Native.Nat.{ℕ, _+_, _-_, _≤_, _<_}
+use Prim.Native.Nat.{ℕ, _+_, _-_, _≤_}
 use native.Mathlib.Omega.{arith}
 use mathlib.Core.Path.{_≡_, refl, sym, ap, _∙_}
 use mathlib.Core.List.{List, _++_}
-use lib.ListN.{length, getD, take, drop, length-append, length-take, length-drop, take-append-drop}
+use lib.ListN.{length, getD, take, drop, length-append, length-drop, take-append-drop}
 use lib.Seq.{length-take-le, take-take, drop-at}
 use Rattle.buffers.proofs.Over.{part-slice}
 use Rattle.system.specs.Limits.{termWords}
 use Rattle.system.specs.Signature.{Signature, span}
 use Rattle.rows.specs.declared.gap.Gap.{Gap}
-use Rattle.rows.specs.gap.Gaps.{countsAt, wordRow, lengthRow, Lies, Gapped, closed, termIn, lengthsIn, wordsIn, behind, Moved}
+use Rattle.rows.specs.gap.Gaps.{countsAt, wordRow, lengthRow, Gapped, closed, termIn, lengthsIn, wordsIn, behind, Moved}
 use Rattle.rows.specs.lengths.Spans.{spans}
 use Rattle.rows.specs.lengths.Measured.{Measured}
 use Rattle.rows.proofs.Spans.{spans-drop, spans-at}
@@ -63,8 +63,8 @@ module _ {g : Signature} {ws : List ℕ} where
       record {
         gapped = record { room = h .room; lies = record { low = omega arith; high = h .lies .high } };
         lengths =
-          row-behind b (lengthRow ws) ∙ sym (row-drop (lengthRow ws) f b (h .lies .low) (h .lies .high) (length-row-length ws (h .room)))
-          ∙ ap (drop f) (m .lengths) ∙ sym (spans-drop g (termIn ws gap) f) ∙ ap (spans g) (sym (term-behind h));
+            row-behind b (lengthRow ws) ∙ sym (row-drop (lengthRow ws) f b (h .lies .low) (h .lies .high) (length-row-length ws (h .room)))
+            ∙ ap (drop f) (m .lengths) ∙ sym (spans-drop g (termIn ws gap) f) ∙ ap (spans g) (sym (term-behind h));
       }
 
   -- and so they are where those before it are true

@@ -1,10 +1,10 @@
 -- Words put one by one before those behind a gap, the last first: what the loop of `lengths::push_all` keeps, and its turns.
 use Prim.Native.Nat.{ℕ, suc, _+_, _-_, _≤_, _<_}
 use native.Mathlib.Omega.{arith}
-use mathlib.Core.Path.{_≡_, refl, sym, ap, _∙_, subst}
+use mathlib.Core.Path.{_≡_, sym, ap, _∙_, subst}
 use mathlib.Core.Logic.{inl, inr}
 use mathlib.Core.List.{List, [], _∷_}
-use lib.ListN.{length, getD, take, drop, length-drop, drop-of-length-le}
+use lib.ListN.{length, getD, drop, length-drop, drop-of-length-le}
 use lib.Seq.{drop-cons, getD-take, getD-drop}
 use Rattle.buffers.specs.moves.Parts.{part}
 use Rattle.buffers.proofs.Over.{length-part}
@@ -21,14 +21,14 @@ module _ {g : Signature} {ws ws′ : List ℕ} {b b′ : ℕ} {new : List ℕ} (
   written-read j l h =
       let e : b + (j - b) ≡ j = omega arith in
       let read : (row : List ℕ) → getD (drop b (wordRow row)) (j - b) 0 ≡ getD row j 0 =
-          λ row. getD-drop b (wordRow row) (j - b) 0 ∙ ap (λ k. getD (wordRow row) k 0) e ∙ getD-take termWords row j 0 h in
+      λ row. getD-drop b (wordRow row) (j - b) 0 ∙ ap (λ k. getD (wordRow row) k 0) e ∙ getD-take termWords row j 0 h in
       sym (read ws′) ∙ ap (λ z. getD z (j - b) 0) (written-behind v) ∙ read ws
 
   pub written-read-on : (j : ℕ) → countsAt ≤ j → getD ws′ j 0 ≡ getD ws j 0
   written-read-on j l =
       let e : countsAt + (j - countsAt) ≡ j = omega arith in
       let read : (row : List ℕ) → getD (drop countsAt row) (j - countsAt) 0 ≡ getD row j 0 =
-          λ row. getD-drop countsAt row (j - countsAt) 0 ∙ ap (λ k. getD row k 0) e in
+      λ row. getD-drop countsAt row (j - countsAt) 0 ∙ ap (λ k. getD row k 0) e in
       sym (read ws′) ∙ ap (λ z. getD z (j - countsAt) 0) (v .counts) ∙ read ws
 
 -- all but the first i of the words are written
@@ -58,7 +58,7 @@ module _ {g : Signature} (ws : List ℕ) (back from n : ℕ) (m : Measured g ws 
 
     module _ (some : 0 < i) where
       kept : getD ws′ (from + (i - 1)) 0 ≡ getD ws (from + (i - 1)) 0
-      kept = 
+      kept =
           let l = v .within in
           let b = apart .later in
           elim (apart .either) [

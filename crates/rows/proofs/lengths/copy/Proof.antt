@@ -1,6 +1,4 @@
 -- `lengths::copy` meets its contract: two moves, and what follows a whole subterm does not count in its lengths.
-use Prim.Native.Nat.{_+_, _-_}
-use native.Mathlib.Omega.{arith}
 use borrow.Author.Needs.{needs}
 use Rattle.rows.proofs.lengths.Writes.{written-copy}
 use Rattle.rows.proofs.lengths.copy.Statement.{statement}

@@ -1,5 +1,5 @@
 -- `lengths::hop` meets its contract. The loop's invariant: the subterms that are left end where all of them do.
-use Prim.Native.Nat.{_<_, _≤_}
+use Prim.Native.Nat.{_<_}
 use native.Mathlib.Omega.{arith}
 use borrow.Author.Needs.{needs}
 use Rattle.rows.specs.gap.Gaps.{wordsIn}

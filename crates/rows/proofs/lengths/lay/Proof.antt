@@ -1,6 +1,4 @@
 -- `lengths::lay` meets its contract: the term is laid into the third row, and put from there at the end of the first, word by word.
-use Prim.Native.Nat.{_+_}
-use native.Mathlib.Omega.{arith}
 use borrow.Author.Needs.{needs}
 use Rattle.rows.proofs.lengths.Writes.{lay-measured, lay-apart, written-laid}
 use Rattle.rows.proofs.lengths.lay.Statement.{statement}
@@ -20,9 +18,11 @@ push-all-requires : tie.Need-push-all-requires
 push-all-requires c κs =
     let k = copied c in
     let x = entry k in
-    let a = x .args in
-    (lay-measured (a .area .now) (a .term .now) (x .pre .0) (x .pre .1) (k .copy-in .ensures), x .pre .0,
-    lay-apart (a .area .now) (a .term .now) (x .pre .0) (x .pre .1) (k .copy-in .ensures))
+    let a = x .args in (
+      lay-measured (a .area .now) (a .term .now) (x .pre .0) (x .pre .1) (k .copy-in .ensures),
+      x .pre .0,
+      lay-apart (a .area .now) (a .term .now) (x .pre .0) (x .pre .1) (k .copy-in .ensures),
+    )
 
 returns : tie.Need-returns
 returns c =

@@ -1,7 +1,6 @@
 -- `lengths::push_all` meets its contract. The loop's invariant: all but the first i of the words are written.
 use Prim.Native.Nat.{_+_, _≤_, _<_}
 use native.Mathlib.Omega.{arith}
-use mathlib.Core.Path.{_≡_}
 use lib.ListN.{length}
 use borrow.Author.Needs.{needs}
 use Rattle.system.specs.Answers.{signatureOf}
