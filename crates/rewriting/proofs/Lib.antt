@@ -9,5 +9,6 @@ pub mod Found
 -- The machine: its laws, and its theorem
 pub mod Fuel
 pub mod Laws
+pub mod OpenLevels
 pub mod Iterate
 pub mod MachineTheorem

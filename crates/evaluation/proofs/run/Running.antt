@@ -11,11 +11,12 @@ use Rattle.system.specs.Terms.{Whole, WellFormed}
 use Rattle.system.specs.Limits.{termWords, areaWords, levels}
 use Rattle.rewriting.specs.Trace.{Trace}
 use Rattle.rewriting.specs.Evaluation.{Limits, evaluation}
-use Rattle.rewriting.specs.Machine.{position, down}
-use Rattle.machine.specs.advance.Area.{Opened, base, area, termIn, outerIn, countIn, Layout, Valid, Positioned, Represents, Tracks}
+use Rattle.rewriting.specs.Machine.{position, down, Opened, base}
+use Rattle.machine.specs.advance.Area.{area, termIn, outerIn, countIn, Layout, Valid, Positioned, Represents, Tracks}
 use Rattle.rewriting.proofs.Laws.{position-le}
+use Rattle.rewriting.proofs.OpenLevels.{opened-replace}
 use Rattle.rewriting.proofs.MachineTheorem.{remains, remains-start}
-use Rattle.machine.proofs.advance.States.{opened-replace, valid-start, valid-within}
+use Rattle.machine.proofs.advance.States.{valid-start, valid-within}
 use Rattle.machine.proofs.advance.Areas.{held-term, held-outer, held-count, held-length, holds, area-pushed}
 use Rattle.evaluation.specs.declared.recording.Bounds.{Bounds}
 use Rattle.evaluation.specs.recording.Kept.{limitsOf, kept}

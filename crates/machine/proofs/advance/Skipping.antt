@@ -15,8 +15,7 @@ use Rattle.system.specs.Signature.{argument}
 use Rattle.system.specs.System.{System}
 use Rattle.system.specs.Terms.{Member, first, later, among}
 use Rattle.matching.specs.Matching.{contraction}
-use Rattle.rewriting.specs.Machine.{strategyAt, down, position, final, around, scan, enter}
-use Rattle.machine.specs.advance.Area.{level, Opened}
+use Rattle.rewriting.specs.Machine.{strategyAt, down, position, Opened, level, final, around, scan, enter}
 use Rattle.system.specs.layout.Entries.{between}
 use Rattle.machine.specs.advance.Transition.{sinceAt}
 use Rattle.rewriting.proofs.Laws.{position-snoc}
