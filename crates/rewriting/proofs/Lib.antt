@@ -12,3 +12,7 @@ pub mod Laws
 pub mod OpenLevels
 pub mod Iterate
 pub mod MachineTheorem
+-- The lengths beside a term's words, after a rewrite
+pub mod SpansForNow
+pub mod Raises
+pub mod Aboves

@@ -1,0 +1,64 @@
+-- Numbers raised at some indices of a row, one by one: only they change, and each is read before it does.
+use Prim.Native.Nat.{ℕ, suc, _+_, _-_, _<_}
+use native.Mathlib.Omega.{arith}
+use mathlib.Core.Path.{_≡_, refl, sym, ap, _∙_}
+use mathlib.Core.List.{List, [], _∷_, _++_}
+use lib.ListN.{length, getD, set, take, drop, length-set, List·getD-append}
+use lib.Seq.{set-append-left, getD-set-other, take-set-lt, drop-set-lt, getD-take, lt-length-set}
+use Rattle.rewriting.specs.Lengths.{raise}
+
+module _ (d e : ℕ) where
+  pub raise-none : (ls : List ℕ) → raise [] d e ls ≡ ls
+  unfolding raise
+  raise-none ls = refl
+
+  pub raise-more : (q : ℕ) (qs ls : List ℕ) → raise (q ∷ qs) d e ls ≡ raise qs d e (set ls q (getD ls q 0 - d + e))
+  unfolding raise
+  raise-more q qs ls = refl
+
+  -- one index more, as a loop takes them
+  pub raise-snoc : (qs : List ℕ) (q : ℕ) (ls : List ℕ) → raise (qs ++ q ∷ []) d e ls ≡ set (raise qs d e ls) q (getD (raise qs d e ls) q 0 - d + e)
+  unfolding raise
+  raise-snoc [] q ls = refl
+  raise-snoc (x ∷ qs) q ls = raise-snoc qs q (set ls x (getD ls x 0 - d + e))
+
+  pub raise-length : (qs ls : List ℕ) → length (raise qs d e ls) ≡ length ls
+  unfolding raise
+  raise-length [] ls = refl
+  raise-length (q ∷ qs) ls = raise-length qs (set ls q (getD ls q 0 - d + e)) ∙ length-set ls q (getD ls q 0 - d + e)
+
+  -- what stands behind a front that holds the indices stays
+  pub raise-front : (qs xs ys : List ℕ) → ((k : ℕ) → k < length qs → getD qs k 0 < length xs) → raise qs d e (xs ++ ys) ≡ raise qs d e xs ++ ys
+  unfolding raise
+  raise-front [] xs ys h = refl
+  raise-front (q ∷ qs) xs ys h =
+      let l : q < length xs = h 0 (omega arith) in
+      let x = getD xs q 0 - d + e in
+      ap (raise qs d e) (ap (λ z. set (xs ++ ys) q (z - d + e)) (List·getD-append xs ys 0 q l) ∙ set-append-left xs ys q x l)
+      ∙ raise-front qs (set xs q x) ys (λ k m. lt-length-set xs q x (h (suc k) (omega arith)))
+
+  -- the same, of a row's first n numbers and of those behind them
+  pub raise-take : (qs ls : List ℕ) (n : ℕ) → ((k : ℕ) → k < length qs → getD qs k 0 < n) → take n (raise qs d e ls) ≡ raise qs d e (take n ls)
+  unfolding raise
+  raise-take [] ls n h = refl
+  raise-take (q ∷ qs) ls n h =
+      let l : q < n = h 0 (omega arith) in
+      let x = getD ls q 0 - d + e in
+      raise-take qs (set ls q x) n (λ k m. h (suc k) (omega arith))
+      ∙ ap (raise qs d e) (take-set-lt n ls q x l ∙ ap (λ z. set (take n ls) q (z - d + e)) (sym (getD-take n ls q 0 l)))
+
+  pub raise-drop : (qs ls : List ℕ) (n : ℕ) → ((k : ℕ) → k < length qs → getD qs k 0 < n) → drop n (raise qs d e ls) ≡ drop n ls
+  unfolding raise
+  raise-drop [] ls n h = refl
+  raise-drop (q ∷ qs) ls n h =
+      let x = getD ls q 0 - d + e in
+      raise-drop qs (set ls q x) n (λ k m. h (suc k) (omega arith)) ∙ drop-set-lt n ls q x (h 0 (omega arith))
+
+  -- a number behind those that are raised stays
+  pub raise-later : (qs ls : List ℕ) (j : ℕ) → ((k : ℕ) → k < length qs → getD qs k 0 < j) → getD (raise qs d e ls) j 0 ≡ getD ls j 0
+  unfolding raise
+  raise-later [] ls j h = refl
+  raise-later (q ∷ qs) ls j h =
+      let l : q < j = h 0 (omega arith) in
+      let x = getD ls q 0 - d + e in
+      raise-later qs (set ls q x) j (λ k m. h (suc k) (omega arith)) ∙ getD-set-other ls q j x 0 (λ z. omega arith)
