@@ -16,3 +16,4 @@ pub mod MachineTheorem
 pub mod SpansForNow
 pub mod Raises
 pub mod Aboves
+pub mod Below
