@@ -17,3 +17,6 @@ pub mod SpansForNow
 pub mod Raises
 pub mod Aboves
 pub mod Below
+pub mod RowEdits
+pub mod Ways
+pub mod WayLevels
