@@ -20,3 +20,4 @@ pub mod Below
 pub mod RowEdits
 pub mod Ways
 pub mod WayLevels
+pub mod WayRows

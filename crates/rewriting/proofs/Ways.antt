@@ -15,7 +15,7 @@ use Rattle.rewriting.specs.Lengths.{Way, top, down}
 use Rattle.rewriting.proofs.Contractions.{active-within}
 
 -- a list's positions with one more behind them: one of the first, or the last
-snoc-cases : (P : List ℕ → ℕ → Type 0) (ps : List ℕ) (p k : ℕ) → k < length (ps ++ p ∷ []) →
+pub snoc-cases : (P : List ℕ → ℕ → Type 0) (ps : List ℕ) (p k : ℕ) → k < length (ps ++ p ∷ []) →
     (k < length ps → P (take k ps) (getD ps k 0)) → P ps p → P (take k (ps ++ p ∷ [])) (getD (ps ++ p ∷ []) k 0)
 snoc-cases P ps p k h first last =
     elim (decLt k (length ps)) [

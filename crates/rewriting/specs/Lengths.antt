@@ -23,4 +23,5 @@ raise (q ∷ qs) d e ls = raise qs d e (set ls q (getD ls q 0 - d + e))
 -- holds it ("every argument on the way to it stands in the order of the name holding it")
 pub data Way (s : System) (t : List ℕ) : List ℕ → ℕ → Type 0 where
   top : Way s t [] 0
-  down : {ps : List ℕ} {p : ℕ} (i : ℕ) → Way s t ps p → Member (suc i) (strategy s (getD t p 0)) → Way s t (ps ++ p ∷ []) (argument (s .arities) t p i)
+  down : {ps : List ℕ} {p : ℕ} (i : ℕ) → Way s t ps p → Member (suc i) (strategy s (getD t p 0)) →
+      Way s t (ps ++ p ∷ []) (argument (s .arities) t p i)
