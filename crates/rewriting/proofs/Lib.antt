@@ -13,7 +13,6 @@ pub mod OpenLevels
 pub mod Iterate
 pub mod MachineTheorem
 -- The lengths beside a term's words, after a rewrite
-pub mod SpansForNow
 pub mod Raises
 pub mod Aboves
 pub mod Below

@@ -16,8 +16,8 @@ use Rattle.system.proofs.Places.{at-replace}
 use Rattle.rewriting.specs.Rewriting.{root}
 use Rattle.rewriting.specs.Machine.{others, strategyAt, down, position, Opened, base, level}
 use Rattle.rewriting.specs.Lengths.{above, raise}
-use Rattle.rewriting.proofs.SpansForNow.{spans}
-use Rattle.rewriting.proofs.SpansForNow.{spans-length, spans-append}
+use Rattle.rows.specs.lengths.Spans.{spans}
+use Rattle.rows.proofs.Spans.{spans-length, spans-append}
 use Rattle.rewriting.proofs.Raises.{raise-none, raise-more, raise-length}
 use Rattle.rewriting.proofs.Aboves.{above-none, above-more}
 use Rattle.rewriting.proofs.Below.{below-of}

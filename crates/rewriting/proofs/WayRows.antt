@@ -13,8 +13,8 @@ use Rattle.system.proofs.Places.{replace-length}
 use Rattle.system.proofs.words.SpanSteps.{span-le}
 use Rattle.rewriting.specs.Machine.{position, Opened}
 use Rattle.rewriting.specs.Lengths.{above, raise, Way, top, down}
-use Rattle.rewriting.proofs.SpansForNow.{spans}
-use Rattle.rewriting.proofs.SpansForNow.{spans-at}
+use Rattle.rows.specs.lengths.Spans.{spans}
+use Rattle.rows.proofs.Spans.{spans-at}
 use Rattle.rewriting.proofs.Raises.{raise-later}
 use Rattle.rewriting.proofs.Aboves.{above-length}
 use Rattle.rewriting.proofs.Below.{argument-shorter}
