@@ -7,6 +7,9 @@ pub mod Words
 pub mod BindingsAgree
 pub mod Sources
 pub mod Reducts
+-- Where the stretches lie, and what a cut of the left side cuts
+pub mod Placed
+pub mod Splits
 -- The strategy test
 pub mod Idle
 pub mod SafetyTest
