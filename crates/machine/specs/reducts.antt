@@ -1,4 +1,2 @@
 -- A rewrite in an area of words: what the contracts of `reducts` cite. Inner: no public contract rests on it.
-pub mod Reduct
-pub mod Replaced
 pub mod Rewritten

@@ -16,11 +16,11 @@ use Rattle.rows.specs.lengths.Measured.{Measured}
 use Rattle.matching.specs.declared.redexes.Redex.{Redex}
 use Rattle.matching.specs.Matching.{Contraction, contraction}
 use Rattle.matching.specs.redexes.Redexes.{redexOf}
-use Rattle.machine.specs.declared.reducts.Reduced.{Reduced}
-use Rattle.machine.specs.declared.reducts.Reduced.the-variants.{Done, TooLong}
-use Rattle.machine.specs.declared.reducts.Subterm.{Subterm}
+use Rattle.reducts.specs.declared.putting.Reduced.{Reduced}
+use Rattle.reducts.specs.declared.putting.Reduced.the-variants.{Done, TooLong}
+use Rattle.reducts.specs.declared.putting.Subterm.{Subterm}
 use Rattle.rewriting.specs.Rewriting.{Active}
-use Rattle.machine.specs.reducts.Replaced.{Placed}
+use Rattle.reducts.specs.putting.Replaced.{Placed}
 use Rattle.system.specs.Limits.{areaWords, termWords}
 
 -- x is the first rule that matches at the subterm, and its reduct

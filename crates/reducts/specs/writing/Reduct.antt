@@ -1,5 +1,5 @@
 -- The reduct of a side, "the right side, so filled", and what is asked where it is written.
-use Prim.Native.Nat.{ℕ, _+_, _-_, _≤_, _<_}
+use Prim.Native.Nat.{ℕ, _+_, _-_, _≤_}
 use mathlib.Core.Path.{_≡_}
 use mathlib.Core.Logic.{_⊎_}
 use mathlib.Core.Bool.{Bool, true, false, cond}
@@ -7,7 +7,7 @@ use mathlib.Core.List.{List}
 use lib.ListN.{length, getD}
 use lib.Dec.{ltb}
 use Rattle.buffers.specs.moves.Parts.{part}
-use Rattle.system.specs.Limits.{sideWords, variable, variables, termWords}
+use Rattle.system.specs.Limits.{variable, variables, termWords}
 use Rattle.system.specs.Signature.{Signature}
 use Rattle.system.specs.System.{instance}
 use Rattle.system.specs.Terms.{Whole, Member}
@@ -16,13 +16,9 @@ use Rattle.rows.specs.lengths.Spans.{spans}
 use Rattle.rows.specs.lengths.Measured.{Measured}
 use Rattle.rows.specs.lengths.Written.{Apart, Copyable}
 use Rattle.matching.specs.rules.Searches.{reductLength}
-use Rattle.machine.specs.declared.reducts.Stretches.{Stretches}
-use Rattle.machine.specs.declared.reducts.Source.{Source}
-
--- words of a side, or some at its front: symbols and variables of number 0 to 15
-pub record Sided (side : List ℕ) : Type 0 where
-  pub small : length side ≤ sideWords
-  pub known : (j : ℕ) → j < length side → getD side j 0 < variable + variables
+use Rattle.reducts.specs.declared.writing.Stretches.{Stretches}
+use Rattle.reducts.specs.declared.writing.Source.{Source}
+use Rattle.reducts.specs.sides.Sides.{Sided}
 
 -- where word i of the redex stands
 unfoldable pub stretchAt : Source → ℕ → ℕ

@@ -16,12 +16,12 @@ use Rattle.rows.specs.declared.gap.Gap.{Gap}
 use Rattle.rows.specs.gap.Gaps.{countsAt, lengthRow, termIn, wordsIn, behind, Lies, Gapped}
 use Rattle.rows.specs.lengths.Spans.{spans}
 use Rattle.rows.specs.lengths.Measured.{Measured}
-use Rattle.machine.specs.declared.reducts.Reduced.{Reduced}
-use Rattle.machine.specs.declared.reducts.Reduced.the-variants.{Done, TooLong}
-use Rattle.machine.specs.declared.reducts.Source.{Source}
-use Rattle.machine.specs.declared.reducts.Stretches.{Stretches}
-use Rattle.machine.specs.declared.reducts.Subterm.{Subterm}
-use Rattle.machine.specs.reducts.Reduct.{Sided}
+use Rattle.reducts.specs.declared.putting.Reduced.{Reduced}
+use Rattle.reducts.specs.declared.putting.Reduced.the-variants.{Done, TooLong}
+use Rattle.reducts.specs.declared.writing.Source.{Source}
+use Rattle.reducts.specs.declared.writing.Stretches.{Stretches}
+use Rattle.reducts.specs.declared.putting.Subterm.{Subterm}
+use Rattle.reducts.specs.sides.Sides.{Sided}
 
 -- ---- the words set aside
 

@@ -1,0 +1,4 @@
+-- Inner: what the layers above ask where a reduct is put
+pub mod sides
+pub mod writing
+pub mod putting
