@@ -14,29 +14,31 @@ use system::layout::rules::rule_at;
 
 // Puts the reduct of the match m in the place of the subterm u: the right side of a listed rule stands in the book, that of a built-in one is
 // the word that it puts there.
-pub fn rewrite(book: &[u16], index: &[u16], area: &mut [u16], gap: Gap, u: Subterm, m: Redex) -> Reduced
+pub fn rewrite(
+    book: &[u16],
+    index: &[u16],
+    area: &mut [u16],
+    gap: Gap,
+    u: Subterm,
+    m: Redex,
+) -> Reduced
     requires { ⌜ Reducible (now book) (now index) (now area) gap u m ⌝ }
     ensures { λ r. ⌜ Rewrites (now (book .entry)) (now (area .entry)) gap u r (now (area .exit)) ⌝ }
 {
     let found = m.rule;
-    let c = Stretches {
-        starts: m.starts,
-        lengths: m.lengths,
-    };
+    let starts = m.starts;
+    let lengths = m.lengths;
+    let c = Stretches { starts, lengths };
     match found {
         // It never is: the caller found a rule.
         FirstRule::Nothing => {
             return Reduced::TooLong;
         }
-        FirstRule::First {
-            number,
-            rhs,
-            size,
-        } => {
+        FirstRule::First { number, rhs, size } => {
             let r = rule_at(book, rule_start(index, number));
             let shared = shared_end(&book[r.lhs..r.lhs + r.width], &book[rhs..rhs + size]);
             let mid = rhs + size - shared;
-            let kept = reduct_length(&book[mid..rhs + size], m.lengths);
+            let kept = reduct_length(&book[mid..rhs + size], lengths);
             let front = Subterm {
                 level: u.level,
                 at: u.at,

@@ -75,14 +75,25 @@ fn unbound(rule: FirstRule) -> Redex
 
 // The first rule that matches the subterm at word p of the term. Only the rules in the list of its first word are tried: a rule that starts
 // with another symbol does not match.
-pub fn first_redex(book: &[u16], shape: Shape, index: &[u16], area: &[u16], gap: Gap, p: usize) -> Redex
+pub fn first_redex(
+    book: &[u16],
+    shape: Shape,
+    index: &[u16],
+    area: &[u16],
+    gap: Gap,
+    p: usize,
+) -> Redex
     requires { ⌜ Accepted (now book) shape × Indexed (now book) shape (now index) × Measured (signatureOf (now book)) (now area) gap
         × (p < wordsIn gap) ⌝ }
     ensures { λ r. ⌜ r ≡ redexOf (systemOf (now (book .entry))) (drop p (termIn (now (area .entry)) gap)) ⌝ }
 {
     let head = word_at(area, gap, p);
     if LITERAL <= wide(head) {
-        return unbound(computed(head, word_or_none(area, gap, p + 1), word_or_none(area, gap, p + 2)));
+        return unbound(computed(
+            head,
+            word_or_none(area, gap, p + 1),
+            word_or_none(area, gap, p + 2),
+        ));
     }
     let mut found = unbound(FirstRule::Nothing);
     let mut k = first_of(index, shape, head);

@@ -53,12 +53,20 @@ fn set_aside(area: &mut [u16], gap: Gap, u: Subterm, k: usize) -> Source
 
 // Puts the reduct of a side, its variables filled with these stretches, in the place of the words of u. Where the term would be too long it is
 // given up.
-pub fn put_reduct(book: &[u16], side: &[u16], area: &mut [u16], gap: Gap, u: Subterm, c: Stretches) -> Reduced
+pub fn put_reduct(
+    book: &[u16],
+    side: &[u16],
+    area: &mut [u16],
+    gap: Gap,
+    u: Subterm,
+    c: Stretches,
+) -> Reduced
     requires { ⌜ Puttable (signatureOf (now book)) (now side) (now area) gap u c ⌝ }
     ensures { λ r. ⌜ Put (signatureOf (now (book .entry))) (now (side .entry)) (now (area .entry)) gap u c r (now (area .exit)) ⌝ }
 {
     let front = u.at;
-    let k = reduct_length(side, c.lengths);
+    let lengths = c.lengths;
+    let k = reduct_length(side, lengths);
     let g = move_gap(area, gap, front + u.width);
     if g.back < front + k {
         return Reduced::TooLong;

@@ -39,7 +39,14 @@ fn stretch_at(source: Source, i: usize) -> usize
 }
 
 // Puts n words from `from` on before those from `back` on, with their lengths: copied, or measured anew where they stand alone.
-fn put_stretch(book: &[u16], area: &mut [u16], back: usize, from: usize, n: usize, crowded: bool) -> usize
+fn put_stretch(
+    book: &[u16],
+    area: &mut [u16],
+    back: usize,
+    from: usize,
+    n: usize,
+    crowded: bool,
+) -> usize
     requires { ⌜ Stretchable (signatureOf (now book)) (now area) back from n crowded ⌝ }
     ensures { λ r. ⌜ Written (signatureOf (now (book .entry))) (now (area .entry)) back (now (area .exit)) r (part from n (now (area .entry))) ⌝ }
 {
@@ -50,7 +57,14 @@ fn put_stretch(book: &[u16], area: &mut [u16], back: usize, from: usize, n: usiz
 }
 
 // Writes the reduct before the words from `back` on: the words of the side, each variable filled with its stretch.
-pub fn write_reduct(book: &[u16], side: &[u16], area: &mut [u16], back: usize, c: Stretches, source: Source) -> usize
+pub fn write_reduct(
+    book: &[u16],
+    side: &[u16],
+    area: &mut [u16],
+    back: usize,
+    c: Stretches,
+    source: Source,
+) -> usize
     requires { ⌜ Writable (signatureOf (now book)) (now side) (now area) back c source ⌝ }
     ensures { λ r. ⌜ Written (signatureOf (now (book .entry))) (now (area .entry)) back (now (area .exit)) r
         (reduct (now (side .entry)) c source (now (area .entry))) ⌝ }
