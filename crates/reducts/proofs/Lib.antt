@@ -1,0 +1,2 @@
+-- Lists that end alike
+pub mod Ends
