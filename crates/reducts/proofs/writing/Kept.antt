@@ -15,7 +15,7 @@ use Rattle.system.specs.Terms.{Whole}
 use Rattle.rows.specs.gap.Gaps.{countsAt, wordRow, lengthRow, behind}
 use Rattle.rows.specs.lengths.Spans.{spans}
 use Rattle.rows.specs.lengths.Measured.{Measured}
-use Rattle.rows.specs.lengths.Written.{Written, Apart}
+use Rattle.rows.specs.lengths.Written.{Written}
 use Rattle.rows.proofs.gap.Rows.{part-take, word-row-part, length-row-part}
 use Rattle.rows.proofs.lengths.Writes.{written-before, written-behind, written-behind-lengths}
 use Rattle.reducts.specs.writing.Reduct.{Lent, Stretchable, Unwritten, Stays}

@@ -1,5 +1,4 @@
 -- `writing::put_stretch` meets its contract.
-use mathlib.Core.Path.{subst}
 use borrow.Author.Needs.{needs}
 use Rattle.system.specs.Answers.{signatureOf}
 use Rattle.reducts.proofs.writing.Places.{lent-apart, lent-within, lent-copyable}

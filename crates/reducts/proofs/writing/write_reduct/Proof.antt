@@ -4,7 +4,7 @@ use Prim.Native.Nat.{_-_, _<_}
 use native.Mathlib.Omega.{arith}
 use lib.ListN.{getD}
 use borrow.Author.Needs.{needs}
-use Rattle.system.specs.Limits as Limits
+use Rattle.system.specs.Limits.{variable}
 use Rattle.system.specs.Answers.{signatureOf}
 use Rattle.reducts.specs.writing.Reduct.{stretchAt}
 use Rattle.reducts.proofs.writing.Turns.{Writing, writing-starts, writing-ends, symbol-room, writes-symbol, variable-known, variable-stretchable, writes-variable}
@@ -38,8 +38,8 @@ pushed c = c .before .before
 abbrev symbol : tie.After-push Inv-loop μ-loop → tie.Then1 Inv-loop μ-loop
 symbol c = c .before .before
 
-abbrev variable : tie.After-put-stretch-arg Inv-loop μ-loop → tie.Else1 Inv-loop μ-loop
-variable c = c .before .before .before
+abbrev named : tie.After-put-stretch-arg Inv-loop μ-loop → tie.Else1 Inv-loop μ-loop
+named c = c .before .before .before
 
 abbrev put : tie.After-slice-known3 Inv-loop μ-loop → tie.After-put-stretch Inv-loop μ-loop
 put c = c .before .before
@@ -53,7 +53,7 @@ shared-slice-read-w : tie.Need-shared-slice-read-w Inv-loop μ-loop
 shared-slice-read-w c = let h = c .before .before in let v = h .loop .inv .inside in let s = c .before .loop-test .taken in omega arith
 
 -- the word is a symbol
-small : (c : tie.Then1 Inv-loop μ-loop) → getD (entry (head (c .before)) .args .side .now) (head (c .before) .loop .j - 1) 0 < Limits.variable
+small : (c : tie.Then1 Inv-loop μ-loop) → getD (entry (head (c .before)) .args .side .now) (head (c .before) .loop .j - 1) 0 < variable
 small c = let e = c .before .wide .ensures .0 in let h = c .if1 .taken in omega arith
 
 push-requires : tie.Need-push-requires Inv-loop μ-loop
@@ -79,18 +79,18 @@ stretch-at-requires : tie.Need-stretch-at-requires Inv-loop μ-loop
 stretch-at-requires c κs = let q = entry (head (c .before .before)) .pre in (q .based, q .later, c .wide2 .ensures .1)
 
 array-read-wide-2 : tie.Need-array-read-wide-2 Inv-loop μ-loop
-array-read-wide-2 c = array-read-wide (variable c)
+array-read-wide-2 c = array-read-wide (named c)
 
 -- where the stretch stands
 from-is : (c : tie.After-put-stretch-arg Inv-loop μ-loop) →
-    let p = variable c .before in
+    let p = named c .before in
     let a = entry (head p) .args in
-    c .before .stretch-at .result ≡ stretchAt (a .source) (getD (a .c .starts) (p .wide .result - Limits.variable) 0)
-from-is c = c .before .stretch-at .ensures ∙ ap (stretchAt (entry (head (variable c .before)) .args .source)) (c .before .before .wide2 .ensures .0)
+    c .before .stretch-at .result ≡ stretchAt (a .source) (getD (a .c .starts) (p .wide .result - variable) 0)
+from-is c = c .before .stretch-at .ensures ∙ ap (stretchAt (entry (head (named c .before)) .args .source)) (c .before .before .wide2 .ensures .0)
 
 put-stretch-requires : tie.Need-put-stretch-requires Inv-loop μ-loop
 put-stretch-requires c κs =
-    let d = variable (c .before) in
+    let d = named (c .before) in
     let p = d .before in
     let h = head p in
     variable-stretchable (entry h .pre) (h .loop .inv) (some p) (p .wide .result) (p .wide .ensures .0) (d .if1 .left)
@@ -100,7 +100,7 @@ loop-again-2 : tie.Need-loop-again-2 Inv-loop μ-loop
 loop-again-2 c =
     let u = put c in
     let w = u .before in
-    let d = variable (w .before) in
+    let d = named (w .before) in
     let p = d .before in
     let h = head p in
     writes-variable (entry h .pre) (h .loop .inv) (some p) (p .wide .result) (p .wide .ensures .0) (d .if1 .left)
