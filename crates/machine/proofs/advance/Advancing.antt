@@ -18,6 +18,9 @@ use Rattle.machine.specs.declared.advance.Event.the-variants.{End, Repea
 use Rattle.rewriting.specs.Machine.{Opened, strategyAt, position, advance}
 use Rattle.rows.specs.declared.gap.Gap.{Gap}
 use Rattle.rows.specs.gap.Gaps.{termIn}
+use Rattle.rows.specs.lengths.Measured.{Measured}
+use Rattle.system.specs.Answers.{signatureOf}
+use Rattle.system.proofs.layout.Books.{signature}
 use Rattle.machine.specs.advance.Area.{outerIn, countIn, Stands, Valid, Tracks}
 use Rattle.machine.specs.advance.Transition as to
 use Rattle.machine.specs.advance.Transition.{sinceAt, Transition, countsAfter, Performed}
@@ -148,10 +151,10 @@ module _ (τ : Round) where
     term′ = is .term
 
     outer-is : outerIn ws′ level′ ≡ outer′
-    outer-is = held-outer is levels′
+    outer-is = held-outer outer′ c′ is levels′
 
     count-is : countIn ws′ level′ ≡ c′
-    count-is = held-count is levels′
+    count-is = held-count outer′ c′ is levels′
 
     moved : (floor′ since′ : ℕ) → Skipped s t outer′ c′ floor′ since′ → advance s 64 counts t 0 ≡ advance s 64 (outer′ ++ c′ ∷ []) t 0 →
         remaining s t 64 (outer′ ++ c′ ∷ []) 0 < remaining s t 64 counts 0 → Goes τ level′ floor′ since′
@@ -229,7 +232,7 @@ module _ (τ : Round) where
     -- one that was open before
     pub goes-down : (since′ : ℕ) → since′ ≡ countIn ws′ (level - 1) → Goes τ (level - 1) (level - 1) since′
     goes-down since′ e′ =
-        let q : since′ ≡ d = e′ ∙ held-count left-is depth in
+        let q : since′ ≡ d = e′ ∙ held-count ds d left-is depth in
         left-to below since′ (subst (λ y. Skipped s t ds d below y) (sym q) (skipped-start s t ds d below (sym depth)))
 
   -- ---- an argument is opened
@@ -257,6 +260,9 @@ module _ (τ : Round) where
 
     pub rules-bounds : Bounds ws′ positions′ gap level
     rules-bounds = bounds (τ .book) (τ .shape) (τ .accepted) ws′ positions′ gap level tries-held
+
+    pub rules-measured : Measured (signatureOf (τ .book)) ws′ gap
+    rules-measured = subst (λ y. Measured y ws′ gap) (signature (τ .book) (τ .shape) (τ .accepted)) (tries-held .represents .measured)
 
     abbrev p : ℕ
     p = getD positions′ level 0

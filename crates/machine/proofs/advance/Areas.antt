@@ -5,15 +5,14 @@ use native.Mathlib.Omega.{arith}
 use mathlib.Core.Path.{_≡_, refl, sym, ap, _∙_, subst}
 use mathlib.Core.List.{List, [], _∷_, _++_}
 use lib.ListN.{length, getD, take, drop, set, length-append, length-drop, length-set}
-use lib.Seq.{take-take, take-suc-set, take-suc, take-append-seam, drop-set-add, getD-take, getD-drop, getD-at}
+use lib.Seq.{take-take, take-set-le, take-suc-set, take-suc, take-append-seam, drop-set-add, getD-take, getD-drop, getD-at}
 use Rattle.system.specs.Limits.{areaWords, termWords}
 use Rattle.system.specs.Signature.{Signature}
 use Rattle.system.specs.System.{System}
 use Rattle.rows.specs.declared.gap.Gap.{Gap}
 use Rattle.rows.specs.gap.Gaps.{countsAt, termIn}
 use Rattle.rows.specs.lengths.Measured.{Measured}
-use Rattle.rows.proofs.gap.Rows.{rows-set, same-term}
-use Rattle.rows.proofs.lengths.Laws.{measured-same}
+use Rattle.rows.proofs.lengths.Measures.{measured-counts, term-counts}
 use Rattle.machine.specs.advance.Area.{outerIn, countIn, Stands, Valid, Positioned, Represents, Tracks}
 
 -- the words behind the rows
@@ -35,12 +34,12 @@ module _ {g : Signature} {ws : List ℕ} {gap : Gap} {t : List ℕ} where
   pub stands-set : (cs : List ℕ) (level v : ℕ) → length cs ≡ level → level < termWords → Stands g ws gap t cs →
       Stands g (set ws (countsAt + level) v) gap t (cs ++ v ∷ [])
   stands-set cs level v e l h =
-      let same = rows-set ws (countsAt + level) v (omega arith) in
+      let same : take countsAt (set ws (countsAt + level) v) ≡ take countsAt ws = take-set-le countsAt ws (countsAt + level) v (omega arith) in
       let n : length (cs ++ v ∷ []) ≡ suc level = length-append cs (v ∷ []) ∙ omega arith in
       record {
         total = length-set ws (countsAt + level) v ∙ h .total;
-        measured = measured-same same (length-set ws (countsAt + level) v) (h .measured);
-        term = same-term same gap ∙ h .term;
+        measured = measured-counts ws (set ws (countsAt + level) v) same (length-set ws (countsAt + level) v) (h .measured);
+        term = term-counts ws (set ws (countsAt + level) v) same gap ∙ h .term;
         counts = ap (λ y. take y (drop countsAt (set ws (countsAt + level) v))) n
             ∙ ap (take (suc level)) (drop-set-add countsAt ws level v)
             ∙ take-suc-set (drop countsAt ws) level v (let z = third ws (h .total) in omega arith)
@@ -48,7 +47,7 @@ module _ {g : Signature} {ws : List ℕ} {gap : Gap} {t : List ℕ} where
       }
 
 -- what the counts of an area are
-module _ {g : Signature} {ws : List ℕ} {gap : Gap} {t outer : List ℕ} {c level : ℕ} (is : Stands g ws gap t (outer ++ c ∷ [])) (levels : length outer ≡ level) where
+module _ {g : Signature} {ws : List ℕ} {gap : Gap} {t : List ℕ} (outer : List ℕ) (c : ℕ) {level : ℕ} (is : Stands g ws gap t (outer ++ c ∷ [])) (levels : length outer ≡ level) where
   size : length (outer ++ c ∷ []) ≡ suc level
   size = length-append outer (c ∷ []) ∙ omega (arith, levels)
 
@@ -71,26 +70,26 @@ module _ {g : Signature} {ws : List ℕ} {gap : Gap} {t outer : List ℕ} {c lev
   pub count-set : (v : ℕ) → level < termWords → Stands g (set ws (countsAt + level) v) gap t (outer ++ v ∷ [])
   count-set v l = stands-set outer level v levels l stands-outer
 
-module _ {s : System} {ws : List ℕ} {gap : Gap} {t outer : List ℕ} {c level : ℕ} (is : Stands (s .arities) ws gap t (outer ++ c ∷ [])) (levels : length outer ≡ level)
+module _ {s : System} {ws : List ℕ} {gap : Gap} {t : List ℕ} (outer : List ℕ) (c : ℕ) {level : ℕ} (is : Stands (s .arities) ws gap t (outer ++ c ∷ [])) (levels : length outer ≡ level)
     (valid : Valid s t outer c) where
   pub represents : Represents s ws gap level
   represents =
       let e₁ = sym (is .term) in
-      let e₂ = sym (held-outer is levels) in
-      let e₃ = sym (held-count is levels) in
+      let e₂ = sym (held-outer outer c is levels) in
+      let e₃ = sym (held-count outer c is levels) in
       record {
         total = is .total;
         measured = is .measured;
         valid = subst (λ y. Valid s y (outerIn ws level) (countIn ws level)) e₁
             (subst (λ y. Valid s t y (countIn ws level)) e₂ (subst (λ y. Valid s t outer y) e₃ valid));
-        levels = ap length (held-outer is levels) ∙ levels;
+        levels = ap length (held-outer outer c is levels) ∙ levels;
       }
 
   pub holds : (positions : List ℕ) → length positions ≡ 64 → Positioned s t outer positions → Tracks s ws positions gap level
   holds positions slots at = record {
     represents = represents;
     slots = slots;
-    positioned = subst (λ y. Positioned s y (outerIn ws level) positions) (sym (is .term)) (subst (λ y. Positioned s t y positions) (sym (held-outer is levels)) at);
+    positioned = subst (λ y. Positioned s y (outerIn ws level) positions) (sym (is .term)) (subst (λ y. Positioned s t y positions) (sym (held-outer outer c is levels)) at);
   }
 
 -- an area that holds a state, as it stands

@@ -55,8 +55,10 @@ pub record Taking : Type 0 where
   pub held : Tracks (systemOf book) ws positions (at .gap) (at .level)
   pub k : ℕ
   pub is : k ≡ countIn ws (at .level)
+  pub word : ℕ
+  pub reads : word ≡ getD (termIn ws (at .gap)) (getD positions (at .level) 0) 0
   pub e : Entry
-  pub answers : e ≡ entryOf (strategy (systemOf book) (getD (termIn ws (at .gap)) (getD positions (at .level) 0) 0)) (at .since) k
+  pub answers : e ≡ entryOf (strategy (systemOf book) word) (at .since) k
 
 module _ (τ : Taking) where
   abbrev b : List ℕ
@@ -126,7 +128,7 @@ module _ (τ : Taking) where
   asked : Asks entries f c (τ .e)
   asked = subst (Asks entries f c)
       (ap (λ y. entryOf entries f y) (sym (τ .is))
-      ∙ ap (λ y. entryOf (strategy s y) f (τ .k)) (ap (λ y. getD t y 0) (sym here-is))
+      ∙ ap (λ y. entryOf (strategy s y) f (τ .k)) (ap (λ y. getD t y 0) (sym here-is) ∙ sym (τ .reads))
       ∙ sym (τ .answers))
       (asks entries f c)
 
@@ -137,7 +139,7 @@ module _ (τ : Taking) where
       ws positions left refl popped
     where
       left : Stands (s .arities) ws gap t outer
-      left = stands-outer standing levels
+      left = stands-outer outer c standing levels
 
       popped : (m : ℕ) → length outer ≡ suc m → Tracks s ws positions gap m
       popped m z =
@@ -145,7 +147,7 @@ module _ (τ : Taking) where
           let d = getD outer m 0 in
           let y : outer ≡ ds ++ d ∷ [] = sym (take-all (suc m) outer (omega arith)) ∙ take-suc outer m 0 (omega arith) in
           let l : length ds ≡ m = length-take-le m outer (omega arith) in
-          holds (subst (Stands (s .arities) ws gap t) y left) l (valid-pop s wf t outer c valid ds d y) positions (v .slots)
+          holds ds d (subst (Stands (s .arities) ws gap t) y left) l (valid-pop s wf t outer c valid ds d y) positions (v .slots)
           (λ j g. v .positioned j (omega arith) ∙ ap (λ y. position s t y 0) (sym (take-take j m outer (omega arith))))
 
   -- one more entry is begun
@@ -153,12 +155,12 @@ module _ (τ : Taking) where
   ws₁ = set ws (countsAt + level) (c + 1)
 
   begun : Stands (s .arities) ws₁ gap t (outer ++ suc c ∷ [])
-  begun = subst (λ y. Stands (s .arities) ws₁ gap t (outer ++ y ∷ [])) (add-one c) (count-set standing levels (c + 1) (omega (arith, room)))
+  begun = subst (λ y. Stands (s .arities) ws₁ gap t (outer ++ y ∷ [])) (add-one c) (count-set outer c standing levels (c + 1) (omega (arith, room)))
 
   begun-holds : c < length entries → (m : ℕ) → length (outer ++ suc c ∷ []) ≡ suc m → Tracks s ws₁ positions gap m
   begun-holds more m z =
       let l : length outer ≡ m = (let y = length-append outer (suc c ∷ []) in omega arith) in
-      holds begun l (valid-pass s wf t outer c valid more) positions (v .slots) (v .positioned)
+      holds outer (suc c) begun l (valid-pass s wf t outer c valid more) positions (v .slots) (v .positioned)
 
   -- the entry stood before
   pub performed-repeated : τ .e ≡ entry.Repeated → Performed s at ws positions Repeated ws₁ positions
@@ -238,5 +240,5 @@ module _ (τ : Taking) where
           opened : (m : ℕ) → length (inner ++ 0 ∷ []) ≡ suc m → Tracks s ws₂ positions₂ gap m
           opened m z =
               let l : length inner ≡ m = (let y = length-append inner (0 ∷ []) in omega arith) in
-              holds pushed l (valid-open s wf t outer c valid more i entry-is (omega (arith, levels))) positions₂
+              holds inner 0 pushed l (valid-open s wf t outer c valid more i entry-is (omega (arith, levels))) positions₂
               (length-set positions (level + 1) q′ ∙ v .slots) positioned

@@ -4,7 +4,7 @@ use native.Mathlib.Omega.{arith}
 use mathlib.Core.Path.{refl, sym, subst}
 use borrow.Author.Needs.{needs}
 use Rattle.system.specs.Book.{systemOf}
-use Rattle.machine.proofs.advance.Advancing.{advancing-start, round-bounds, goes-repeated, goes-argument}
+use Rattle.machine.proofs.advance.Advancing.{advancing-start, round-bounds, rules-measured, goes-repeated, goes-argument}
 use Rattle.machine.proofs.advance.Arriving.{arrives-end, arrives-deep, arrives-ready}
 use Rattle.machine.specs.advance.Area.{Tracks}
 use Rattle.machine.proofs.advance.advance.Proof.Places.{Inv-loop, μ-loop, within, reading, entered, taken, round, same-area, same-positions}
@@ -36,7 +36,7 @@ take-transition-requires c κs =
     let k = c .before .before .at-level in
     let l = c .before .before .before .loop in
     let x = entered (c .before .before .before) in
-    (x .pre .0, x .pre .1, subst (λ y. Tracks (systemOf (x .args .book .now)) (l .area) (l .positions) (y .n) (y .level)) (sym (k .ensures)) (l .inv .0 .held))
+    (x .pre .0, x .pre .1, subst (λ y. Tracks (systemOf (x .args .book .now)) (l .area) (l .positions) (y .gap) (y .level)) (sym (k .ensures)) (l .inv .0 .held))
 
 -- ---- an entry is repeated
 
@@ -48,23 +48,19 @@ loop-again c = let m = c .before .before in (goes-repeated (round m) (c .enum-to
 
 -- ---- the rules are tried
 
-mul-p : tie.Need-mul-p Inv-loop μ-loop
-mul-p c = let w = trying c in omega arith
+mul-first-redex : tie.Need-mul-first-redex Inv-loop μ-loop
+mul-first-redex c = let w = trying (c .before) in omega arith
 
-slice-read-p : tie.Need-slice-read-p Inv-loop μ-loop
-slice-read-p c = let w = trying (c .before) in omega arith
+slice-read-first-redex : tie.Need-slice-read-first-redex Inv-loop μ-loop
+slice-read-first-redex c = let w = trying (c .before .before) in omega arith
 
-mul-first-rule : tie.Need-mul-first-rule Inv-loop μ-loop
-mul-first-rule c = let w = trying (c .before) in omega arith
-
-sub-first-rule : tie.Need-sub-first-rule Inv-loop μ-loop
-sub-first-rule c = let w = trying (c .before) in omega arith
-
-part-first-rule-start : tie.Need-part-first-rule-start Inv-loop μ-loop
-part-first-rule-start c = let w = trying (c .before .before) in omega arith
-
-part-first-rule-end : tie.Need-part-first-rule-end Inv-loop μ-loop
-part-first-rule-end c = let w = trying (c .before .before) in omega arith
+first-redex-requires : tie.Need-first-redex-requires Inv-loop μ-loop
+first-redex-requires c κs =
+    let x = c .before .before in
+    let τ = round (x .before .before) in
+    let w = trying x in
+    let e = entered (taken (x .before .before) .before .before .before .before) in
+    (e .pre .0, e .pre .1, rules-measured τ (x .enum-told2 .given .1), w .within)
 
 loop-less-2 : tie.Need-loop-less-2 Inv-loop μ-loop
 loop-less-2 c = none-matches (c .before .before) (c .enum-told3 .given .1) .less
@@ -75,17 +71,16 @@ loop-again-2 c =
     (none-matches (c .before .before) (c .enum-told3 .given .1) .on, same-area m, same-positions m)
 
 same-length : tie.Need-same-length Inv-loop μ-loop
-same-length c = same-area (tried (c .before .before) .before .before)
+same-length c = same-area (tried (c .before) .before .before)
 
 same-length-2 : tie.Need-same-length-2 Inv-loop μ-loop
-same-length-2 c = same-positions (tried (c .before .before) .before .before)
+same-length-2 c = same-positions (tried (c .before) .before .before)
 
 returns : tie.Need-returns Inv-loop μ-loop
 returns c =
-    let x = c .before .before in
-    let k = x .before .first-rule in
-    arrives-ready (round (tried x .before .before)) (tried x .enum-told2 .given .1) (k .result) (k .ensures) (some-rule _ (c .before .match2 .keys2))
-    (c .ready .result) (c .ready .ensures)
+    let x = c .before in
+    let k = x .first-redex in
+    arrives-ready (round (tried x .before .before)) (tried x .enum-told2 .given .1) (k .result) (k .ensures) (some-rule _ (c .match2 .keys2))
 
 -- ---- an argument is opened
 
@@ -150,8 +145,8 @@ advance-spec =
     tie.close
     (tie.spec
     Inv-loop μ-loop add-wide mul-wide slice-read-wide (λ c κs. search needs) loop-holds (λ c κs. search needs) take-transition-requires
-    (λ c. search needs) loop-less loop-again (λ c. search needs) mul-p slice-read-p mul-first-rule sub-first-rule part-first-rule-start
-    part-first-rule-end (λ c κs. search needs) (λ c. search needs) loop-less-2 loop-again-2 (λ c κs. search needs)
-    same-length same-length-2 returns (λ c. search needs) add-level loop-less-3 loop-again-3 (λ c. search needs) (λ c κs. search needs)
-    same-length-3 same-length-4 returns-2 (λ c. search needs) add-wide-2 mul-wide-2 slice-read-wide-2 (λ c κs. search needs) loop-less-4
-    loop-again-4 loop-less-5 loop-again-5 (λ c. search needs) (λ c κs. search needs) same-length-5 same-length-6 returns-3)
+    (λ c. search needs) loop-less loop-again (λ c. search needs) mul-first-redex slice-read-first-redex first-redex-requires
+    (λ c. search needs) loop-less-2 loop-again-2 same-length same-length-2 returns (λ c. search needs) add-level loop-less-3 loop-again-3
+    (λ c. search needs) (λ c κs. search needs) same-length-3 same-length-4 returns-2 (λ c. search needs) add-wide-2 mul-wide-2
+    slice-read-wide-2 (λ c κs. search needs) loop-less-4 loop-again-4 loop-less-5 loop-again-5 (λ c. search needs) (λ c κs. search needs)
+    same-length-5 same-length-6 returns-3)

@@ -20,25 +20,22 @@ use Rattle.machine.proofs.advance.Advancing.{remainingIn, Advancing, Ro
 use Rattle.machine.proofs.advance.advance.Tie as tie
 
 abbrev pub Inv-loop : tie.InvT-loop
-Inv-loop book shape index area₀ positions₀ n level₀ floor₀ since₀ area positions level floor since =
-    Advancing (systemOf book) (record { n = n; level = level₀ }) area₀ area positions level floor since ×
+Inv-loop book shape index area₀ positions₀ gap level₀ floor₀ since₀ area positions level floor since =
+    Advancing (systemOf book) (record { gap = gap; level = level₀ }) area₀ area positions level floor since ×
     (length area ≡ length area₀) × (length positions ≡ length positions₀)
 
 abbrev pub μ-loop : tie.MeasureT-loop
-μ-loop book shape index area₀ positions₀ n level₀ floor₀ since₀ area positions level floor since = remainingIn (systemOf book) area n level
+μ-loop book shape index area₀ positions₀ gap level₀ floor₀ since₀ area positions level floor since = remainingIn (systemOf book) area gap level
 
 -- ---- the places of the code
 
 -- the call
-pub within : (c : tie.Start Inv-loop μ-loop) → let a = c .args in Bounds (a .area .now) (a .positions .now) (a .state .n) (a .state .level)
-within c =
-    let a = c .args in
-    let n = a .state .n in
-    bounds (a .book .now) (a .shape) (c .pre .0) (a .area .now) (a .positions .now) n (a .state .level) (c .pre .2)
+pub within : (c : tie.Start Inv-loop μ-loop) → let a = c .args in Bounds (a .area .now) (a .positions .now) (a .state .gap) (a .state .level)
+within c = let a = c .args in bounds (a .book .now) (a .shape) (c .pre .0) (a .area .now) (a .positions .now) (a .state .gap) (a .state .level) (c .pre .2)
 
 -- where the first count is read
-abbrev pub reading : tie.After-slice-known2 Inv-loop μ-loop → tie.Start Inv-loop μ-loop
-reading c = c .before .before .before .before
+abbrev pub reading : tie.After-gap Inv-loop μ-loop → tie.Start Inv-loop μ-loop
+reading c = c .before .before .before .before .before
 
 -- the head of the loop
 abbrev pub entered : tie.At-loop Inv-loop μ-loop → tie.Start Inv-loop μ-loop
@@ -82,17 +79,17 @@ pub same-positions : (c : tie.After-slice-known5 Inv-loop μ-loop) → length (r
 same-positions c = taken c .take-transition .kept .1 .1 .1 .1 .0 ∙ taken c .before .before .before .before .loop .inv .2
 
 -- where the rules are tried
-pub trying : (c : tie.After-enum-told2 Inv-loop μ-loop) → let τ = round (c .before .before) in Bounds (τ .ws′) (τ .positions′) (τ .state .n) (τ .level)
+pub trying : (c : tie.After-enum-told2 Inv-loop μ-loop) → let τ = round (c .before .before) in Bounds (τ .ws′) (τ .positions′) (τ .state .gap) (τ .level)
 trying c = rules-bounds (round (c .before .before)) (c .enum-told2 .given .1)
 
 -- and the first rule is known
-abbrev pub tried : tie.After-m Inv-loop μ-loop → tie.After-enum-told2 Inv-loop μ-loop
-tried c = c .before .before .before .before .before
+abbrev pub tried : tie.After-first-redex Inv-loop μ-loop → tie.After-enum-told2 Inv-loop μ-loop
+tried c = c .before .before .before
 
-pub none-matches : (c : tie.After-m Inv-loop μ-loop) → c .before .first-rule .result .matched .rule ≡ Nothing →
+pub none-matches : (c : tie.After-first-redex Inv-loop μ-loop) → c .first-redex .result .rule ≡ Nothing →
     let τ = round (tried c .before .before) in Goes τ (τ .level) (τ .floor) (τ .since)
 none-matches c q =
-    let k = c .before .first-rule in
+    let k = c .first-redex in
     goes-rules (round (tried c .before .before)) (tried c .enum-told2 .given .1) (k .result) (k .ensures) q
 
 -- one matches, whichever of the two kinds it is
