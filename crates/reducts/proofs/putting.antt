@@ -6,3 +6,7 @@ pub mod Counted
 pub mod Standing
 -- What the variables stand for, as it is read there
 pub mod Sources
+-- So the reduct may be written
+pub mod Writables
+-- And then the term stands there in which it is put
+pub mod Puts

@@ -1,0 +1,147 @@
+-- The reduct is written before what follows the words of u: the term in which it is put stands around the gap.
+use Prim.Native.Nat.{ℕ, _+_, _-_, _≤_, _<_}
+use native.Mathlib.Omega.{arith}
+use mathlib.Core.Path.{_≡_, refl, sym, ap, _∙_, subst}
+use mathlib.Core.List.{List, _++_, append-assoc}
+use lib.ListN.{length, getD, take, drop, length-append, length-drop}
+use lib.Seq.{take-take, length-take-le}
+use Rattle.system.specs.Limits.{areaWords, termWords}
+use Rattle.system.specs.Signature.{Signature}
+use Rattle.system.specs.System.{instance}
+use Rattle.rows.specs.declared.gap.Gap.{Gap}
+use Rattle.rows.specs.gap.Gaps.{countsAt, wordRow, lengthRow, Lies, closed, termIn, lengthsIn, wordsIn, behind, Moved}
+use Rattle.rows.specs.lengths.Spans.{spans}
+use Rattle.rows.specs.lengths.Written.{Written}
+use Rattle.rows.proofs.gap.Rows.{word-row-length, length-row-length}
+use Rattle.rows.proofs.gap.Closed.{closed-front, closed-length}
+use Rattle.rows.proofs.lengths.Measures.{row-behind, term-behind, measured-moved, word-row-same, length-row-same}
+use Rattle.matching.specs.rules.Searches.{reductLength}
+use Rattle.reducts.specs.declared.writing.Source.{Source}
+use Rattle.reducts.specs.declared.writing.Stretches.{Stretches}
+use Rattle.reducts.specs.declared.putting.Subterm.{Subterm}
+use Rattle.reducts.specs.declared.putting.Reduced.the-variants.{Done, TooLong}
+use Rattle.reducts.specs.writing.Reduct.{reduct}
+use Rattle.reducts.specs.putting.Replaced.{filling, Filled, Puttable, spliced, Removable, Placed, Put, fits, exceeds}
+use Rattle.reducts.proofs.putting.Writables.{Ready, reduct-counted}
+
+-- ---- the gap moved behind the words of u
+
+module _ {g : Signature} {side ws : List ℕ} {gap : Gap} {u : Subterm} {c : Stretches} (p : Puttable g side ws gap u c) {ws′ : List ℕ} {gap′ : Gap}
+    (v : Moved ws gap (u .at + u .width) gap′ ws′) where
+  pub moved-puttable : Puttable g side ws′ gap′ u c
+  moved-puttable = record {
+    total = v .total ∙ p .total;
+    measured = measured-moved (p .measured) v;
+    within = omega (arith, v .size, p .within);
+    around = p .around;
+    sided = p .sided;
+    starts = p .starts;
+    lengths = p .lengths;
+    filled = λ x m. subst (λ t. Filled g t u c x) (sym (v .words)) (p .filled x m);
+  }
+
+  pub moved-stands : u .at + u .width ≡ gap′ .front
+  moved-stands = sym (v .front)
+
+  pub moved-removable : Removable ws′ gap′ u
+  moved-removable = record { total = v .total ∙ p .total; lies = v .gapped .lies; stand = sym (v .front); around = p .around }
+
+-- ---- over a row: its front is that of the row without the gap
+
+row-front : (gap : Gap) (row : List ℕ) (at : ℕ) → Lies gap → length row ≡ termWords → at ≤ gap .front → take at row ≡ take at (closed gap row)
+row-front gap row at lies whole h =
+    sym (take-take at (gap .front) row h) ∙ ap (take at) (sym (closed-front gap row lies whole)) ∙ take-take at (gap .front) (closed gap row) h
+
+module _ {g : Signature} {side ws : List ℕ} {gap : Gap} {u : Subterm} {c : Stretches} (p : Puttable g side ws gap u c) (stand : u .at + u .width ≡ gap .front) where
+  abbrev t : List ℕ
+  t = termIn ws gap
+
+  abbrev new : List ℕ
+  new = instance (filling t u c) side
+
+  -- how long the term becomes
+  pub spliced-length : length (spliced side t u c) + gap .back ≡ u .at + reductLength (c .lengths) side + termWords
+  spliced-length =
+      let low = p .measured .gapped .lies .low in
+      let high = p .measured .gapped .lies .high in
+      let long = closed-length ws gap (p .measured .gapped) in
+      let x = length-append (take (u .at) t ++ new) (drop (u .at + u .width) t) in
+      let y = length-append (take (u .at) t) new in
+      let z = length-take-le (u .at) t (omega arith) in
+      let w = length-drop (u .at + u .width) t in
+      omega (arith, reduct-counted p stand)
+
+  module _ {source : Source} {ws₁ ws₂ : List ℕ} {b : ℕ} (r : Ready g side ws gap u c source ws₁) (w : Written g ws₁ (gap .back) ws₂ b (reduct side c source ws₁)) where
+    abbrev gap₂ : Gap
+    gap₂ = record { front = u .at; back = b }
+
+    size : b + reductLength (c .lengths) side ≡ gap .back
+    size = let z = w .size in let y = ap length (r .filled) in omega (arith, reduct-counted p stand)
+
+    module _ (room : u .at + reductLength (c .lengths) side ≤ gap .back) where
+      words-before : take (u .at) (wordRow ws₂) ≡ take (u .at) t
+      words-before =
+          let l : u .at ≤ b = omega (arith, size) in
+          sym (take-take (u .at) b (wordRow ws₂) l) ∙ ap (take (u .at)) (w .front) ∙ take-take (u .at) b (wordRow ws₁) l
+          ∙ ap (take (u .at)) (word-row-same ws ws₁ (r .rows))
+          ∙ row-front gap (wordRow ws) (u .at) (p .measured .gapped .lies) (word-row-length ws (p .measured .gapped .room)) (omega arith)
+
+      lengths-before : take (u .at) (lengthRow ws₂) ≡ take (u .at) (spans g t)
+      lengths-before =
+          let l : u .at ≤ b = omega (arith, size) in
+          sym (take-take (u .at) b (lengthRow ws₂) l) ∙ ap (take (u .at)) (w .lengths) ∙ take-take (u .at) b (lengthRow ws₁) l
+          ∙ ap (take (u .at)) (length-row-same ws ws₁ (r .rows))
+          ∙ row-front gap (lengthRow ws) (u .at) (p .measured .gapped .lies) (length-row-length ws (p .measured .gapped .room)) (omega arith)
+          ∙ ap (take (u .at)) (p .measured .lengths)
+
+      words-behind : drop b (wordRow ws₂) ≡ new ++ drop (u .at + u .width) t
+      words-behind =
+          sym (row-behind b (wordRow ws₂)) ∙ w .words
+          ∙ (λ i. r .filled i ++ closed (behind (gap .back)) (word-row-same ws ws₁ (r .rows) i))
+          ∙ ap (λ z. new ++ z) (term-behind (p .measured .gapped) ∙ ap (λ i. drop i t) (sym stand))
+
+      term-placed : termIn ws₂ gap₂ ≡ spliced side t u c
+      unfolding closed
+      term-placed = (λ i. words-before i ++ words-behind i) ∙ sym (append-assoc (take (u .at) t) new (drop (u .at + u .width) t))
+
+      pub placed-written : Placed g ws t (spliced side t u c) (u .at) (u .level) gap₂ ws₂
+      placed-written =
+          let high = p .measured .gapped .lies .high in
+          let long : length ws₂ ≡ areaWords = w .total ∙ r .total ∙ p .total in
+          record {
+            front = refl;
+            gapped = record { room = omega arith; lies = record { low = omega (arith, size); high = omega (arith, size) } };
+            total = long;
+            term = term-placed;
+            later = w .measured;
+            before = lengths-before;
+            outer = ap (take (u .level)) (w .counts) ∙ r .outer;
+          }
+
+-- ---- both ways out, seen from where the gap was
+
+module _ {g : Signature} {side ws : List ℕ} {gap : Gap} {u : Subterm} {c : Stretches} (p : Puttable g side ws gap u c) {ws′ : List ℕ} {gap′ : Gap}
+    (v : Moved ws gap (u .at + u .width) gap′ ws′) where
+  abbrev q : Puttable g side ws′ gap′ u c
+  q = moved-puttable p v
+
+  length-moved : length (spliced side (termIn ws gap) u c) + gap′ .back ≡ u .at + reductLength (c .lengths) side + termWords
+  length-moved = ap (λ t. length (spliced side t u c) + gap′ .back) (sym (v .words)) ∙ spliced-length q (moved-stands p v)
+
+  pub put-long : gap′ .back < u .at + reductLength (c .lengths) side → Put g side ws gap u c TooLong ws′
+  put-long h = exceeds (omega (arith, length-moved)) refl (v .total ∙ p .total)
+
+  pub put-done : {source : Source} {ws₁ ws₂ : List ℕ} {b : ℕ} → Ready g side ws′ gap′ u c source ws₁ → Written g ws₁ (gap′ .back) ws₂ b (reduct side c source ws₁) →
+      u .at + reductLength (c .lengths) side ≤ gap′ .back → Put g side ws gap u c (Done (record { front = u .at; back = b })) ws₂
+  put-done {ws₂} {b} r w room =
+      let gap₂ : Gap = record { front = u .at; back = b } in
+      let d = placed-written q (moved-stands p v) r w room in
+      fits (omega (arith, length-moved)) gap₂ refl (record {
+        front = refl;
+        gapped = d .gapped;
+        total = d .total;
+        term = d .term ∙ ap (λ t. spliced side t u c) (v .words);
+        later = d .later;
+        before = d .before ∙ ap (λ t. take (u .at) (spans g t)) (v .words);
+        outer = d .outer ∙ ap (take (u .level)) (v .counts);
+      })
