@@ -1,15 +1,15 @@
 -- The reduct is written before what follows the words of u: the term in which it is put stands around the gap.
-use Prim.Native.Nat.{ℕ, _+_, _-_, _≤_, _<_}
+use Prim.Native.Nat.{ℕ, _+_, _≤_, _<_}
 use native.Mathlib.Omega.{arith}
 use mathlib.Core.Path.{_≡_, refl, sym, ap, _∙_, subst}
 use mathlib.Core.List.{List, _++_, append-assoc}
-use lib.ListN.{length, getD, take, drop, length-append, length-drop}
+use lib.ListN.{length, take, drop, length-append, length-drop}
 use lib.Seq.{take-take, length-take-le}
 use Rattle.system.specs.Limits.{areaWords, termWords}
 use Rattle.system.specs.Signature.{Signature}
 use Rattle.system.specs.System.{instance}
 use Rattle.rows.specs.declared.gap.Gap.{Gap}
-use Rattle.rows.specs.gap.Gaps.{countsAt, wordRow, lengthRow, Lies, closed, termIn, lengthsIn, wordsIn, behind, Moved}
+use Rattle.rows.specs.gap.Gaps.{wordRow, lengthRow, Lies, closed, termIn, behind, Moved}
 use Rattle.rows.specs.lengths.Spans.{spans}
 use Rattle.rows.specs.lengths.Written.{Written}
 use Rattle.rows.proofs.gap.Rows.{word-row-length, length-row-length}

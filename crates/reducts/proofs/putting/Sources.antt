@@ -2,8 +2,8 @@
 use Prim.Native.Nat.{ℕ, _+_, _-_, _≤_, _<_}
 use native.Mathlib.Omega.{arith}
 use native.Mathlib.Decide.{decLt}
-use mathlib.Core.Path.{_≡_, refl, sym, ap, _∙_, subst}
-use mathlib.Core.Bool.{true, false, cond}
+use mathlib.Core.Path.{_≡_, sym, ap, _∙_, subst}
+use mathlib.Core.Bool.{cond}
 use mathlib.Core.Logic.{_⊎_, inl, inr}
 use mathlib.Core.List.{List, _++_, append-assoc}
 use lib.ListN.{length, getD, take, drop, length-drop}
@@ -12,7 +12,7 @@ use borrow.Author.Tests.{lt-ltb, le-ltb}
 use Rattle.buffers.specs.Words.{over}
 use Rattle.buffers.specs.moves.Parts.{part}
 use Rattle.buffers.proofs.Over.{length-part, part-below}
-use Rattle.system.specs.Limits.{areaWords, termWords, variable}
+use Rattle.system.specs.Limits.{termWords, variable}
 use Rattle.system.specs.Signature.{Signature}
 use Rattle.system.specs.Terms.{Member}
 use Rattle.rows.specs.declared.gap.Gap.{Gap}

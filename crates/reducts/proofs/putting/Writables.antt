@@ -1,21 +1,20 @@
 -- The words of u stand before the gap, and the words of the redex are in place or set aside: the reduct may be written.
-use Prim.Native.Nat.{ℕ, _+_, _-_, _≤_, _<_}
+use Prim.Native.Nat.{ℕ, _+_, _≤_}
 use native.Mathlib.Omega.{arith}
 use native.Mathlib.Decide.{decLt}
-use mathlib.Core.Path.{_≡_, refl, sym, ap, _∙_, subst}
+use mathlib.Core.Path.{_≡_, refl, sym, _∙_, subst}
 use mathlib.Core.List.{List}
-use lib.ListN.{length, getD, take, drop}
+use lib.ListN.{length, take, drop}
 use lib.Seq.{length-sets}
 use Rattle.buffers.specs.Words.{over}
 use Rattle.buffers.specs.moves.Parts.{part}
 use Rattle.buffers.proofs.Over.{take-over, part-below}
-use Rattle.system.specs.Limits.{termWords, variable}
+use Rattle.system.specs.Limits.{variable}
 use Rattle.system.specs.Signature.{Signature}
 use Rattle.system.specs.System.{instance}
 use Rattle.system.specs.Terms.{Member}
 use Rattle.rows.specs.declared.gap.Gap.{Gap}
-use Rattle.rows.specs.gap.Gaps.{countsAt, termIn, behind}
-use Rattle.rows.specs.lengths.Measured.{Measured}
+use Rattle.rows.specs.gap.Gaps.{countsAt, termIn}
 use Rattle.rows.proofs.lengths.Measures.{measured-behind, measured-counts}
 use Rattle.matching.specs.rules.Searches.{reductLength}
 use Rattle.matching.proofs.Matched.{instance-cong}
