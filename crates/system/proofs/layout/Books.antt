@@ -9,7 +9,7 @@ use Rattle.system.specs.declared.Shape.{Shape}
 use Rattle.system.specs.Limits.{variable, variables}
 use Rattle.system.specs.System.{System, rule}
 use Rattle.system.specs.Terms.{WellFormedRule, WellFormed}
-use Rattle.system.specs.Format.{encodeStrategies, encodeRules}
+use Rattle.system.specs.Format.{encodeStrategies}
 use Rattle.system.specs.Parser.{ok}
 use Rattle.system.specs.Answers.{signatureOf, shapeOf}
 use Rattle.system.proofs.Accepts.{read-sound}
@@ -18,11 +18,8 @@ use Rattle.system.proofs.Members.{member-getD, numbered-below}
 use Rattle.system.proofs.Located.{Located, located, read-signature, RuleAt, rule-at}
 use Rattle.system.specs.declared.layout.rules.RuleSpan.{RuleSpan}
 use Rattle.system.specs.Book.{systemOf, Accepted}
+pub use Rattle.system.specs.layout.Accepted.{RulesAt as Rest}
 use Rattle.system.specs.layout.Rules.{ruleEnd, ruleSpan}
-
--- the rules from number k on stand from the index `at` on
-pub record Rest (b : List ℕ) (k at : ℕ) : Type 0 where
-  pub words : drop at b ≡ encodeRules (drop k (systemOf b .rules))
 
 -- rule number k stands at p
 pub record Here (b : List ℕ) (k at : ℕ) (p : RuleSpan) : Type 0 where

@@ -1,1 +1,3 @@
 pub mod Indexing
+pub mod Lists
+pub mod Noting

@@ -1,4 +1,4 @@
--- Where the strategies of an accepted book stand.
+-- Where the strategies and the rules of an accepted book stand.
 use Prim.Native.Nat.{ℕ, _+_, _<_}
 use mathlib.Core.Path.{_≡_}
 use mathlib.Core.List.{List, _∷_, _++_}
@@ -20,3 +20,7 @@ suffixFrom s k = encodeStrategies (drop k (s .strategies)) ++ (length (s .rules)
 -- other places in the book may hold the same words, and the next strategy would not be found from there.)
 pub record SuffixAt (ws : List ℕ) (k at : ℕ) : Type 0 where
   pub words : drop at ws ≡ suffixFrom (systemOf ws) k
+
+-- rule k stands at the index `at`, and those after it follow
+pub record RulesAt (ws : List ℕ) (k at : ℕ) : Type 0 where
+  pub words : drop at ws ≡ encodeRules (drop k (systemOf ws .rules))

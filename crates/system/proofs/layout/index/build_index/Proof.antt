@@ -1,73 +1,26 @@
--- `index::build_index` meets its contract. The loop's invariant: the strategies before that of symbol f are found.
-use Prim.Native.Nat.{_+_, _-_, _≤_, _<_}
+-- `index::build_index` meets its contract.
 use native.Mathlib.Omega.{arith}
-use mathlib.Core.Path.{sym, _∙_}
-use lib.ListN.{length, getD}
 use borrow.Author.Needs.{needs}
-use Rattle.system.proofs.layout.index.Indexing.{Indexing, indexing-start, indexing-room, indexing-next, indexing-end}
+use Rattle.system.proofs.layout.index.Indexing.{indexing-starts}
+use Rattle.system.proofs.layout.index.Noting.{rules-few}
 use Rattle.system.proofs.layout.index.build_index.Statement.{statement}
 use Rattle.system.proofs.layout.index.build_index.Tie as tie
 
-abbrev Inv-loop : tie.InvT-loop
-Inv-loop book shape index₀ at₀ f₀ index at f = Indexing book shape index f at
+-- where the first call is made: the entry
+abbrev entry : tie.After-struct-known → tie.Start
+entry c = c .before .before .before .before
 
-abbrev μ-loop : tie.MeasureT-loop
-μ-loop book shape index₀ at₀ f₀ index at f = shape .symbols - f
+cast-empty-lists : tie.Need-cast-empty-lists
+cast-empty-lists c = let n = rules-few (entry c .pre .0) in omega arith
 
--- ---- the places of the code that are behind others: the entry, the loop's head
-
-abbrev entry : tie.At-loop Inv-loop μ-loop → tie.Start Inv-loop μ-loop
-entry c = c .before .before .before
-
-abbrev head : tie.Then1 Inv-loop μ-loop → tie.At-loop Inv-loop μ-loop
-head c = c .before .before
-
--- the strategy of this turn lies in the book
-room : (c : tie.Then1 Inv-loop μ-loop) → let l = head c .loop in let b = entry (head c) .args .book .now in
-    (l .f < length (l .index)) × (l .at + getD b (l .at) 0 < length b) × (length b ≤ 65535)
-room c = let h = head c in indexing-room (entry h .pre .0) (h .loop .inv) (c .if1 .taken)
-
--- ---- the needs
-
-loop-holds : tie.Need-loop-holds Inv-loop μ-loop
-loop-holds c = let p = c .before .before .pre in indexing-start (p .0) (p .1)
-
-cast-index : tie.Need-cast-index Inv-loop μ-loop
-cast-index c = let r = room c in omega arith
-
-mul-index : tie.Need-mul-index Inv-loop μ-loop
-mul-index c = let r = room c in omega arith
-
-slice-write-index : tie.Need-slice-write-index Inv-loop μ-loop
-slice-write-index c = room c .0
-
-add-at : tie.Need-add-at Inv-loop μ-loop
-add-at c = let r = room c in omega arith
-
-mul-wide : tie.Need-mul-wide Inv-loop μ-loop
-mul-wide c = let r = room c in omega arith
-
-shared-slice-read-wide : tie.Need-shared-slice-read-wide Inv-loop μ-loop
-shared-slice-read-wide c = let r = room (c .before) in omega arith
-
-add-at-2 : tie.Need-add-at-2 Inv-loop μ-loop
-add-at-2 c = let r = room (c .before .before) in omega arith
-
-loop-again : tie.Need-loop-again Inv-loop μ-loop
-loop-again c =
-    let t = c .before .before in
-    let h = head t in
-    indexing-next (entry h .pre .0) (h .loop .inv) (t .if1 .taken) (c .wide .ensures .0)
-
-same-length : tie.Need-same-length Inv-loop μ-loop
-same-length c = let h = c .before .before in h .loop .inv .slots ∙ sym (entry h .pre .1)
-
-returns : tie.Need-returns Inv-loop μ-loop
-returns c = let h = c .before .before in indexing-end (entry h .pre .0) (h .loop .inv) (c .if1 .left)
+note-strategies-requires : tie.Need-note-strategies-requires
+note-strategies-requires c κs =
+    let e = c .before .before .before in
+    let acc = entry (e .before) .pre .0 in
+    (acc, indexing-starts acc (e .empty-lists .ensures))
 
 pub build-index-spec : {M : Type 1} → statement M
 build-index-spec =
     tie.close
     (tie.spec
-    Inv-loop μ-loop loop-holds cast-index mul-index slice-write-index add-at mul-wide shared-slice-read-wide (λ c κs. search needs)
-    add-at-2 (λ c. search needs) (λ c. search needs) loop-again same-length returns)
+    cast-empty-lists (λ c κs. search needs) note-strategies-requires (λ c κs. search needs) (λ c κs. search needs) (λ c. search needs) (λ c. search needs))
