@@ -3,3 +3,4 @@ pub mod MatchSteps
 pub mod Widths
 pub mod Fits
 pub mod Searches
+pub mod Lists

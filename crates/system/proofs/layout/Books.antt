@@ -3,7 +3,7 @@ use Prim.Native.Nat.{ℕ, _+_, _-_, _≤_, _<_}
 use native.Mathlib.Omega.{arith}
 use mathlib.Core.Path.{_≡_, sym, ap, _∙_}
 use mathlib.Core.List.{List}
-use lib.ListN.{length, getD, take, drop}
+use lib.ListN.{length, getD, take, drop, length-drop}
 use lib.Seq.{getD-take, getD-drop}
 use Rattle.system.specs.declared.Shape.{Shape}
 use Rattle.system.specs.Limits.{variable, variables}
@@ -133,3 +133,34 @@ module _ {b : List ℕ} {sh : Shape} (acc : Accepted b sh) {k at : ℕ} (more : 
 
   pub turn-of : {p : RuleSpan} → p ≡ ruleSpan b at → Turn b sh k at p
   turn-of {p} e = record { accepted = acc; more = within; inside = more; here = here p e }
+
+-- ---- rule k, wherever it was found to stand
+
+-- its two sides, in the words of the book
+pub record SidesAt (b : List ℕ) (k : ℕ) (p : RuleSpan) : Type 0 where
+  pub left-fits : p .lhs + p .width ≤ length b
+  pub right-fits : p .rhs + p .size ≤ length b
+  pub left : take (p .width) (drop (p .lhs) b) ≡ rule (systemOf b) k .lhs
+  pub right : take (p .size) (drop (p .rhs) b) ≡ rule (systemOf b) k .rhs
+
+module _ {b : List ℕ} {sh : Shape} (acc : Accepted b sh) {k at : ℕ} (more : k < sh .rules) (rest : Rest b k at) where
+  pub sides-at : {p : RuleSpan} → p ≡ ruleSpan b at → SidesAt b k p
+  sides-at {p} e =
+      let h = turn-of acc more rest e .here in
+      let w = stands acc more rest in
+      let s = h .starts in
+      let f = h .fits in
+      record {
+        left-fits = omega (arith, h .ends);
+        right-fits = omega (arith, h .ends);
+        left = rw (h .width, h .left) (w .left-words);
+        right = rw (h .size, h .right) (w .right-words);
+      }
+
+  -- it stands nowhere else
+  pub rule-unique : {at′ : ℕ} → Rest b k at′ → at ≡ at′
+  rule-unique {at′} rest′ =
+      let here = stands acc more rest .fits in
+      let there = stands acc more rest′ .fits in
+      let l : length b - at ≡ length b - at′ = sym (length-drop at b) ∙ ap length (rest .words ∙ sym (rest′ .words)) ∙ length-drop at′ b in
+      omega arith

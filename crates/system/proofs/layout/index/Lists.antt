@@ -1,8 +1,9 @@
 -- The rules of a bucket, in book order: `ruleFrom` finds the first of them from a number on, and skips no other.
 use Prim.Native.Nat.{ℕ, zero, suc, _+_, _-_, _≤_, _<_}
 use native.Mathlib.Omega.{arith}
+use native.Mathlib.Decide.{ℕ-discrete, decLt}
 use native.Mathlib.Numerals.{add-one}
-use mathlib.Core.Path.{_≡_, refl, _∙_}
+use mathlib.Core.Path.{_≡_, refl, ap, _∙_, subst}
 use mathlib.Core.Bool.{Bool, true, false}
 use mathlib.Core.List.{List, [], _∷_}
 use lib.ListN.{length, getD, drop, drop-of-length-le, length-drop}
@@ -10,7 +11,7 @@ use lib.Seq.{drop-cons, getD-drop}
 use lib.Dec.{eqb}
 use borrow.Author.Tests.{eq-eqb, ne-eqb, eqb-true, eqb-false}
 use Rattle.system.specs.System.{System, Rule, rule, noRule, head}
-use Rattle.system.specs.layout.Index.{bucket, seek, ruleFrom}
+use Rattle.system.specs.layout.Index.{bucket, seek, ruleFrom, ruleAfter}
 
 -- ---- the first of a list
 
@@ -98,3 +99,20 @@ module _ (s : System) (k b : ℕ) where
       let n = seek test (drop k (s .rules)) in
       let found = seek-found test (drop k (s .rules)) (omega (arith, from-seek, length-drop k (s .rules))) in
       rw from-seek (eqb-true _ b (rw (getD-drop k (s .rules) n noRule) at found))
+
+-- ---- what holds of every rule that starts with another word than w holds of all that are skipped along the list of the bucket of w
+
+module _ (s : System) (w : ℕ) (P : ℕ → Type 0) (others : (i : ℕ) → i < length (s .rules) → (head (rule s i .lhs) ≡ w → ⊥) → P i) where
+  between : (k i : ℕ) → k ≤ length (s .rules) → k ≤ i → i < ruleFrom s k (bucket w) → P i
+  between k i fits low high =
+      let h = from-within s k (bucket w) fits in
+      others i (omega arith) (λ e. from-skips s k (bucket w) i low high (ap bucket e))
+
+  pub skips-first : (i : ℕ) → i < ruleFrom s 0 (bucket w) → P i
+  skips-first i h = between 0 i (omega arith) (omega arith) h
+
+  pub skips-next : (k : ℕ) → k < length (s .rules) → bucket (head (rule s k .lhs)) ≡ bucket w → ((i : ℕ) → i < k → P i) → P k → (i : ℕ) → i < ruleAfter s k → P i
+  skips-next k more of before here i h = elim (decLt i k) [
+    | yes l ↦ before i l
+    | no n ↦ elim (ℕ-discrete k i) [ yes e ↦ subst P e here | no d ↦ between (k + 1) i (omega arith) (omega arith) (rw of at h) ]
+  ]
