@@ -1,4 +1,4 @@
 -- All of it is inner: no public contract rests on it
 pub mod advance
-pub mod reducts
+pub mod rewrites
 pub mod steps

@@ -4,7 +4,7 @@ ghost use lib.ListN.{length, take};
 ghost use Rattle.machine.specs.steps.Raised.{Raisable, Raised};
 ghost use Rattle.machine.specs.steps.Stepped.{Steppable, Steps};
 use crate::advance::State;
-use crate::reducts::rewrite;
+use crate::rewrites::rewrite;
 use matching::redexes::Redex;
 use reducts::putting::Reduced;
 use reducts::putting::Subterm;

@@ -17,7 +17,7 @@ const BUCKETS: usize = 64;
 
 // The words of an index: where each strategy stands, where each rule stands, the first rule of each bucket, and the rule that follows each in its
 // bucket. No accepted book is so long that an index into it is not a word.
-const RULE_STARTS: usize = MAX_SYMBOLS;
+pub const RULE_STARTS: usize = MAX_SYMBOLS;
 
 const FIRST_RULES: usize = RULE_STARTS + MAX_RULES;
 

@@ -1,9 +1,9 @@
 -- `reducts::move_tail` meets its contract.
-use Rattle.machine.proofs.reducts.Replacing.{move-none}
+use Rattle.machine.proofs.rewrites.Replacing.{move-none}
 use native.Mathlib.Omega.{arith}
 use borrow.Author.Needs.{needs}
-use Rattle.machine.proofs.reducts.move_tail.Statement.{statement}
-use Rattle.machine.proofs.reducts.move_tail.Tie as tie
+use Rattle.machine.proofs.rewrites.move_tail.Statement.{statement}
+use Rattle.machine.proofs.rewrites.move_tail.Tie as tie
 
 move-words-requires : tie.Need-move-words-requires
 move-words-requires c κs = search needs

@@ -23,7 +23,7 @@ use Rattle.rewriting.proofs.Laws.{down-lt}
 use Rattle.rewriting.proofs.OpenLevels.{opened-active}
 use Rattle.machine.specs.declared.reducts.Subterm.{Subterm}
 use Rattle.machine.specs.advance.Area.{area, termIn, outerIn, countIn, Represents}
-use Rattle.machine.specs.reducts.Rewritten.{Contracts, Reducible}
+use Rattle.machine.specs.rewrites.Rewritten.{Contracts, Reducible}
 use Rattle.machine.proofs.advance.Areas.{area-length}
 
 -- each level starts behind the one around it, so at least as many words stand before the innermost one as there are levels around it

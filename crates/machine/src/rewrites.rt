@@ -1,5 +1,5 @@
 // One rewrite in the rows. The words with which both sides of the rule end stay where they are.
-ghost use Rattle.machine.specs.reducts.Rewritten.{Reducible, Rewrites};
+ghost use Rattle.machine.specs.rewrites.Rewritten.{Reducible, Rewrites};
 use matching::FirstRule;
 use matching::redexes::Redex;
 use reducts::putting::Reduced;
@@ -9,8 +9,9 @@ use reducts::sides::reduct_length;
 use reducts::sides::shared_end;
 use reducts::writing::Stretches;
 use rows::gap::Gap;
-use system::layout::index::rule_start;
+use system::layout::index::RULE_STARTS;
 use system::layout::rules::rule_at;
+use system::words::wide;
 
 // Puts the reduct of the match m in the place of the subterm u: the right side of a listed rule stands in the book, that of a built-in one is
 // the word that it puts there.
@@ -35,7 +36,7 @@ pub fn rewrite(
             return Reduced::TooLong;
         }
         FirstRule::First { number, rhs, size } => {
-            let r = rule_at(book, rule_start(index, number));
+            let r = rule_at(book, wide(index[RULE_STARTS + number]));
             let shared = shared_end(&book[r.lhs..r.lhs + r.width], &book[rhs..rhs + size]);
             let mid = rhs + size - shared;
             let kept = reduct_length(&book[mid..rhs + size], lengths);

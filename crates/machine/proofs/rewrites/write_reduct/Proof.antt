@@ -3,9 +3,9 @@ use Prim.Native.Nat.{_-_}
 use lib.ListN.{length}
 use native.Mathlib.Omega.{arith}
 use borrow.Author.Needs.{needs}
-use Rattle.machine.proofs.reducts.Writing.{Writing, writing-starts, writing-ends, Round, symbol-room, writes-symbol, variable-known, variable-room, binding-room, writes-variable}
-use Rattle.machine.proofs.reducts.write_reduct.Statement.{statement}
-use Rattle.machine.proofs.reducts.write_reduct.Tie as tie
+use Rattle.machine.proofs.rewrites.Writing.{Writing, writing-starts, writing-ends, Round, symbol-room, writes-symbol, variable-known, variable-room, binding-room, writes-variable}
+use Rattle.machine.proofs.rewrites.write_reduct.Statement.{statement}
+use Rattle.machine.proofs.rewrites.write_reduct.Tie as tie
 
 abbrev Inv-loop : tie.InvT-loop
 Inv-loop side area₀ at base starts lengths to₀ j₀ area to j = Writing side area₀ (record { starts = starts; lengths = lengths }) at base to j area

@@ -1,9 +1,9 @@
 -- `reducts::clear_between` meets its contract.
-use Rattle.machine.proofs.reducts.Replacing.{clear-none}
+use Rattle.machine.proofs.rewrites.Replacing.{clear-none}
 use native.Mathlib.Omega.{arith}
 use borrow.Author.Needs.{needs}
-use Rattle.machine.proofs.reducts.clear_between.Statement.{statement}
-use Rattle.machine.proofs.reducts.clear_between.Tie as tie
+use Rattle.machine.proofs.rewrites.clear_between.Statement.{statement}
+use Rattle.machine.proofs.rewrites.clear_between.Tie as tie
 
 sub-clear : tie.Need-sub-clear
 sub-clear c = search needs

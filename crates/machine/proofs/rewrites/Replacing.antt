@@ -18,8 +18,8 @@ use Rattle.matching.proofs.Reducts.{reduct-length}
 use Rattle.system.specs.Limits.{termWords, areaWords}
 use Rattle.machine.specs.declared.reducts.Stretches.{Stretches}
 use Rattle.machine.specs.declared.reducts.Subterm.{Subterm}
-use Rattle.machine.specs.reducts.Reduct.{stretchBindings, reduct, Writable}
-use Rattle.machine.specs.reducts.Replaced.{subtermIn, Room, Replaceable, replaced, Replaced}
+use Rattle.machine.specs.rewrites.Reduct.{stretchBindings, reduct, Writable}
+use Rattle.machine.specs.rewrites.Replaced.{subtermIn, Room, Replaceable, replaced, Replaced}
 
 -- ---- laws of words written over a list
 

@@ -1,8 +1,8 @@
 -- `reducts::replace_subterm` meets its contract.
 use borrow.Author.Needs.{needs}
-use Rattle.machine.proofs.reducts.Replacing.{second-writable, all-edits}
-use Rattle.machine.proofs.reducts.replace_subterm.Statement.{statement}
-use Rattle.machine.proofs.reducts.replace_subterm.Tie as tie
+use Rattle.machine.proofs.rewrites.Replacing.{second-writable, all-edits}
+use Rattle.machine.proofs.rewrites.replace_subterm.Statement.{statement}
+use Rattle.machine.proofs.rewrites.replace_subterm.Tie as tie
 
 -- the places of the code that are behind others: its entry, and the first of the edits
 abbrev entry : tie.After-move-words → tie.Start

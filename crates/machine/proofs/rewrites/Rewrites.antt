@@ -29,13 +29,13 @@ use Rattle.machine.specs.declared.reducts.Reduced.the-variants.{Done}
 use Rattle.machine.specs.declared.reducts.Subterm.{Subterm}
 use Rattle.rewriting.specs.Machine.{position}
 use Rattle.machine.specs.advance.Area.{termIn}
-use Rattle.machine.specs.reducts.Reduct.{stretchesOf, stretchBindings, reduct}
-use Rattle.machine.specs.reducts.Replaced.{subtermIn, Room, Puttable, Put, fits, exceeds}
-use Rattle.machine.specs.reducts.Rewritten.{Contracts, Reducible, rewritten, done, long, Rewrites}
+use Rattle.machine.specs.rewrites.Reduct.{stretchesOf, stretchBindings, reduct}
+use Rattle.machine.specs.rewrites.Replaced.{subtermIn, Room, Puttable, Put, fits, exceeds}
+use Rattle.machine.specs.rewrites.Rewritten.{Contracts, Reducible, rewritten, done, long, Rewrites}
 use Rattle.rewriting.proofs.Actives.{At, at-parted, active-whole}
 use Rattle.rewriting.proofs.Done.{whole-within}
-use Rattle.machine.proofs.reducts.Bindings.{match-rest, match-behind}
-use Rattle.machine.proofs.reducts.Replacing.{part-take}
+use Rattle.machine.proofs.rewrites.Bindings.{match-rest, match-behind}
+use Rattle.machine.proofs.rewrites.Replacing.{part-take}
 
 module _ {book ws : List ℕ} {n : ℕ} {u : Subterm} {m : Match} (asked : Reducible book ws n u m) where
   abbrev s : System

@@ -1,9 +1,9 @@
 -- `reducts::put_reduct` meets its contract.
 use native.Mathlib.Omega.{arith}
 use borrow.Author.Needs.{needs}
-use Rattle.machine.proofs.reducts.Putting.{stretch-bound, reduct-bound, too-long, replaceable, puts}
-use Rattle.machine.proofs.reducts.put_reduct.Statement.{statement}
-use Rattle.machine.proofs.reducts.put_reduct.Tie as tie
+use Rattle.machine.proofs.rewrites.Putting.{stretch-bound, reduct-bound, too-long, replaceable, puts}
+use Rattle.machine.proofs.rewrites.put_reduct.Statement.{statement}
+use Rattle.machine.proofs.rewrites.put_reduct.Tie as tie
 
 -- the place of the code that is behind others: its entry
 abbrev entry : tie.After-reduct-length → tie.Start

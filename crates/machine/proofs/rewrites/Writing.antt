@@ -17,7 +17,7 @@ use Rattle.matching.proofs.Matched.{instance-nil}
 use Rattle.matching.proofs.Words.{fill-symbol, fill-variable}
 use Rattle.matching.proofs.Reducts.{length-symbol, length-variable, value-length}
 use Rattle.machine.specs.declared.reducts.Stretches.{Stretches}
-use Rattle.machine.specs.reducts.Reduct.{stretchBindings, reduct, Writable}
+use Rattle.machine.specs.rewrites.Reduct.{stretchBindings, reduct, Writable}
 
 -- the first j words of the right side, filled from ws
 abbrev filled : List ℕ → Stretches → List ℕ → ℕ → List ℕ

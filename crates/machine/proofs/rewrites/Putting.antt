@@ -12,8 +12,8 @@ use Rattle.matching.proofs.Reducts.{reduct-length}
 use Rattle.machine.specs.declared.reducts.Reduced.the-variants.{Done, TooLong}
 use Rattle.machine.specs.declared.reducts.Stretches.{Stretches}
 use Rattle.machine.specs.declared.reducts.Subterm.{Subterm}
-use Rattle.machine.specs.reducts.Reduct.{stretchBindings, reduct}
-use Rattle.machine.specs.reducts.Replaced.{subtermIn, Replaceable, Replaced, Puttable, Put, fits, exceeds}
+use Rattle.machine.specs.rewrites.Reduct.{stretchBindings, reduct}
+use Rattle.machine.specs.rewrites.Replaced.{subtermIn, Replaceable, Replaced, Puttable, Put, fits, exceeds}
 
 -- the length of a reduct has a bound
 length-bound : (lengths ls : List ℕ) → ((v : ℕ) → getD lengths v 0 ≤ 65535) → reductLength lengths ls ≤ length ls * 65535

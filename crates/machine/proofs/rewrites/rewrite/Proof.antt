@@ -5,9 +5,9 @@ use mathlib.Core.Path.{_≡_, subst}
 use lib.ListN.{take, drop}
 use borrow.Author.Needs.{needs}
 use Rattle.matching.specs.rules.Searches.{RightSide, RightSideAt}
-use Rattle.machine.proofs.reducts.Rewrites.{none-found, puttable, Reduces, listed-side, listed-reduces, word-side, word-reduces, rewrites}
-use Rattle.machine.proofs.reducts.rewrite.Statement.{statement}
-use Rattle.machine.proofs.reducts.rewrite.Tie as tie
+use Rattle.machine.proofs.rewrites.Rewrites.{none-found, puttable, Reduces, listed-side, listed-reduces, word-side, word-reduces, rewrites}
+use Rattle.machine.proofs.rewrites.rewrite.Statement.{statement}
+use Rattle.machine.proofs.rewrites.rewrite.Tie as tie
 
 -- ---- the places of the code that are behind others: the entry, where a listed rule is found, and where a built-in one is
 

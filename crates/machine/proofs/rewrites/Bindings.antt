@@ -19,7 +19,7 @@ use Rattle.matching.specs.declared.Match.{Match}
 use Rattle.matching.specs.declared.FirstRule.{FirstRule}
 use Rattle.matching.specs.declared.FirstRule.the-variants.{Nothing, First, Computed}
 use Rattle.matching.specs.Bindings.{Bindings, noBindings, consumed, withBinding, bindings, matchFrom, matchListed, matchComputed, orElse, matchOf}
-use Rattle.machine.specs.reducts.Replaced.{Behind}
+use Rattle.machine.specs.rewrites.Replaced.{Behind}
 use Rattle.matching.proofs.Computed.{computed-rest}
 use Rattle.matching.proofs.BindingsAgree.{zero-at}
 use Rattle.matching.proofs.rules.MatchSteps.{cons-stop, cons-next, consumed-variable, consumed-differ, consumed-same, withBinding-symbol, withBinding-variable, from-nil, from-here, from-next}

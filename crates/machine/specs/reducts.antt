@@ -1,2 +1,0 @@
--- A rewrite in an area of words: what the contracts of `reducts` cite. Inner: no public contract rests on it.
-pub mod Rewritten
