@@ -13,8 +13,8 @@ use system::layout::index::RULE_STARTS;
 use system::layout::rules::rule_at;
 use system::words::wide;
 
-// Puts the reduct of the match m in the place of the subterm u: the right side of a listed rule stands in the book, that of a built-in one is
-// the word that it puts there.
+// Puts the reduct of the match m in the place of the subterm u: the right side of a listed rule stands in the book, and what it ends with as the
+// left side does stays where it is; the right side of a built-in rule is the word that it puts there.
 pub fn rewrite(
     book: &[u16],
     index: &[u16],
@@ -35,11 +35,18 @@ pub fn rewrite(
         FirstRule::Nothing => {
             return Reduced::TooLong;
         }
-        FirstRule::First { number, rhs, size } => {
+        FirstRule::First {
+            number,
+            rhs: _,
+            size: _,
+        } => {
             let r = rule_at(book, wide(index[RULE_STARTS + number]));
-            let shared = shared_end(&book[r.lhs..r.lhs + r.width], &book[rhs..rhs + size]);
-            let mid = rhs + size - shared;
-            let kept = reduct_length(&book[mid..rhs + size], lengths);
+            let lhs = r.lhs;
+            let past = lhs + r.width;
+            let rhs = r.rhs;
+            let end = rhs + r.size;
+            let mid = end - shared_end(&book[lhs..past], &book[rhs..end]);
+            let kept = reduct_length(&book[mid..end], lengths);
             let front = Subterm {
                 level: u.level,
                 at: u.at,
