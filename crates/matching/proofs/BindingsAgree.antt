@@ -14,7 +14,6 @@ use Rattle.system.specs.Signature.{Signature, span, subterm}
 use Rattle.system.specs.System.{Rule, noRule, instance}
 use Rattle.system.specs.Terms.{Numbered, end, symbol, next, WellFormedRule}
 use Rattle.system.specs.Format.{encodeRules}
-use Rattle.system.proofs.Forests.{forest-length}
 use Rattle.system.proofs.Members.{member-getD, numbered-le}
 use Rattle.system.proofs.Located.{RuleAt, rule-encoded}
 use Rattle.system.proofs.words.SpanSteps.{span-le}
@@ -191,7 +190,6 @@ module _ (b ws : List ℕ) where
       right-side = record {
         fits = stands .fits;
         right = rw (stands .right-words) (record {
-          some = forest-length (law .right);
           small = law .shortRight;
           known = λ j h. let z = law .known (getD (r .rhs) j 0) (member-getD (r .rhs) j h) in omega (arith, law .variableBound);
         });

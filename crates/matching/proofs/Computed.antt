@@ -55,6 +55,11 @@ module _ (ws : List ℕ) where
   unfolding computed
   computed-binary q = rw (ne-eqb (getD ws 0 0) square q)
 
+  -- no word but the first three counts, and one that is not there is 0
+  pub computed-words : computed ws ≡ computed (getD ws 0 0 ∷ getD ws 1 0 ∷ getD ws 2 0 ∷ [])
+  unfolding computed
+  computed-words = refl
+
 -- ---- what is computed, and of which words
 
 pub data Operates (f a b : ℕ) (x : Computation) : Type 0 where

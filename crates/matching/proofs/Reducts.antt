@@ -12,28 +12,24 @@ use lib.Seq.{drop-cons, length-take-le}
 use borrow.Author.Tests.{lt-ltb, le-ltb}
 use Rattle.system.specs.declared.Shape.{Shape}
 use Rattle.system.specs.Limits.{variable}
-use Rattle.system.specs.BuiltIns.{builtInArity}
-use Rattle.system.specs.Signature.{Symbol, span}
-use Rattle.system.specs.System.{System, Rule, rule, head, instance}
+use Rattle.system.specs.System.{System, Rule, rule, instance}
 use Rattle.system.specs.Rules.{RuleOf, listed, builtIn}
 use Rattle.system.specs.Terms.{Whole, WellFormedRule}
 use Rattle.system.specs.Answers.{signatureOf}
 use Rattle.system.proofs.Signatures.{few-symbols, few-listed}
-use Rattle.system.proofs.Rules.{built-ground, built-length, built-front}
-use Rattle.system.proofs.Forests.{span-forest}
+use Rattle.system.proofs.Rules.{built-ground}
 use Rattle.matching.specs.declared.Match.{Match}
 use Rattle.matching.specs.declared.FirstRule.{FirstRule}
 use Rattle.matching.specs.declared.FirstRule.the-variants.{Nothing, First, Computed}
 use Rattle.system.specs.Book.{systemOf, Accepted}
 use Rattle.matching.specs.Matching.{FirstMatch, Matches, bind, Contraction, contraction}
 use Rattle.matching.specs.Bindings.{Bindings, matchListed, matchOf, value, bindingsOf, contractionOf}
-use Rattle.matching.specs.rules.Searches.{lhsEnd, unnumbered, ruleNumber, reductLength, RightSideAt, Within}
+use Rattle.matching.specs.rules.Searches.{unnumbered, ruleNumber, reductLength, RightSideAt, Within}
 use Rattle.matching.proofs.Matched.{instance-nil, instance-symbol, instance-variable, instance-cong, instance-ground, bind-sound}
 use Rattle.matching.proofs.Computed.{Redex, computed-built, computed-rest, computed-value}
 use Rattle.matching.proofs.Firsts.{contraction-rest, fired, unfired}
 use Rattle.matching.proofs.BindingsAgree.{Chosen}
 use Rattle.matching.proofs.Sources.{found, all-within, match-listed, match-computed, match-contraction}
-use Rattle.matching.proofs.rules.Widths.{lhsEnd-bound}
 use Rattle.system.proofs.layout.Books.{well, signature}
 
 -- ---- lengths
@@ -173,24 +169,12 @@ module _ (b : List ℕ) (sh : Shape) (acc : Accepted b sh) where
           let i : c .index ≡ n = (let q = c .number in omega arith) in
           ap (λ y. bind y (rule s n .lhs) (u ++ d) []) (signature b sh acc) ∙ subst (λ y. bind (signatureOf b) (rule s y .lhs) (u ++ d) [] ≡ some (c .σ)) i (c .bound)
 
-    -- its left side takes the subterm's words, all of them
-    pub found-lhsEnd : {n rhs size : ℕ} → m .rule ≡ First n rhs size → lhsEnd (s .arities) (rule s n .lhs) (u ++ d) 0 ≡ span (s .arities) (u ++ d) 1
-    found-lhsEnd f =
-        let z = lhsEnd-bound (s .arities) (few-symbols s (well b sh acc)) d 0 [] (c f .σ) (law f .left) whole (bound f) in
-        omega (arith, span-forest (s .arities) (Symbol (s .arities)) d whole)
-
     -- a built-in rule that is found has the subterm for its left side: an operator and its arguments
     built : {k w : ℕ} → m .rule ≡ Computed k w → Redex (s .arities) (few-listed s (well b sh acc)) u (record { number = k; word = w })
     built f =
         let few = few-listed s (well b sh acc) in
         let q = match-computed b sh acc (u ++ d) (ap (λ y. y .rule) (sym e) ∙ f) .1 in
         computed-built (s .arities) few whole _ (sym (computed-rest (s .arities) few d whole) ∙ q)
-
-    pub found-built : {k w : ℕ} → m .rule ≡ Computed k w → span (s .arities) (u ++ d) 1 ≡ suc (builtInArity (head (u ++ d)))
-    found-built f =
-        let r = built f in
-        span-forest (s .arities) (Symbol (s .arities)) d whole ∙ ap length (r .left) ∙ built-length (r .built)
-        ∙ ap (λ w. suc (builtInArity w)) (sym (built-front (r .built) d) ∙ sym (ap (λ u. head (u ++ d)) (r .left)))
 
     -- the words of the stretches fill its left side to the subterm
     listed-instance : {n rhs size : ℕ} → m .rule ≡ First n rhs size → instance (value (u ++ d) (bindingsOf m)) (rule s n .lhs) ≡ u

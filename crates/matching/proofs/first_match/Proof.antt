@@ -1,9 +1,8 @@
 -- `first_match` meets its contract.
-use mathlib.Core.Path.{ap, _∙_}
+use mathlib.Core.Path.{_∙_}
 use Rattle.system.proofs.layout.Accepting.{scan-accepted}
 use Rattle.matching.specs.Bindings.{noBindings}
 use Rattle.matching.proofs.Sources.{scan-refuses, scan-matches}
-use Rattle.matching.proofs.rules.Widths.{search-match}
 use borrow.Author.Needs.{needs}
 use Rattle.matching.proofs.first_match.Statement.{statement}
 use Rattle.matching.proofs.first_match.Tie as tie
@@ -20,8 +19,8 @@ first-rule-requires c κs = let x = c .before .before .scan-book in scan-accepte
 
 returns-2 : tie.Need-returns-2
 returns-2 c =
-    let x = c .before .before .before .before .scan-book in
-    ap (λ y. y .matched) (c .before .first-rule .ensures) ∙ search-match _ _ ∙ scan-matches _ (x .result) (x .ensures) (c .before .before .if1 .left) _
+    let x = c .before .before .before .scan-book in
+    c .first-rule .ensures ∙ scan-matches _ (x .result) (x .ensures) (c .before .if1 .left) _
 
 pub first-match-spec : {M : Type 1} → statement M
 first-match-spec = tie.close (tie.spec scan-book-requires returns first-rule-requires returns-2)

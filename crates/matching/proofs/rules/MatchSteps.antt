@@ -2,6 +2,7 @@
 use Prim.Native.Nat.{ℕ, zero, suc, _+_, _-_, _≤_, _<_}
 use native.Mathlib.Omega.{arith}
 use native.Mathlib.Numerals.{add-one}
+use native.Mathlib.Decide.{decLt, ℕ-discrete}
 use mathlib.Core.Path.{_≡_, refl, sym, _∙_}
 use mathlib.Core.Option.{none, some}
 use mathlib.Core.List.{List, [], _∷_}
@@ -11,6 +12,7 @@ use borrow.Author.Tests.{lt-ltb, le-ltb, eq-eqb, ne-eqb}
 use Rattle.system.specs.Limits.{variable}
 use Rattle.system.specs.Signature.{Signature, span}
 use Rattle.system.specs.System.{Rule, noRule}
+use Rattle.system.proofs.words.SpanSteps.{span-le}
 use Rattle.matching.specs.declared.FirstRule.the-variants.{First}
 use Rattle.matching.specs.Bindings.{Bindings, noBindings, consumed, withBinding, bindings, noMatch, matchFrom}
 
@@ -53,6 +55,18 @@ module _ (g : Signature) (l : ℕ) (ws : List ℕ) where
         go : (ws : List ℕ) → 0 < length ws → l ≡ getD ws 0 0 → consumed g l ws ≡ 1
         go [] e d = absurd (omega arith)
         go (w ∷ ws) e d = rw (lt-ltb l variable h, eq-eqb l w d)
+
+-- never more than there are
+pub consumed-le : (g : Signature) (l : ℕ) (ws : List ℕ) → consumed g l ws ≤ length ws
+consumed-le g l [] = rw (consumed-end g l [] refl) (omega arith)
+consumed-le g l (w ∷ ws) = elim (decLt l variable) [
+  | yes v ↦
+      elim (ℕ-discrete l w) [
+        | yes e ↦ rw (consumed-same g l (w ∷ ws) (omega arith) v e) (omega arith)
+        | no d ↦ rw (consumed-differ g l (w ∷ ws) (omega arith) v d) (omega arith)
+      ]
+  | no v ↦ rw (consumed-variable g l (w ∷ ws) (omega arith) (omega arith)) (span-le g (w ∷ ws) 1)
+]
 
 pub withBinding-symbol : (l q n : ℕ) (a : Bindings) → l < variable → withBinding l q n a ≡ a
 unfolding withBinding

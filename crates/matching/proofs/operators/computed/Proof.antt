@@ -1,115 +1,94 @@
 -- Two words or three tell whether a built-in rule matches.
-use Prim.Native.Nat.{ℕ, suc}
-use native.Mathlib.Omega.{arith}
+use Prim.Native.Nat.{ℕ}
 use mathlib.Core.Path.{_≡_, sym, ap, _∙_}
 use mathlib.Core.Bool.{true}
-use mathlib.Core.Option.{some}
-use mathlib.Core.List.{List}
-use lib.ListN.{getD}
-use Rattle.system.specs.BuiltIns.{maximum, minimum, square, isLiteral}
+use mathlib.Core.Option.{Option, none, some}
+use mathlib.Core.List.{List, [], _∷_}
+use Rattle.system.specs.BuiltIns.{square, isLiteral}
 use Rattle.system.specs.Rules.{maximumRule, minimumRule, squareRule}
-use Rattle.system.proofs.BuiltIns.{arity-two, arity-one}
-use Rattle.matching.proofs.Computed.{computed-one, computed-two, computed-first, computed-second, computed-square, computed-maximum, computed-minimum, computed-plain}
-use Rattle.matching.proofs.rules.Widths.{is-nothing, is-put}
+use Rattle.matching.specs.declared.FirstRule.the-variants.{Nothing, Computed}
+use Rattle.matching.specs.Matching.{Computation}
+use Rattle.matching.specs.Bindings.{computedRule}
+use Rattle.matching.proofs.Computed.{computed-first, computed-second, computed-square, computed-maximum, computed-minimum, computed-plain}
 use borrow.Author.Tests.{not-true, not-false}
 use borrow.Author.Needs.{needs}
 use Rattle.matching.proofs.operators.computed.Statement.{statement}
 use Rattle.matching.proofs.operators.computed.Tie as tie
 
--- ---- the places of the code that are behind others: the first word as a number, the look at the second word, at the operator, at the third word
+-- ---- the places of the code that are behind others: the second word looked at, the third
 
-abbrev start : tie.After-wide → tie.Start
-start c = c .before .before .before .before
+abbrev second : tie.Else2 → tie.Else1
+second c = c .before
 
-abbrev second : tie.After-is-literal → tie.After-wide
-second c = c .before .before
+abbrev third : tie.Else3 → tie.Else2
+third c = c .before .before
 
-abbrev single : tie.Else3 → tie.After-is-literal
-single c = c .before .before
-
-abbrev third : tie.After-is-literal2 → tie.Else3
-third c = c .before .before .before
+abbrev words : tie.After-wide → List ℕ
+words c = let a = c .before .args in a .first ∷ a .m ∷ a .n ∷ []
 
 -- ---- what is known there: the first argument is a literal, the operator is not the curve, the second argument is a literal
 
-abbrev words : tie.After-wide → List ℕ
-words c = start c .args .ws .now
+left : (c : tie.Else1) → isLiteral (c .before .before .before .args .m) ≡ true
+left c = sym (c .before .is-literal .ensures) ∙ not-false _ (c .if1 .left)
 
-left : (c : tie.Else2) → isLiteral (getD (words (second (c .before))) 1 0) ≡ true
-left c = sym (c .before .is-literal .ensures) ∙ not-false _ (c .if2 .left)
+other : (c : tie.Else2) → c .before .before .before .before .args .first ≡ square → ⊥
+other c q = c .if2 .left (c .before .before .before .wide .ensures .0 ∙ q)
 
-other : (c : tie.Else3) → getD (words (second (single c))) 0 0 ≡ square → ⊥
-other c q = c .if3 .left (second (single c) .wide .ensures .0 ∙ q)
+right : (c : tie.Else3) → isLiteral (third c .before .before .before .before .args .n) ≡ true
+right c = sym (c .before .is-literal2 .ensures) ∙ not-false _ (c .if3 .left)
 
-right : (c : tie.Else5) → isLiteral (getD (words (second (single (third (c .before))))) 2 0) ≡ true
-right c = sym (c .before .is-literal2 .ensures) ∙ not-false _ (c .if5 .left)
+-- ---- what is found
+
+nothing : {o : Option Computation} → o ≡ none → Nothing ≡ computedRule o
+nothing e = sym (ap computedRule e)
+
+puts : {o : Option Computation} (k : ℕ) {w v : ℕ} → o ≡ some (record { number = k; word = w }) → v ≡ w → Computed k v ≡ computedRule o
+puts k e q = ap (Computed k) q ∙ sym (ap computedRule e)
 
 -- ---- the needs
 
 returns : tie.Need-returns
-returns c s = let t = c .before in c .nothing .ensures ∙ is-nothing s (t .before .before .args .ws .now) (computed-one _ (t .if1 .taken))
-
-returns-2 : tie.Need-returns-2
-returns-2 c s =
-    let l = c .before .before in
-    c .nothing2 .ensures ∙ is-nothing s (words (second l)) (computed-first _ (sym (l .is-literal .ensures) ∙ not-true _ (c .before .if2 .taken)))
+returns c = let l = c .before in nothing (computed-first (words (l .before)) (sym (l .is-literal .ensures) ∙ not-true _ (c .if1 .taken)))
 
 squared-requires : tie.Need-squared-requires
 squared-requires c κs = left (c .before)
 
+returns-2 : tie.Need-returns-2
+returns-2 c =
+    let t = c .before in
+    let w = t .before .before .before in
+    puts squareRule (computed-square (words w) (left (t .before)) (sym (w .wide .ensures .0) ∙ t .if2 .taken)) (c .squared .ensures)
+
 returns-3 : tie.Need-returns-3
-returns-3 c s =
-    let t = c .before .before in
-    let w = second (t .before .before) in
-    let is : getD (words w) 0 0 ≡ square = sym (w .wide .ensures .0) ∙ t .if3 .taken in
-    c .puts .ensures ∙ is-put s (words w) squareRule (c .before .squared .result) 2
-    (computed-square (words w) (left (t .before)) is ∙ ap (λ v. some (record { number = squareRule; word = v })) (sym (c .before .squared .ensures)))
-    (ap suc (sym (arity-one _ is)))
+returns-3 c =
+    let l = c .before in
+    nothing (computed-second (words (second (l .before) .before .before)) (other (l .before)) (sym (l .is-literal2 .ensures) ∙ not-true _ (c .if3 .taken)))
 
 returns-4 : tie.Need-returns-4
-returns-4 c s =
-    let l = c .before .before in
-    c .nothing3 .ensures ∙ is-nothing s (words (second (single l))) (computed-two _ (other l) (c .before .if4 .taken))
+returns-4 c =
+    let t = c .before in
+    let l = second (third (t .before)) in
+    let w = l .before .before in
+    puts maximumRule (computed-maximum (words w) (left l) (right (t .before)) (sym (w .wide .ensures .0) ∙ t .if4 .taken)) (c .larger .ensures)
 
 returns-5 : tie.Need-returns-5
-returns-5 c s =
-    let t = c .before .before in
-    let l = third t in
-    c .nothing4 .ensures ∙ is-nothing s (words (second (single l))) (computed-second _ (other l) (sym (t .is-literal2 .ensures) ∙ not-true _ (c .before .if5 .taken)))
+returns-5 c =
+    let t = c .before in
+    let r = t .before .before in
+    let l = second (third r) in
+    let w = l .before .before in
+    puts minimumRule (computed-minimum (words w) (left l) (right r) (sym (w .wide .ensures .0) ∙ t .if5 .taken)) (c .smaller .ensures)
 
 returns-6 : tie.Need-returns-6
-returns-6 c s =
-    let t = c .before .before in
-    let l = third (t .before .before) in
-    let w = second (single l) in
-    let is : getD (words w) 0 0 ≡ maximum = sym (w .wide .ensures .0) ∙ t .if6 .taken in
-    c .puts2 .ensures ∙ is-put s (words w) maximumRule (c .before .larger .result) 3
-    (computed-maximum (words w) (left (l .before)) (right (t .before)) is ∙ ap (λ v. some (record { number = maximumRule; word = v })) (sym (c .before .larger .ensures)))
-    (ap suc (sym (arity-two _ (omega arith) (omega arith))))
-
-returns-7 : tie.Need-returns-7
-returns-7 c s =
-    let t = c .before .before in
-    let r = t .before .before in
-    let l = third (r .before) in
-    let w = second (single l) in
-    let is : getD (words w) 0 0 ≡ minimum = sym (w .wide .ensures .0) ∙ t .if7 .taken in
-    c .puts3 .ensures ∙ is-put s (words w) minimumRule (c .before .smaller .result) 3
-    (computed-minimum (words w) (left (l .before)) (right r) is ∙ ap (λ v. some (record { number = minimumRule; word = v })) (sym (c .before .smaller .ensures)))
-    (ap suc (sym (arity-two _ (omega arith) (omega arith))))
-
-returns-8 : tie.Need-returns-8
-returns-8 c s =
-    let t = c .before in
-    let l = third (t .before .before .before) in
-    let w = second (single l) in
+returns-6 c =
+    let l = third (c .before .before) in
+    let w = second l .before .before in
     let is = w .wide .ensures .0 in
-    c .nothing5 .ensures ∙ is-nothing s (words w) (computed-plain (words w) (λ q. t .before .if6 .left (is ∙ q)) (λ q. t .if7 .left (is ∙ q)) (other l))
+    nothing (computed-plain (words w) (λ q. c .before .if4 .left (is ∙ q)) (λ q. c .if5 .left (is ∙ q)) (other l))
 
 pub computed-spec : {M : Type 1} → statement M
 computed-spec =
     tie.close
     (tie.spec
-    (λ c κs. search needs) returns (λ c. search needs) (λ c κs. search needs) (λ c. search needs) (λ c κs. search needs) (λ c κs. search needs) returns-2
-    squared-requires (λ c κs. search needs) returns-3 (λ c κs. search needs) returns-4 (λ c. search needs) (λ c κs. search needs) (λ c κs. search needs) returns-5
-    (λ c κs. search needs) (λ c κs. search needs) returns-6 (λ c κs. search needs) (λ c κs. search needs) returns-7 (λ c κs. search needs) returns-8)
+    (λ c κs. search needs) (λ c κs. search needs) returns squared-requires returns-2 (λ c κs. search needs) returns-3 (λ c κs. search needs) returns-4
+    (λ c κs. search needs) returns-5 returns-6)

@@ -1,38 +1,38 @@
 -- `rules::first_rule` meets its contract.
-use mathlib.Core.Path.{_≡_, sym, _∙_}
+use mathlib.Core.Path.{_≡_, ap, _∙_}
 use mathlib.Core.Logic.{⊎-elim}
-use lib.ListN.{getD}
-use borrow.Author.Tests.{leb-true, leb-false}
-use Rattle.system.specs.BuiltIns.{literal}
+use mathlib.Core.List.{[], _∷_}
+use lib.ListN.{getD, drop}
+use Rattle.system.specs.Answers.{signatureOf}
 use Rattle.system.specs.Book.{systemOf}
-use Rattle.matching.specs.rules.Searches.{searchListed, searchOf}
-use Rattle.matching.proofs.Sources.{match-low, match-high}
-use Rattle.matching.proofs.rules.Widths.{listed-search, computed-search}
+use Rattle.matching.proofs.Sources.{match-low, match-words}
+use Rattle.matching.proofs.rules.MatchSteps.{tail}
 use Rattle.matching.proofs.rules.Searches.{Searched, Walked, search-starts, search-ends, root-differs, walk-starts, matches-here, word-differs, symbol-matched, variable-matched}
 use Rattle.system.proofs.layout.Books.{Turn, room, turn-of}
 use native.Mathlib.Omega.{arith}
-use Prim.Native.Nat.{_-_}
-use Rattle.matching.specs.Bindings.{noBindings}
+use Prim.Native.Nat.{_+_, _-_}
+use Rattle.matching.specs.Matching.{computed}
+use Rattle.matching.specs.Bindings.{noBindings, consumed, computedRule, matchListed, matchOf}
 use borrow.Author.Needs.{needs}
 use Rattle.matching.proofs.rules.first_rule.Statement.{statement}
 use Rattle.matching.proofs.rules.first_rule.Tie as tie
 
 abbrev Inv-words : tie.InvT-words
-Inv-words book shape ws found starts lengths end k at this r lhs width s₀ l₀ j₀ q₀ s l j q = Walked book ws this width j q s l
+Inv-words book shape ws found starts lengths k at this r lhs width s₀ l₀ j₀ q₀ s l j q = Walked book ws this width j q s l
 
 abbrev μ-words : tie.MeasureT-words
-μ-words book shape ws found starts lengths end k at this r lhs width s₀ l₀ j₀ q₀ s l j q = width - j
+μ-words book shape ws found starts lengths k at this r lhs width s₀ l₀ j₀ q₀ s l j q = width - j
 
 abbrev Inv-rules : tie.InvT-rules
-Inv-rules book shape ws found₀ starts₀ lengths₀ end₀ k₀ at₀ found starts lengths end k at = Searched book shape ws found starts lengths end k at
+Inv-rules book shape ws found₀ starts₀ lengths₀ k₀ at₀ found starts lengths k at = Searched book shape ws found starts lengths k at
 
 abbrev μ-rules : tie.MeasureT-rules
-μ-rules book shape ws found₀ starts₀ lengths₀ end₀ k₀ at₀ found starts lengths end k at = shape .rules - k
+μ-rules book shape ws found₀ starts₀ lengths₀ k₀ at₀ found starts lengths k at = shape .rules - k
 
--- ---- the places of the code that are behind others: the first word looked at, the entry, the head of the rules' loop, the rule read, the word met
+-- ---- the places of the code that are behind others: the entry, the head of the rules' loop, the rule read, the word met
 
-abbrev start : tie.After-starts-built-in Inv-words μ-words Inv-rules μ-rules → tie.Start Inv-words μ-words Inv-rules μ-rules
-start c = c .before .before .before
+abbrev start : tie.After-wide Inv-words μ-words Inv-rules μ-rules → tie.Start Inv-words μ-words Inv-rules μ-rules
+start c = c .before .before .before .before
 
 abbrev entry : tie.At-rules Inv-words μ-words Inv-rules μ-rules → tie.Start Inv-words μ-words Inv-rules μ-rules
 entry c = start (c .before .before)
@@ -52,29 +52,48 @@ turn : (c : tie.After-rule-at Inv-words μ-words Inv-rules μ-rules) →
     let a = entry h .args in Turn (a .book .now) (a .shape) (h .rules .k) (h .rules .at) (c .rule-at .result)
 turn c = let h = head c in turn-of (entry h .pre) (c .before .if2 .taken) (h .rules .inv .rest) (c .rule-at .ensures)
 
+-- the first word, as a number
+first : (c : tie.After-wide Inv-words μ-words Inv-rules μ-rules) → c .wide .result ≡ getD (start c .args .ws .now) 0 0
+first c = c .wide .ensures .0 ∙ c .before .word-of .ensures
+
 -- only listed rules can match, so what is found among them is what is found
 all-listed : (c : tie.At-rules Inv-words μ-words Inv-rules μ-rules) →
-    let a = entry c .args in searchListed (systemOf (a .book .now)) (a .ws .now) ≡ searchOf (systemOf (a .book .now)) (a .ws .now)
+    let a = entry c .args in matchListed (systemOf (a .book .now)) (a .ws .now) ≡ matchOf (systemOf (a .book .now)) (a .ws .now)
 all-listed c =
     let e = c .before in
     let a = entry c .args in
-    let low = leb-false literal (getD (a .ws .now) 0 0) (sym (e .before .starts-built-in .ensures) ∙ e .if1 .left) in
-    listed-search (systemOf (a .book .now)) (a .ws .now) (match-low (a .book .now) (a .shape) (entry c .pre) (a .ws .now) low)
+    let is = first (e .before) in
+    match-low (a .book .now) (a .shape) (entry c .pre) (a .ws .now) (let l = e .if1 .left in omega arith)
+
+-- the first three words
+three : (c : tie.After-word-of4 Inv-words μ-words Inv-rules μ-rules) → let ws = start (c .before .before .before .before) .args .ws .now in
+    let f = c .before .before .word-of2 .result in
+    let m = c .before .word-of3 .result in f ∷ m ∷ c .word-of4 .result ∷ [] ≡ getD ws 0 0 ∷ getD ws 1 0 ∷ getD ws 2 0 ∷ []
+three c = λ i. c .before .before .word-of2 .ensures i ∷ c .before .word-of3 .ensures i ∷ c .word-of4 .ensures i ∷ []
+
+-- what the word of this turn takes
+took : (c : tie.After-consumed2 Inv-words μ-words Inv-rules μ-rules) →
+    let m = met c in
+    let r = read (m .before) in
+    let a = entry (head r) .args in
+    c .consumed2 .result ≡ consumed (signatureOf (a .book .now)) (getD (a .book .now) (r .rule-at .result .lhs + m .before .words .j) 0) (drop (m .before .words .q) (a .ws .now))
+took c = rw (tail (entry (head (read (met c .before))) .args .ws .now) (met c .before .words .q)) at (c .consumed2 .ensures .0)
 
 -- ---- the needs
 
 returns : tie.Need-returns Inv-words μ-words Inv-rules μ-rules
+unfolding noBindings
 returns c =
-    let b = c .before .before in
-    let s = start b in
+    let t = c .before .before .before .before in
+    let s = start (t .before) in
     let a = s .args in
-    let high = leb-true literal (getD (a .ws .now) 0 0) (sym (b .starts-built-in .ensures) ∙ c .before .if1 .taken) in
-    c .computed .ensures (systemOf (a .book .now))
-    ∙ computed-search (systemOf (a .book .now)) (a .ws .now) (match-high (a .book .now) (a .shape) (s .pre) (a .ws .now) high)
+    let is = first (t .before) in
+    match-words (a .book .now) (a .shape) (s .pre) (a .ws .now)
+    (c .computed .ensures ∙ ap (λ ws. computedRule (computed ws)) (three (c .before))) (let h = t .if1 .taken in omega arith)
 
 rules-holds : tie.Need-rules-holds Inv-words μ-words Inv-rules μ-rules
 unfolding noBindings
-rules-holds c = let s = c .before .before .before .before in search-starts (s .pre) (s .args .ws .now)
+rules-holds c = let s = start (c .before) in search-starts (s .pre) (s .args .ws .now)
 
 rule-at-requires : tie.Need-rule-at-requires Inv-words μ-words Inv-rules μ-rules
 rule-at-requires c κs = let h = c .before .before in room (entry h .pre) (c .if2 .taken) (h .rules .inv .rest)
@@ -105,7 +124,7 @@ rules-again-2 : tie.Need-rules-again-2 Inv-words μ-words Inv-rules μ-rules
 rules-again-2 c =
     let m = met (c .before) in
     let r = read (m .before) in
-    word-differs (turn r) (head r .rules .inv) (m .before .words .inv) (m .words-test .taken) (c .before .consumed2 .ensures .0) (c .if4 .taken)
+    word-differs (turn r) (head r .rules .inv) (m .before .words .inv) (m .words-test .taken) (took (c .before)) (c .if4 .taken)
 
 array-write-s : tie.Need-array-write-s Inv-words μ-words Inv-rules μ-rules
 array-write-s c =
@@ -124,11 +143,11 @@ words-again c =
     let t = turn (read (m .before)) in
     let wo = m .before .words .inv in
     let here = m .words-test .taken in
-    let n = k .consumed2 in
-    let v = c .before .wide in
+    let much = c .before .before .if4 .left in
+    let v = c .before .wide2 in
     ⊎-elim
-    (λ e. variable-matched t wo here (n .ensures) (c .before .before .if4 .left) (v .ensures .0) (e .0 .taken) (e .1) (e .2))
-    (λ e. symbol-matched t wo here (n .ensures) (c .before .before .if4 .left) (v .ensures .0) (e .0 .left) (e .1) (e .2))
+    (λ e. variable-matched t wo here (took k) much (v .ensures .0) (e .0 .taken) (e .1) (e .2))
+    (λ e. symbol-matched t wo here (took k) much (v .ensures .0) (e .0 .left) (e .1) (e .2))
     (c .if5 .came)
 
 returns-2 : tie.Need-returns-2 Inv-words μ-words Inv-rules μ-rules
@@ -143,7 +162,8 @@ pub first-rule-spec : {M : Type 1} → statement M
 first-rule-spec =
     tie.close
     (tie.spec
-    Inv-words μ-words Inv-rules μ-rules (λ c κs. search needs) (λ c κs. search needs) returns rules-holds rule-at-requires (λ c. search needs) mul-consumed shared-slice-read-consumed
+    Inv-words μ-words Inv-rules μ-rules (λ c κs. search needs) (λ c κs. search needs) (λ c κs. search needs) (λ c κs. search needs) (λ c κs. search needs)
+    (λ c κs. search needs) returns rules-holds rule-at-requires (λ c. search needs) mul-consumed shared-slice-read-consumed
     (λ c κs. search needs) (λ c. search needs) rules-again words-holds add-w mul-w shared-slice-read-w (λ c. search needs)
     (λ c. search needs) (λ c. search needs) (λ c. search needs) (λ c κs. search needs) (λ c. search needs) rules-again-2
     (λ c κs. search needs) (λ c. search needs) array-write-s (λ c. search needs) array-write-l (λ c. search needs) (λ c. search needs)
