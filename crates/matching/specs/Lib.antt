@@ -5,3 +5,4 @@ pub mod StrategyTest
 pub mod Cases
 -- Inner: the search over the rules
 pub mod rules
+pub mod redexes

@@ -96,13 +96,14 @@ pub fn first_redex(
         ));
     }
     let mut found = unbound(FirstRule::Nothing);
-    let mut k = first_of(index, shape, head);
+    let mut k = first_of(book, shape, index, head);
     'rules: while k < shape.rules {
         let number = k;
-        let r = rule_at(book, rule_start(index, shape, k));
+        let at = rule_start(book, shape, index, k);
+        let r = rule_at(book, at);
         let lhs = r.lhs;
         let width = r.width;
-        k = next_of(index, shape, k);
+        k = next_of(book, shape, index, k);
         let mut starts = [0u16; VARIABLES];
         let mut lengths = [0u16; VARIABLES];
         let mut j = 0;

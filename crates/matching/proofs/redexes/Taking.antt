@@ -1,0 +1,38 @@
+-- What a word of a left side takes of a term in the rows: a variable as many words as the length beside the word there says.
+use Prim.Native.Nat.{ℕ, _+_, _≤_, _<_}
+use native.Mathlib.Omega.{arith}
+use mathlib.Core.Path.{_≡_, sym, ap, _∙_}
+use mathlib.Core.List.{List}
+use lib.ListN.{length, getD, drop, length-drop}
+use lib.Seq.{getD-drop}
+use Rattle.system.specs.Limits.{variable}
+use Rattle.system.specs.Signature.{Signature}
+use Rattle.rows.specs.declared.gap.Gap.{Gap}
+use Rattle.rows.specs.gap.Gaps.{wordsIn, termIn, lengthsIn}
+use Rattle.rows.specs.lengths.Measured.{Measured}
+use Rattle.rows.proofs.lengths.Measures.{words-length, measured-length}
+use Rattle.matching.specs.Bindings.{consumed}
+use Rattle.matching.proofs.rules.MatchSteps.{consumed-end, consumed-variable, consumed-differ, consumed-same}
+
+module _ {g : Signature} {area : List ℕ} {gap : Gap} (m : Measured g area gap) (l q : ℕ) where
+  abbrev here : List ℕ
+  here = drop q (termIn area gap)
+
+  pub taken-none : wordsIn gap ≤ q → 0 ≡ consumed g l (drop q (termIn area gap))
+  taken-none h = sym (consumed-end g l here (let n = length-drop q (termIn area gap) in let k = words-length (m .gapped) in omega arith))
+
+  module _ (inside : q < wordsIn gap) where
+    some-words : 0 < length here
+    some-words = let n = length-drop q (termIn area gap) in let k = words-length (m .gapped) in omega arith
+
+    pub taken-variable : {n : ℕ} → n ≡ getD (lengthsIn area gap) q 0 → variable ≤ l → n ≡ consumed g l (drop q (termIn area gap))
+    taken-variable e h = e ∙ measured-length m q ∙ sym (consumed-variable g l here some-words h)
+
+    first : {w : ℕ} → w ≡ getD (termIn area gap) q 0 → w ≡ getD here 0 0
+    first e = e ∙ ap (λ i. getD (termIn area gap) i 0) (let z : q ≡ q + 0 = omega arith in z) ∙ sym (getD-drop q (termIn area gap) 0 0)
+
+    pub taken-differ : {w : ℕ} → w ≡ getD (termIn area gap) q 0 → l < variable → (l ≡ w → ⊥) → 0 ≡ consumed g l (drop q (termIn area gap))
+    taken-differ e low d = sym (consumed-differ g l here some-words low (λ z. d (z ∙ sym (first e))))
+
+    pub taken-same : {w : ℕ} → w ≡ getD (termIn area gap) q 0 → l < variable → l ≡ w → 1 ≡ consumed g l (drop q (termIn area gap))
+    taken-same e low z = sym (consumed-same g l here some-words low (z ∙ first e))
