@@ -3,7 +3,7 @@ use Prim.Native.Nat.{ℕ, _≤_, _<_}
 use native.Mathlib.Omega.{arith}
 use mathlib.Core.Path.{_≡_, refl, sym, ap, _∙_}
 use mathlib.Core.Option.{Option, none, some}
-use mathlib.Core.List.{List, [], _∷_}
+use mathlib.Core.List.{List}
 use lib.ListN.{getD, take, drop}
 use Rattle.system.specs.declared.Shape.{Shape}
 use Rattle.system.specs.Numbers.{Fault}
@@ -22,7 +22,7 @@ use Rattle.matching.specs.declared.FirstRule.the-variants.{Nothing, Firs
 use Rattle.matching.specs.Matching.{firstMatch, Computation, computed, computedContraction, contraction}
 use Rattle.matching.specs.Bindings.{noBindings, noMatch, matchListed, computedRule, matchComputed, orElse, matchOf, matchIn, value, bindingsOf, contractionOf}
 use Rattle.matching.specs.rules.Searches.{Within}
-use Rattle.matching.proofs.Computed.{computed-words, computed-low}
+use Rattle.matching.proofs.Computed.{computed-low}
 use Rattle.matching.proofs.Firsts.{contraction-listed, contraction-computed, first-high}
 use Rattle.matching.proofs.BindingsAgree.{Answers, answers, reads-none}
 use Rattle.matching.proofs.rules.Searches.{match-start}
@@ -136,12 +136,10 @@ module _ (b : List ℕ) (sh : Shape) (acc : Accepted b sh) where
             let z = sym (first-high s (well b sh acc) ws h) ∙ sym listed-first ∙ ap (contractionOf b ws) (sym q) in
             absurd (let y : _≡_ {A = ℕ} 0 1 = cc (redex-listed m e) in omega arith)
 
-    -- so three words tell what is found
-    pub match-words : {f : FirstRule} → f ≡ computedRule (computed (getD ws 0 0 ∷ getD ws 1 0 ∷ getD ws 2 0 ∷ [])) → literal ≤ getD ws 0 0 →
+    pub match-words : {f : FirstRule} → f ≡ computedRule (computed ws) → literal ≤ getD ws 0 0 →
         record { rule = f; starts = noBindings .starts; lengths = noBindings .lengths } ≡ matchOf s ws
     match-words e h =
-        (λ i. record { rule = (e ∙ ap computedRule (sym (computed-words ws))) i; starts = noBindings .starts; lengths = noBindings .lengths })
-        ∙ sym computed-unbound ∙ match-high h
+        (λ i. record { rule = e i; starts = noBindings .starts; lengths = noBindings .lengths }) ∙ sym computed-unbound ∙ match-high h
 
     -- the search finds the first redex
     pub match-contraction : contractionOf b ws (matchOf s ws) ≡ contraction s ws

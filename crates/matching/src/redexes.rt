@@ -1,7 +1,7 @@
 // The first rule that matches a subterm of a term in the rows (02, F-5): a variable's stretch is one read, and only the rules that start with
 // the subterm's symbol are tried.
 ghost use mathlib.Core.Path.{_≡_};
-ghost use Prim.Native.Nat.{_≤_, _<_};
+ghost use Prim.Native.Nat.{_<_};
 ghost use lib.ListN.{getD, drop};
 ghost use Rattle.system.specs.Signature.{Signature};
 ghost use Rattle.system.specs.Answers.{signatureOf};
@@ -9,7 +9,8 @@ ghost use Rattle.system.specs.Book.{systemOf, Accepted};
 ghost use Rattle.system.specs.layout.Index.{Indexed};
 ghost use Rattle.rows.specs.gap.Gaps.{wordsIn, termIn, Gapped};
 ghost use Rattle.rows.specs.lengths.Measured.{Measured};
-ghost use Rattle.matching.specs.Bindings.{noBindings, consumed};
+ghost use Rattle.matching.specs.Matching.{computed};
+ghost use Rattle.matching.specs.Bindings.{noBindings, consumed, computedRule};
 ghost use Rattle.matching.specs.redexes.Redexes.{redexOf};
 use crate::FirstRule;
 use crate::operators::computed;
@@ -62,6 +63,18 @@ fn word_or_none(area: &[u16], gap: Gap, q: usize) -> u16
     word_at(area, gap, q)
 }
 
+// The built-in rule that matches the subterm at word p of the term, whose first word is `head`.
+fn computed_at(area: &[u16], gap: Gap, head: u16, p: usize) -> FirstRule
+    requires { ⌜ Gapped (now area) gap × (p < wordsIn gap) × (head ≡ getD (termIn (now area) gap) p 0) ⌝ }
+    ensures { λ r. ⌜ r ≡ computedRule (computed (drop p (termIn (now (area .entry)) gap))) ⌝ }
+{
+    computed(
+        head,
+        word_or_none(area, gap, p + 1),
+        word_or_none(area, gap, p + 2),
+    )
+}
+
 // A match without variables.
 fn unbound(rule: FirstRule) -> Redex
     ensures { λ r. ⌜ r ≡ record { rule = rule; starts = noBindings .starts; lengths = noBindings .lengths } ⌝ }
@@ -89,21 +102,13 @@ pub fn first_redex(
 {
     let head = word_at(area, gap, p);
     if LITERAL <= wide(head) {
-        return unbound(computed(
-            head,
-            word_or_none(area, gap, p + 1),
-            word_or_none(area, gap, p + 2),
-        ));
+        return unbound(computed_at(area, gap, head, p));
     }
-    let mut found = unbound(FirstRule::Nothing);
     let mut k = first_of(book, shape, index, head);
     'rules: while k < shape.rules {
-        let number = k;
-        let at = rule_start(book, shape, index, k);
-        let r = rule_at(book, at);
+        let r = rule_at(book, rule_start(book, shape, index, k));
         let lhs = r.lhs;
         let width = r.width;
-        k = next_of(book, shape, index, k);
         let mut starts = [0u16; VARIABLES];
         let mut lengths = [0u16; VARIABLES];
         let mut j = 0;
@@ -112,6 +117,7 @@ pub fn first_redex(
             let w = book[lhs + j];
             let n = consumed_at(area, gap, w, q);
             if n == 0 {
+                k = next_of(book, shape, index, k);
                 continue 'rules;
             }
             let v = wide(w);
@@ -123,16 +129,15 @@ pub fn first_redex(
             j += 1;
         }
         let rule = FirstRule::First {
-            number,
+            number: k,
             rhs: r.rhs,
             size: r.size,
         };
-        found = Redex {
+        return Redex {
             rule,
             starts,
             lengths,
         };
-        break 'rules;
     }
-    found
+    unbound(FirstRule::Nothing)
 }

@@ -14,6 +14,10 @@ use Rattle.rows.proofs.lengths.Measures.{words-length, measured-length}
 use Rattle.matching.specs.Bindings.{consumed}
 use Rattle.matching.proofs.rules.MatchSteps.{consumed-end, consumed-variable, consumed-differ, consumed-same}
 
+-- a word of the term, in the words from p on
+pub word-from : (t : List ℕ) (p i q : ℕ) → q ≡ p + i → {w : ℕ} → w ≡ getD t q 0 → w ≡ getD (drop p t) i 0
+word-from t p i q z e = e ∙ ap (λ k. getD t k 0) z ∙ sym (getD-drop p t i 0)
+
 module _ {g : Signature} {area : List ℕ} {gap : Gap} (m : Measured g area gap) (l q : ℕ) where
   abbrev here : List ℕ
   here = drop q (termIn area gap)
@@ -29,7 +33,7 @@ module _ {g : Signature} {area : List ℕ} {gap : Gap} (m : Measured g area gap)
     taken-variable e h = e ∙ measured-length m q ∙ sym (consumed-variable g l here some-words h)
 
     first : {w : ℕ} → w ≡ getD (termIn area gap) q 0 → w ≡ getD here 0 0
-    first e = e ∙ ap (λ i. getD (termIn area gap) i 0) (let z : q ≡ q + 0 = omega arith in z) ∙ sym (getD-drop q (termIn area gap) 0 0)
+    first e = word-from (termIn area gap) q 0 q (omega arith) e
 
     pub taken-differ : {w : ℕ} → w ≡ getD (termIn area gap) q 0 → l < variable → (l ≡ w → ⊥) → 0 ≡ consumed g l (drop q (termIn area gap))
     taken-differ e low d = sym (consumed-differ g l here some-words low (λ z. d (z ∙ sym (first e))))

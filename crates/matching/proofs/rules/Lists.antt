@@ -19,13 +19,11 @@ use Rattle.system.specs.layout.Index.{bucket, ruleFrom, ruleAfter}
 use Rattle.system.proofs.Signatures.{few-symbols}
 use Rattle.system.proofs.Forests.{forest-length}
 use Rattle.system.proofs.Rules.{listed-head}
-use Rattle.system.proofs.layout.Books.{well, signature, rule-count, first-rest, turn-of, rule-unique}
+use Rattle.system.proofs.layout.Books.{well, rule-count, first-rest, turn-of, rule-unique}
 use Rattle.system.proofs.layout.index.Lists.{from-within, from-found, skips-first, skips-next}
 use Rattle.matching.specs.declared.FirstRule.the-variants.{First}
 use Rattle.matching.specs.Bindings.{Bindings, noBindings, consumed, bindings, noMatch, matchFrom, matchListed}
-use Rattle.matching.specs.rules.Searches.{lhsEnd, searchListed}
 use Rattle.matching.proofs.rules.MatchSteps.{consumed-end, consumed-differ, words-stop, rules-end, rules-next, rules-here}
-use Rattle.matching.proofs.rules.Widths.{is-listed}
 use Rattle.matching.proofs.rules.Searches.{match-start}
 
 -- rule i does not match the front of ws; none before number k does
@@ -108,9 +106,6 @@ module _ {b : List ℕ} {sh : Shape} (acc : Accepted b sh) (ws : List ℕ) where
       let g = unmatched-goes k (a .inside) (a .unmatched) in
       sym (g .goes) ∙ rules-end (signatureOf b) (systemOf b .rules) k (g .at) ws (omega (arith, rule-count b sh acc))
 
-  pub along-nothing : {k : ℕ} → Along b sh ws k → sh .rules ≤ k → record { matched = noMatch; width = 0 } ≡ searchListed (systemOf b) ws
-  along-nothing a h = is-listed (systemOf b) ws noMatch 0 (sym (along-ends a h)) refl
-
   module _ {k at : ℕ} (a : Along b sh ws k) (more : k < sh .rules) (rest : RulesAt b k at) where
     pub along-goes : matchFrom (signatureOf b) (drop k (systemOf b .rules)) k at ws ≡ matchListed (systemOf b) ws
     along-goes =
@@ -123,8 +118,3 @@ module _ {b : List ℕ} {sh : Shape} (acc : Accepted b sh) (ws : List ℕ) where
     along-here e x m =
         let t = turn-of acc more rest e in
         rw (t .here .right, t .here .size) (sym (rules-here (signatureOf b) (systemOf b .rules) k at ws (t .more) x m) ∙ along-goes)
-
-    pub along-search : {p : RuleSpan} → p ≡ ruleSpan b at → (x : Bindings) → bindings (signatureOf b) (rule (systemOf b) k .lhs) ws 0 noBindings ≡ some x →
-        {n : ℕ} → n ≡ lhsEnd (signatureOf b) (rule (systemOf b) k .lhs) ws 0 →
-        record { matched = record { rule = First k (p .rhs) (p .size); starts = x .starts; lengths = x .lengths }; width = n } ≡ searchListed (systemOf b) ws
-    along-search e x m q = is-listed (systemOf b) ws _ _ (along-here e x m) (rw (signature b sh acc) q)

@@ -1,10 +1,11 @@
 -- `rules::first_rule` meets its contract.
-use mathlib.Core.Path.{_≡_, ap, _∙_}
+use mathlib.Core.Path.{_≡_, sym, ap, _∙_}
 use mathlib.Core.Logic.{⊎-elim}
 use mathlib.Core.List.{[], _∷_}
 use lib.ListN.{getD, drop}
 use Rattle.system.specs.Answers.{signatureOf}
 use Rattle.system.specs.Book.{systemOf}
+use Rattle.matching.proofs.Computed.{computed-words}
 use Rattle.matching.proofs.Sources.{match-low, match-words}
 use Rattle.matching.proofs.rules.MatchSteps.{tail}
 use Rattle.matching.proofs.rules.Searches.{Searched, Walked, search-starts, search-ends, root-differs, walk-starts, matches-here, word-differs, symbol-matched, variable-matched}
@@ -65,11 +66,14 @@ all-listed c =
     let is = first (e .before) in
     match-low (a .book .now) (a .shape) (entry c .pre) (a .ws .now) (let l = e .if1 .left in omega arith)
 
--- the first three words
-three : (c : tie.After-word-of4 Inv-words μ-words Inv-rules μ-rules) → let ws = start (c .before .before .before .before) .args .ws .now in
-    let f = c .before .before .word-of2 .result in
-    let m = c .before .word-of3 .result in f ∷ m ∷ c .word-of4 .result ∷ [] ≡ getD ws 0 0 ∷ getD ws 1 0 ∷ getD ws 2 0 ∷ []
-three c = λ i. c .before .before .word-of2 .ensures i ∷ c .before .word-of3 .ensures i ∷ c .word-of4 .ensures i ∷ []
+-- the first three words tell which built-in rule there is
+three : (c : tie.After-computed Inv-words μ-words Inv-rules μ-rules) → c .computed .result ≡ computedRule (computed (start (c .before .before .before .before .before) .args .ws .now))
+three c =
+    let w = c .before in
+    let ws = start (w .before .before .before .before) .args .ws .now in
+    c .computed .ensures
+    ∙ ap computedRule
+    ((λ i. computed (w .before .before .word-of2 .ensures i ∷ w .before .word-of3 .ensures i ∷ w .word-of4 .ensures i ∷ [])) ∙ sym (computed-words ws))
 
 -- what the word of this turn takes
 took : (c : tie.After-consumed2 Inv-words μ-words Inv-rules μ-rules) →
@@ -88,8 +92,7 @@ returns c =
     let s = start (t .before) in
     let a = s .args in
     let is = first (t .before) in
-    match-words (a .book .now) (a .shape) (s .pre) (a .ws .now)
-    (c .computed .ensures ∙ ap (λ ws. computedRule (computed ws)) (three (c .before))) (let h = t .if1 .taken in omega arith)
+    match-words (a .book .now) (a .shape) (s .pre) (a .ws .now) (three c) (let h = t .if1 .taken in omega arith)
 
 rules-holds : tie.Need-rules-holds Inv-words μ-words Inv-rules μ-rules
 unfolding noBindings
