@@ -8,7 +8,7 @@ use mathlib.Core.Logic.{_⊎_, inl, inr}
 use mathlib.Core.Bool.{Bool, true, false, cond, _&&_}
 use mathlib.Core.Option.{Option, none, some}
 use mathlib.Core.List.{List, [], _∷_, _++_}
-use lib.ListN.{length, getD, List·getD-append, List·getD-eq-default}
+use lib.ListN.{length, getD, List·getD-append}
 use borrow.Author.Tests.{eq-eqb, ne-eqb}
 use Rattle.system.specs.Limits.{variable}
 use Rattle.system.specs.BuiltIns.{literal, literals, maximum, minimum, square, isLiteral, larger, smaller, squareLaw}
@@ -129,17 +129,6 @@ module _ (ws : List ℕ) where
   pub computed-low : getD ws 0 0 < literal → computed ws ≡ none
   computed-low h = computed-plain (λ q. omega arith) (λ q. omega arith) (λ q. omega arith)
 
-  -- a word that is not there is no literal
-  absent : (i : ℕ) → length ws ≤ i → isLiteral (getD ws i 0) ≡ false
-  unfolding isLiteral
-  absent i h = rw (List·getD-eq-default ws 0 {n = i} h)
-
-  pub computed-one : length ws < 2 → computed ws ≡ none
-  computed-one h = computed-first (absent 1 (omega arith))
-
-  pub computed-two : (getD ws 0 0 ≡ square → ⊥) → length ws < 3 → computed ws ≡ none
-  computed-two n h = computed-second n (absent 2 (omega arith))
-
   -- the operators on two literals compute with the words themselves
   module _ (u : isLiteral (getD ws 1 0) ≡ true) where
     pub computed-square : getD ws 0 0 ≡ square → computed ws ≡ some (record { number = squareRule; word = literal + squareLaw (getD ws 1 0 - literal) })
@@ -161,7 +150,8 @@ module _ (ws : List ℕ) where
           ∙ ap (λ w. some (record { number = minimumRule; word = w })) (sym (smaller-words literal _ _ (is-literal _ u .0) (is-literal _ v .0)))
 
 pub computed-empty : computed [] ≡ none
-computed-empty = computed-one [] (omega arith)
+unfolding isLiteral
+computed-empty = computed-first [] refl
 
 -- ---- a left side that stands there is found
 

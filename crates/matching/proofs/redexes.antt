@@ -2,4 +2,4 @@
 pub mod Taking
 pub mod Tries
 -- What is found there is the first redex.
-pub mod Finding
+pub mod Found

@@ -7,24 +7,19 @@ use lib.ListN.{length, getD, drop, set, length-drop}
 use lib.Seq.{drop-drop}
 use Rattle.system.specs.declared.Shape.{Shape}
 use Rattle.system.specs.declared.layout.rules.RuleSpan.{RuleSpan}
-use Rattle.system.specs.Limits.{termWords, variable}
+use Rattle.system.specs.Limits.{variable}
 use Rattle.system.specs.BuiltIns.{literal}
-use Rattle.system.specs.Signature.{Signature}
 use Rattle.system.specs.Answers.{signatureOf}
 use Rattle.system.specs.Book.{systemOf, Accepted}
 use Rattle.system.specs.layout.Accepted.{RulesAt}
 use Rattle.system.specs.layout.Rules.{ruleSpan}
 use Rattle.system.proofs.layout.Books.{Turn}
-use Rattle.rows.specs.declared.gap.Gap.{Gap}
-use Rattle.rows.specs.gap.Gaps.{wordsIn, termIn}
-use Rattle.rows.specs.lengths.Measured.{Measured}
-use Rattle.rows.proofs.lengths.Measures.{words-length}
 use Rattle.matching.specs.declared.Match.{Match}
 use Rattle.matching.specs.declared.redexes.Redex.{Redex}
 use Rattle.matching.specs.declared.FirstRule.{FirstRule}
 use Rattle.matching.specs.declared.FirstRule.the-variants.{Nothing, First}
 use Rattle.matching.specs.Matching.{computed}
-use Rattle.matching.specs.Bindings.{noBindings, consumed, computedRule, matchOf}
+use Rattle.matching.specs.Bindings.{noBindings, consumed, computedRule}
 use Rattle.matching.specs.redexes.Redexes.{redexOf}
 use Rattle.matching.proofs.Sources.{match-low, match-words}
 use Rattle.matching.proofs.rules.Searches.{Walked, walk-starts, walk-ends, walk-stops, walk-fits, symbol-matched, variable-matched}

@@ -86,10 +86,10 @@ module _ {b : List ℕ} {sh : Shape} (acc : Accepted b sh) (ws : List ℕ) where
   -- ---- what was skipped does not change what is found
 
   -- the rules before number k don't match, so the match is the first from there on
-  pub record Goes (k : ℕ) : Type 0 where
-    pub at : ℕ
-    pub rest : RulesAt b k at
-    pub goes : matchFrom (signatureOf b) (drop k (systemOf b .rules)) k at ws ≡ matchListed (systemOf b) ws
+  record Goes (k : ℕ) : Type 0 where
+    at : ℕ
+    rest : RulesAt b k at
+    goes : matchFrom (signatureOf b) (drop k (systemOf b .rules)) k at ws ≡ matchListed (systemOf b) ws
 
   unmatched-goes : (k : ℕ) → k ≤ sh .rules → Unmatched b ws k → Goes k
   unmatched-goes zero h u = record { at = sh .«first_rule»; rest = first-rest b sh acc; goes = match-start acc ws }
@@ -107,7 +107,7 @@ module _ {b : List ℕ} {sh : Shape} (acc : Accepted b sh) (ws : List ℕ) where
       sym (g .goes) ∙ rules-end (signatureOf b) (systemOf b .rules) k (g .at) ws (omega (arith, rule-count b sh acc))
 
   module _ {k at : ℕ} (a : Along b sh ws k) (more : k < sh .rules) (rest : RulesAt b k at) where
-    pub along-goes : matchFrom (signatureOf b) (drop k (systemOf b .rules)) k at ws ≡ matchListed (systemOf b) ws
+    along-goes : matchFrom (signatureOf b) (drop k (systemOf b .rules)) k at ws ≡ matchListed (systemOf b) ws
     along-goes =
         let g = unmatched-goes k (a .inside) (a .unmatched) in
         rw (rule-unique acc more rest (g .rest)) (g .goes)

@@ -5,7 +5,6 @@ use mathlib.Core.Option.{none, some}
 use mathlib.Core.List.{List, [], _∷_}
 use lib.ListN.{take, drop}
 use Rattle.system.specs.declared.Shape.{Shape}
-use Rattle.system.specs.Limits.{variable}
 use Rattle.system.specs.System.{System, instance}
 use Rattle.system.specs.Book.{systemOf, Accepted}
 use Rattle.matching.specs.declared.Match.{Match}
