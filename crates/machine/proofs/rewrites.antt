@@ -1,7 +1,5 @@
--- A rewrite in an area of words: what the proofs of `reducts` cite.
-pub mod Bindings
-pub mod Writing
-pub mod Replacing
-pub mod Putting
-pub mod Rewrites
+-- A rewrite in the rows: what the proofs of `rewrites` cite.
 pub mod Redexes
+pub mod Listed
+pub mod Built
+pub mod Sides

@@ -28,7 +28,14 @@ fn raise(area: &mut [u16], positions: &[usize], level: usize, width: usize, size
 }
 
 // Rewrites the subterm of the innermost level by the match that was found there, and starts that level anew.
-pub fn step(book: &[u16], index: &[u16], area: &mut [u16], positions: &[usize], state: State, m: Redex) -> Reduced
+pub fn step(
+    book: &[u16],
+    index: &[u16],
+    area: &mut [u16],
+    positions: &[usize],
+    state: State,
+    m: Redex,
+) -> Reduced
     requires { ⌜ Steppable (now book) (now index) (now area) (now positions) state m ⌝ }
     ensures { λ r. ⌜ Steps (now (book .entry)) (now (area .entry)) (now (positions .entry)) state r (now (area .exit)) ⌝ }
 {
