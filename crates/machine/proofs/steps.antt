@@ -1,3 +1,4 @@
--- A step of the machine in an area of words: what the proofs of `steps` cite
+-- A step of the machine in an area of words: what the proofs of `steps` cite. Of raised lengths the replay cites it too
 pub mod Raising
 pub mod Stepping
+pub mod Rewrote

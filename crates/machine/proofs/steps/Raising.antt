@@ -1,13 +1,13 @@
 -- Lengths raised one by one in the area's row of lengths, at indices that are kept anywhere: one turn of such a loop. And on the way to a
 -- subterm in whose place another was put: all lengths are true then.
-use Prim.Native.Nat.{ℕ, suc, _+_, _-_, _≤_, _<_}
+use Prim.Native.Nat.{ℕ, _+_, _-_, _≤_, _<_}
 use native.Mathlib.Omega.{arith}
 use native.Mathlib.Numerals.{add-one}
 use mathlib.Core.Path.{_≡_, refl, sym, ap, _∙_, subst}
 use mathlib.Core.List.{List, [], _∷_, _++_}
 use lib.ListN.{length, getD, take, drop, set, length-set}
-use lib.Seq.{take-suc, take-all}
-use Rattle.system.specs.Limits.{areaWords, termWords}
+use lib.Seq.{take-suc, take-all, getD-drop}
+use Rattle.system.specs.Limits.{termWords}
 use Rattle.system.specs.Signature.{Signature, span, replace}
 use Rattle.system.specs.System.{System}
 use Rattle.system.specs.Terms.{Whole, WellFormed}
@@ -23,6 +23,10 @@ use Rattle.rewriting.proofs.Raises.{raise-none, raise-snoc, raise-take, raise-d
 use Rattle.rewriting.proofs.Ways.{way-before}
 use Rattle.rewriting.proofs.WayRows.{way-spans-front, way-raise-room, way-raise-fits}
 use Rattle.machine.specs.steps.Raised.{Raisable, Raised}
+
+-- what stands behind the rows stays: indices may be kept there
+pub raised-kept : {ws₀ qs ws : List ℕ} {d e : ℕ} → Raised ws₀ qs d e ws → (k : ℕ) → getD ws (countsAt + k) 0 ≡ getD ws₀ (countsAt + k) 0
+raised-kept {ws₀} {ws} r k = sym (getD-drop countsAt ws k 0) ∙ ap (λ z. getD z k 0) (r .counts) ∙ getD-drop countsAt ws₀ k 0
 
 -- ---- a loop that raises them
 

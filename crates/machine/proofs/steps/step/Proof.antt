@@ -1,12 +1,13 @@
--- `steps::step` meets its contract: a law of Stepping at each place.
+-- `steps::step` meets its contract: a law of Stepping or Rewrote at each place.
+use Prim.Native.Nat.{_+_, _-_, _<_}
 use native.Mathlib.Omega.{arith}
 use mathlib.Core.Path.{_≡_, sym, _∙_}
-use Prim.Native.Nat.{_+_, _-_, _<_}
 use lib.ListN.{length, length-set}
 use borrow.Author.Needs.{needs}
 use Rattle.system.specs.Limits.{areaWords}
 use Rattle.rows.specs.gap.Gaps.{countsAt, wordsIn}
-use Rattle.machine.proofs.steps.Stepping.{step-bounds, step-reducible, step-long, step-placed, step-words, step-raisable, step-done}
+use Rattle.machine.proofs.steps.Stepping.{step-bounds, step-reducible, step-long}
+use Rattle.machine.proofs.steps.Rewrote.{Rewrote, step-placed, step-words, step-raisable, step-done}
 use Rattle.machine.proofs.steps.step.Statement.{statement}
 use Rattle.machine.proofs.steps.step.Tie as tie
 
@@ -28,20 +29,45 @@ abbrev widths : tie.After-rewrite → tie.After-length-at
 widths c = c .before .before
 
 -- it is done
-abbrev told : tie.After-r → tie.After-rewrite
-told c = rewrote (c .before .before)
+abbrev done : tie.After-r → Rewrote
+done c =
+    let x = rewrote (c .before .before) in
+    let k = widths x .length-at in
+    let e = reading (widths x .before) in
+    let a = e .args in
+    record {
+      book = a .book .now;
+      index = a .index .now;
+      ws = a .area .now;
+      positions = a .positions .now;
+      state = a .state;
+      m = a .m;
+      asked = e .pre;
+      width = k .result;
+      read = k .ensures .0;
+      r = x .rewrite .result;
+      ws₁ = x .rewrite .last .1 .1 .0;
+      rewrites = x .rewrite .ensures;
+      gap = c .r .given .0 .0;
+      is = c .r .given .1;
+    }
 
 -- the words before and after it are known
-abbrev counted : tie.After-words2 → tie.After-r
-counted c = c .before .before .before .before
+abbrev counted : tie.After-words2 → Rewrote
+counted c = done (c .before .before .before .before)
 
-size : (c : tie.After-words2) → let x = told (counted c) in let w = widths x .length-at .result in
-    c .before .words .result + w - c .words2 .result ≡ wordsIn (counted c .r .given .0 .0) + w - wordsIn (reading (widths x .before) .args .state .gap)
-size c = let w = widths (told (counted c)) .length-at .result in λ i. c .before .words .ensures i + w - c .words2 .ensures i
+size : (c : tie.After-words2) → c .before .words .result + counted c .width - c .words2 .result ≡ wordsIn (counted c .gap) + counted c .width - wordsIn (counted c .state .gap)
+size c = λ i. c .before .words .ensures i + counted c .width - c .words2 .ensures i
 
 -- the lengths are raised
 abbrev raised : tie.After-slice-known3 → tie.After-raise
 raised c = c .before .before
+
+shallow : (c : tie.After-slice-known3) → counted (raised c .before) .state .level < 64
+shallow c = step-bounds (counted (raised c .before) .asked) .shallow
+
+total : (c : tie.After-slice-known3) → length (raised c .raise .last .0) ≡ areaWords
+total c = raised c .raise .ensures .total ∙ step-placed (counted (raised c .before)) .total
 
 -- ---- the needs
 
@@ -58,55 +84,19 @@ returns c =
     step-long (reading (widths x .before) .pre) (k .result) (k .ensures .0) (x .rewrite .ensures) (c .enum-told .given .1)
 
 words-requires : tie.Need-words-requires
-words-requires c κs =
-    let y = c .before .before in
-    let x = told y in
-    let k = widths x .length-at in
-    step-placed (reading (widths x .before) .pre) (k .result) (k .ensures .0) (x .rewrite .ensures) (y .r .given .0 .0) (y .r .given .1) .gapped .lies
+words-requires c κs = step-placed (done (c .before .before)) .gapped .lies
 
 add-raise : tie.Need-add-raise
 add-raise c =
     let y = c .before .before .before in
-    let x = told y in
-    let k = widths x .length-at in
-    let z = step-placed (reading (widths x .before) .pre) (k .result) (k .ensures .0) (x .rewrite .ensures) (y .r .given .0 .0) (y .r .given .1) .gapped .lies in
-    omega (arith, k .ensures .1, c .words .ensures, z .low, z .high)
+    let z = step-placed (done y) .gapped .lies in
+    omega (arith, widths (rewrote (y .before .before)) .length-at .ensures .1, c .words .ensures, z .low, z .high)
 
 sub-raise : tie.Need-sub-raise
-sub-raise c =
-    let y = counted c in
-    let x = told y in
-    let k = widths x .length-at in
-    let z = step-words (reading (widths x .before) .pre) (k .result) (k .ensures .0) (x .rewrite .ensures) (y .r .given .0 .0) (y .r .given .1) in
-    omega (arith, c .before .words .ensures, c .words2 .ensures)
+sub-raise c = let z = step-words (counted c) in omega (arith, c .before .words .ensures, c .words2 .ensures)
 
 raise-requires : tie.Need-raise-requires
-raise-requires c κs =
-    let y = counted c in
-    let x = told y in
-    let k = widths x .length-at in
-    let v = reading (widths x .before) .pre in
-    let b = step-bounds v in
-    (omega arith, step-raisable v (k .result) (k .ensures .0) (x .rewrite .ensures) (y .r .given .0 .0) (y .r .given .1) _ (size c))
-
-returns-2 : tie.Need-returns-2
-returns-2 c =
-    let w = raised c .before in
-    let y = counted w in
-    let x = told y in
-    let k = widths x .length-at in
-    step-done (reading (widths x .before) .pre) (k .result) (k .ensures .0) (x .rewrite .ensures) (y .r .given .0 .0) (y .r .given .1) _ (size w) (raised c .raise .ensures)
-
-shallow : (c : tie.After-slice-known3) → reading (widths (told (counted (raised c .before))) .before) .args .state .level < 64
-shallow c = step-bounds (reading (widths (told (counted (raised c .before))) .before) .pre) .shallow
-
-total : (c : tie.After-slice-known3) → length (raised c .raise .last .0) ≡ areaWords
-total c =
-    let y = counted (raised c .before) in
-    let x = told y in
-    let k = widths x .length-at in
-    raised c .raise .ensures .total
-    ∙ step-placed (reading (widths x .before) .pre) (k .result) (k .ensures .0) (x .rewrite .ensures) (y .r .given .0 .0) (y .r .given .1) .total
+raise-requires c κs = let b = step-bounds (counted c .asked) in (omega arith, step-raisable (counted c) _ (size c))
 
 add-area : tie.Need-add-area
 add-area c = let l = shallow c in omega arith
@@ -119,8 +109,11 @@ slice-write-area c = let l = shallow c in omega (arith, total c)
 
 same-length-2 : tie.Need-same-length-2
 same-length-2 c =
-    let e = reading (widths (told (counted (raised c .before))) .before) in
-    length-set (raised c .raise .last .0) (countsAt + e .args .state .level) 0 ∙ total c ∙ sym (e .pre .tracks .represents .total)
+    let x = counted (raised c .before) in
+    length-set (raised c .raise .last .0) (countsAt + x .state .level) 0 ∙ total c ∙ sym (x .asked .tracks .represents .total)
+
+returns-2 : tie.Need-returns-2
+returns-2 c = step-done (counted (raised c .before)) _ (size (raised c .before)) (raised c .raise .ensures)
 
 pub step-spec : {M : Type 1} → statement M
 step-spec =
