@@ -1,6 +1,7 @@
 // The machine in an area of lent words: from a state to just before its next rewrite, without recursion.
 ghost use mathlib.Core.Path.{_≡_};
 ghost use Rattle.system.specs.Book.{systemOf, Accepted};
+ghost use Rattle.machine.specs.declared.advance.Stop.the-variants.{Ready};
 ghost use Rattle.machine.specs.advance.Area.{Tracks};
 ghost use Rattle.machine.specs.advance.Transition.{sinceAt, Performed};
 ghost use Rattle.machine.specs.advance.Arrivals.{Advances};
@@ -152,11 +153,7 @@ pub fn advance(
                 match found {
                     FirstRule::Nothing => {}
                     _ => {
-                        return Advanced {
-                            stop: Stop::Ready,
-                            level,
-                            redex,
-                        };
+                        return ready(level, redex);
                     }
                 }
             }
@@ -177,6 +174,16 @@ pub fn advance(
                 return stopped(Stop::Deep, level);
             }
         }
+    }
+}
+
+fn ready(level: usize, redex: Redex) -> Advanced
+    ensures { λ r. ⌜ r ≡ record { stop = Ready; level = level; redex = redex } ⌝ }
+{
+    Advanced {
+        stop: Stop::Ready,
+        level,
+        redex,
     }
 }
 

@@ -76,14 +76,14 @@ module _ (τ : Round) where
         ≡ drop (position s (termIn (τ .ws₀) gap) outer 0) (termIn (τ .ws₀) gap)
     subterm-is = same-subterm τ e ∙ (λ j. drop (position s (τ .kept .term j) outer 0) (τ .kept .term j))
 
-    pub arrives-ready : (m .rule ≡ Nothing → ⊥) → Came (record { stop = Ready; level = τ .level; redex = m })
-    arrives-ready q =
+    pub arrives-ready : (m .rule ≡ Nothing → ⊥) → (r : Advanced) → r ≡ record { stop = Ready; level = τ .level; redex = m } → Came r
+    arrives-ready q r made =
         let x = told τ Rules e in
         let held = tries-held τ e in
         let found = tried-match (τ .book) (τ .shape) (τ .accepted) (τ .ws′) (τ .positions′) gap (τ .level) held m is in
         let some = tried-some (τ .book) (τ .shape) (τ .accepted) (τ .ws′) (τ .positions′) gap (τ .level) held m is q in
         let here = ap (contraction s) (sym (same-subterm τ e)) ∙ some .1 in
-        record {
+        subst Came (sym made) (record {
           outer = outer;
           begun = suc c;
           x = some .0;
@@ -93,4 +93,4 @@ module _ (τ : Round) where
           contracts = ap (contraction s) (sym subterm-is) ∙ some .1;
           stands = subst (λ y. Stands (s .arities) (τ .ws′) gap y (outer ++ suc c ∷ [])) (τ .kept .term) (tries-is τ e);
           holds = held;
-        }
+        })

@@ -31,11 +31,14 @@ use Rattle.machine.proofs.rewrites.Built.{put-rewrites}
 abbrev slice : ℕ → ℕ → List ℕ → List ℕ
 slice a b ws = take (b - a) (drop a ws)
 
--- a slice of a stretch, at its front and at its end
+-- a slice of a stretch: at its front, all of it, and at its end
 slice-front : (ws xs : List ℕ) (a n j : ℕ) → take n (drop a ws) ≡ xs → j ≤ n → slice a (a + j) ws ≡ take j xs
 slice-front ws xs a n j e h =
     let z : a + j - a ≡ j = omega arith in
     ap (λ y. take y (drop a ws)) z ∙ sym (take-take j n (drop a ws) h) ∙ ap (take j) e
+
+slice-whole : (ws xs : List ℕ) (a n : ℕ) → take n (drop a ws) ≡ xs → slice a (a + n) ws ≡ xs
+slice-whole ws xs a n e = let z : a + n - a ≡ n = omega arith in ap (λ y. take y (drop a ws)) z ∙ e
 
 slice-end : (ws xs : List ℕ) (a n j : ℕ) → take n (drop a ws) ≡ xs → j ≤ n → slice (a + j) (a + n) ws ≡ drop j xs
 slice-end ws xs a n j e h =
@@ -65,10 +68,10 @@ module _ {book index ws : List ℕ} {gap : Gap} {u : Subterm} {m : Redex} (asked
   mid = r .rhs + r .size - n
 
   left-is : L ≡ left
-  left-is = slice-front book left (r .lhs) (r .width) (r .width) (at .left) (omega arith) ∙ ap (λ y. take (r .width) y) (sym (at .left)) ∙ take-take (r .width) (r .width) (drop (r .lhs) book) (omega arith) ∙ at .left
+  left-is = slice-whole book left (r .lhs) (r .width) (at .left)
 
   right-is : R ≡ right
-  right-is = slice-front book right (r .rhs) (r .size) (r .size) (at .right) (omega arith) ∙ ap (λ y. take (r .size) y) (sym (at .right)) ∙ take-take (r .size) (r .size) (drop (r .rhs) book) (omega arith) ∙ at .right
+  right-is = slice-whole book right (r .rhs) (r .size) (at .right)
 
   right-size : length right ≡ r .size
   right-size = ap length (sym (at .right)) ∙ length-take-le (r .size) (drop (r .rhs) book) (let z = at .right-fits in let y = length-drop (r .rhs) book in omega arith)

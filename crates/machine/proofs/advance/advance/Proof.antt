@@ -71,16 +71,17 @@ loop-again-2 c =
     (none-matches (c .before .before) (c .enum-told3 .given .1) .on, same-area m, same-positions m)
 
 same-length : tie.Need-same-length Inv-loop μ-loop
-same-length c = same-area (tried (c .before) .before .before)
+same-length c = same-area (tried (c .before .before) .before .before)
 
 same-length-2 : tie.Need-same-length-2 Inv-loop μ-loop
-same-length-2 c = same-positions (tried (c .before) .before .before)
+same-length-2 c = same-positions (tried (c .before .before) .before .before)
 
 returns : tie.Need-returns Inv-loop μ-loop
 returns c =
-    let x = c .before in
+    let x = c .before .before in
     let k = x .first-redex in
-    arrives-ready (round (tried x .before .before)) (tried x .enum-told2 .given .1) (k .result) (k .ensures) (some-rule _ (c .match2 .keys2))
+    arrives-ready (round (tried x .before .before)) (tried x .enum-told2 .given .1) (k .result) (k .ensures) (some-rule _ (c .before .match2 .keys2))
+    (c .ready .result) (c .ready .ensures)
 
 -- ---- an argument is opened
 
@@ -146,7 +147,7 @@ advance-spec =
     (tie.spec
     Inv-loop μ-loop add-wide mul-wide slice-read-wide (λ c κs. search needs) loop-holds (λ c κs. search needs) take-transition-requires
     (λ c. search needs) loop-less loop-again (λ c. search needs) mul-first-redex slice-read-first-redex first-redex-requires
-    (λ c. search needs) loop-less-2 loop-again-2 same-length same-length-2 returns (λ c. search needs) add-level loop-less-3 loop-again-3
+    (λ c. search needs) loop-less-2 loop-again-2 (λ c κs. search needs) same-length same-length-2 returns (λ c. search needs) add-level loop-less-3 loop-again-3
     (λ c. search needs) (λ c κs. search needs) same-length-3 same-length-4 returns-2 (λ c. search needs) add-wide-2 mul-wide-2
     slice-read-wide-2 (λ c κs. search needs) loop-less-4 loop-again-4 loop-less-5 loop-again-5 (λ c. search needs) (λ c κs. search needs)
     same-length-5 same-length-6 returns-3)
