@@ -3,7 +3,7 @@
 
 use crate::book::{self, Plant};
 use crate::evaluate::{evaluate, pairs, End};
-use crate::{measure, product, rate, time, Call, Work, PRODUCT};
+use crate::{measure, product, rate, time, Call, Work, ANSWER, PRODUCT, WORK};
 
 /// A replayed step is to take at most so many times an expanded one's time.
 const MOST: f64 = 2.0;
@@ -16,7 +16,7 @@ struct Lent {
 
 impl Lent {
     fn new() -> Lent {
-        Lent { out: vec![0; 4096], work: vec![0; 8192] }
+        Lent { out: vec![0; ANSWER], work: vec![0; WORK] }
     }
 
     fn slices(&mut self) -> [&mut [u16]; 2] {
