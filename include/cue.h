@@ -31,11 +31,11 @@ extern "C" {
 
 /* The version: a change of what a function takes or answers raises the first number, anything new the second. */
 #define CUE_VERSION_MAJOR 2
-#define CUE_VERSION_MINOR 2
+#define CUE_VERSION_MINOR 3
 
 /* Sizes, in words. */
 #define CUE_TERM_WORDS 4096 /* the most words of a cue, and the least of an answer buffer */
-#define CUE_WORK_WORDS 8192 /* the least words of a work buffer */
+#define CUE_WORK_WORDS 12288 /* the least words of a work buffer: 8,192 before version 2.3 */
 #define CUE_BOOK_WORDS 21251 /* the longest book that can be accepted */
 
 /* Limits of a book and of an expansion. */
@@ -73,7 +73,7 @@ enum {
   CUE_STRAY = 7,      /* a left placeholder is not the next one, or a right one is not in the left */
   CUE_SURPLUS = 8,    /* words after the last rule */
   CUE_BROKEN = 9,     /* the cue is not whole */
-  CUE_CRAMPED = 10,   /* answer buffer below 4,096 words, or work buffer below 8,192 */
+  CUE_CRAMPED = 10,   /* answer buffer below 4,096 words, or work buffer below 12,288 */
   CUE_SPENT = 11,     /* one more step would pass the allowance */
   CUE_OVERLONG = 12,  /* the step would leave the whole cue above 4,096 words */
   CUE_NESTED = 13,    /* an argument would be opened from level 64 */
@@ -177,17 +177,20 @@ cue_answer cue_test_strategies(const uint16_t *book, size_t book_words);
  * Expands a cue over a book, with at most `limit` steps (the allowance).
  *
  *   number    place                        steps            out                                     work
- *   0         the answer's length, words   taken            the answer in its first words,          the first 8,192 words are
+ *   0         the answer's length, words   taken            the answer in its first words,          the first 12,288 words are
  *                                                           the rest unchanged                      zero, the rest unchanged
  *   10        0                            0                unchanged                               unchanged
  *   1 to 8,   as cue_read                  0                unchanged                               unchanged
  *   or 15
  *   9         as cue_check_term            0                unchanged                               unchanged
- *   11 to 13  0                            completed        unchanged                               the first 8,192 words are
+ *   11 to 13  0                            completed        unchanged                               the first 12,288 words are
  *                                                                                                   zero, the rest unchanged
  *
- * 10 (out below 4,096 words or work below 8,192) is checked first, then the book, then the cue. Neither buffer needs to be cleared before
+ * 10 (out below 4,096 words or work below 12,288) is checked first, then the book, then the cue. Neither buffer needs to be cleared before
  * the call. The book may fail the order test.
+ *
+ * While a cue is expanded, the work buffer holds beside each of its words the length of the part that starts there, so that a long argument
+ * is not counted again whenever it is passed. With that much lent, cues and counts are those that 8,192 words gave before version 2.3.
  */
 cue_answer cue_expand(const uint16_t *book, size_t book_words, const uint16_t *term, size_t term_words, uint32_t limit, uint16_t *out,
                       size_t out_words, uint16_t *work, size_t work_words);
@@ -251,11 +254,11 @@ typedef struct cue_replayed {
  * order in which cue_expand takes them, and neither an allowance nor a deepest level counts.
  *
  *   number    place                        steps            out                                     work
- *   0         the last cue's length        the pairs        the last cue in its first words,        the first 8,192 words are
+ *   0         the last cue's length        the pairs        the last cue in its first words,        the first 12,288 words are
  *                                                           the rest unchanged                      zero, the rest unchanged
  *   10, 1 to  as cue_expand                0                unchanged                               unchanged
  *   9, or 15
- *   17        the number of the first      completed        unchanged                               the first 8,192 words are
+ *   17        the number of the first      completed        unchanged                               the first 12,288 words are
  *             pair that is wrong or half,                                                           zero, the rest unchanged
  *             from 0
  *   12        0                            completed        unchanged                               as on 17

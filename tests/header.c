@@ -11,7 +11,7 @@ static uint16_t book[ROOM];
 static size_t words;
 static uint16_t term[CUE_TERM_WORDS + 1];
 static uint16_t out[CUE_TERM_WORDS];
-static uint16_t work[CUE_WORK_WORDS];
+static uint16_t work[CUE_WORK_WORDS + 1];
 static uint16_t again[CUE_TERM_WORDS];
 static uint16_t spare[CUE_WORK_WORDS];
 static uint16_t record[2 * PAIRS + 2];
@@ -123,6 +123,22 @@ static void levels(void) {
   check("a left side of the word after curve", starts(CUE_CURVE + 1), CUE_STRANGER);
 }
 
+/* how many words of the work buffer, from this one on, are the same */
+static size_t run(size_t from, uint16_t word) {
+  size_t i = from;
+  while (i < CUE_WORK_WORDS + 1 && work[i] == word) i++;
+  return i - from;
+}
+
+/* 02, F-5: a work buffer of the least words is taken, one of a word less is not touched, and of one of a word more the last stays */
+static void lends(const char *what, size_t work_words, uint32_t number, size_t zeroed) {
+  size_t i;
+  for (i = 0; i < CUE_WORK_WORDS + 1; i++) work[i] = 9;
+  check(what, cue_expand(book, words, term, CUE_TERM_WORDS, 0, out, CUE_TERM_WORDS, work, work_words).number, number);
+  check(what, run(0, 0), zeroed);
+  check(what, run(zeroed, 9), CUE_WORK_WORDS + 1 - zeroed);
+}
+
 /* names 0 and 1 without arguments; rule 0 puts name 0 for name 1, whose order is 0, and rule 1, which is never the lowest, name 1 */
 static void one_step(void) {
   words = 0;
@@ -214,7 +230,10 @@ int main(void) {
   term[CUE_TERM_WORDS - 1] = 2;
   check("the longest cue", cue_expand(book, words, term, CUE_TERM_WORDS, 0, out, CUE_TERM_WORDS, work, CUE_WORK_WORDS).number, CUE_TAKEN);
   check("a cramped answer buffer", cue_expand(book, words, term, 1, 0, out, CUE_TERM_WORDS - 1, work, CUE_WORK_WORDS).number, CUE_CRAMPED);
-  check("a cramped work buffer", cue_expand(book, words, term, 1, 0, out, CUE_TERM_WORDS, work, CUE_WORK_WORDS - 1).number, CUE_CRAMPED);
+  lends("a cramped work buffer", CUE_WORK_WORDS - 1, CUE_CRAMPED, 0);
+  lends("the work buffer", CUE_WORK_WORDS, CUE_TAKEN, CUE_WORK_WORDS);
+  lends("a work buffer with a word to spare", CUE_WORK_WORDS + 1, CUE_TAKEN, CUE_WORK_WORDS);
+  check("a row for the words, one for their lengths, one for the levels", CUE_WORK_WORDS, 3 * CUE_TERM_WORDS);
   term[CUE_TERM_WORDS - 1] = 1;
   term[CUE_TERM_WORDS] = 2;
   check("a cue too long", cue_check_term(book, words, term, CUE_TERM_WORDS + 1).number, CUE_BROKEN);

@@ -21,15 +21,10 @@ mod records;
 mod works;
 
 use archives::{Archive, OTHER, PRODUCT};
-use book::{Book, Plant};
+use book::{Book, Plant, ANSWER_WORDS, WORK_WORDS};
 use evaluate::{evaluate, End};
 use std::time::Instant;
 use works::{largest, Work};
-
-/// The words of each answer buffer and of each work buffer: as many as any archive of the product asks for (02, F-5). An older one uses 8,192
-/// of the work buffer's.
-pub const ANSWER: usize = 4096;
-pub const WORK: usize = 12288;
 
 type Call<'a> = Box<dyn FnMut() + 'a>;
 
@@ -102,7 +97,8 @@ fn expansion(w: &Work, least: f64, agree: &mut bool) {
         }
     })];
     for archive in [Some(PRODUCT), OTHER.filter(|o| takes_part(o, w))].into_iter().flatten() {
-        let (mut out, mut work) = (vec![0; ANSWER], vec![0; WORK]);
+        // the work buffer that F-5 asks for is enough for an older archive too
+        let (mut out, mut work) = (vec![0; ANSWER_WORDS], vec![0; WORK_WORDS]);
         let a = archive.expand(&w.book, &w.cue, &mut out, &mut work);
         if (a.number, a.place, a.steps) != (0, words.len(), o.steps) || out[..a.place] != words[..] {
             println!("{}: an archive answers {a:?}, the second evaluator {} words after {} steps", w.label, words.len(), o.steps);
@@ -120,7 +116,7 @@ fn expansion(w: &Work, least: f64, agree: &mut bool) {
 
 /// Whether the other archive is measured.
 fn takes_part(other: &Archive, w: &Work) -> bool {
-    let older = || other.expand(&w.book, &w.cue, &mut [0; ANSWER], &mut [0; WORK]).number == 9;
+    let older = || other.expand(&w.book, &w.cue, &mut [0; ANSWER_WORDS], &mut [0; WORK_WORDS]).number == 9;
     !w.deep && !(w.levels && older())
 }
 

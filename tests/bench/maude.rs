@@ -77,7 +77,8 @@ fn system(book: &Book) -> String {
 /// The cue 2^`twofold` times: `again0` evaluates it and goes on, and each next `again` is the one before it twice.
 fn many_times(book: &Book, words: &[u16], twofold: u32) -> String {
     let mut m = format!("fmod SHOW is\n{}", system(book));
-    m.push_str("  sort Rounds .\n  op cue : -> T .\n  op over : -> Rounds .\n  op keep : T Rounds -> Rounds [strat (1 0)] .\n  var R : Rounds .\n");
+    m.push_str("  sort Rounds .\n  op cue : -> T .\n  op over : -> Rounds .\n  var R : Rounds .\n");
+    m.push_str("  op keep : T Rounds -> Rounds [strat (1 0)] .\n");
     m.push_str(&format!("  eq cue = {} .\n  eq keep(X0, R) = R .\n", cue(book, words)));
     for k in 0..=twofold {
         m.push_str(&format!("  op again{k} : Rounds -> Rounds [strat (0)] .\n"));

@@ -1,9 +1,9 @@
 //! The step record (02, F-3): the product's expansion without a record and with one, and the replay of that record, on the same steps. Another
 //! archive may be too old for it, and has no part in this.
 
-use crate::book::{self, Plant};
+use crate::book::{self, Plant, ANSWER_WORDS, WORK_WORDS};
 use crate::evaluate::{evaluate, pairs, End};
-use crate::{measure, product, rate, time, Call, Work, ANSWER, PRODUCT, WORK};
+use crate::{measure, product, rate, time, Call, Work, PRODUCT};
 
 /// A replayed step is to take at most so many times an expanded one's time.
 const MOST: f64 = 2.0;
@@ -16,7 +16,7 @@ struct Lent {
 
 impl Lent {
     fn new() -> Lent {
-        Lent { out: vec![0; ANSWER], work: vec![0; WORK] }
+        Lent { out: vec![0; ANSWER_WORDS], work: vec![0; WORK_WORDS] }
     }
 
     fn slices(&mut self) -> [&mut [u16]; 2] {

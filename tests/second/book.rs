@@ -1,5 +1,5 @@
 //! Show books and cues, read into trees, straight from the paper's text (01, "The show book" and "The table of numbers"; 02, F-1,
-//! F-2 and F-4).
+//! F-2, F-4 and F-5).
 
 use std::cell::Cell;
 use std::rc::Rc;
@@ -9,6 +9,11 @@ pub type Fault = (u32, usize);
 
 pub const HOLE: u16 = 32768;
 pub const LONGEST: usize = 4096;
+
+/// "Answer buffer below 4,096 words" is 10 (01).
+pub const ANSWER_WORDS: usize = 4096;
+/// "Number 10 and the zeroing use 12,288 for the work buffer" (02, F-5).
+pub const WORK_WORDS: usize = 12288;
 
 /// "Words 16384 to 16639 stand for levels 0 to 255" (02, F-2): level n is the word LEVEL + n.
 pub const LEVEL: u16 = 16384;
@@ -345,4 +350,21 @@ pub enum Plant {
     CutOff,
     /// the curve takes a step whatever its argument is: the low byte of its word for the level
     LowByte,
+    /// a work buffer of 8,192 words is enough, as it was before F-5
+    OldRoom,
+    /// the first 8,192 words of the work buffer are zeroed, as they were before F-5
+    OldZeros,
+}
+
+impl Plant {
+    /// Number 10: buffers that are too short.
+    pub fn cramped(self, out_words: usize, work_words: usize) -> bool {
+        let least = if self == Plant::OldRoom { 8192 } else { WORK_WORDS };
+        out_words < ANSWER_WORDS || work_words < least
+    }
+
+    /// How many words of the work buffer are zero after 0 and after every limit.
+    pub fn zeroed(self) -> usize {
+        if self == Plant::OldZeros { 8192 } else { WORK_WORDS }
+    }
 }

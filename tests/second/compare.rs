@@ -1,6 +1,6 @@
 //! One case: every operation of the product against what the paper's text gives, whole answers and whole buffers.
 
-use crate::book::{self, is_level, Book, Cue, Plant, CURVE, CURVE_RULE, HIGHER, HIGHER_RULE, LOWER, LOWER_RULE};
+use crate::book::{self, is_level, Book, Cue, Plant, Rule, CURVE, CURVE_RULE, HIGHER, HIGHER_RULE, HOLE, LONGEST, LOWER, LOWER_RULE, WORK_WORDS};
 use crate::compare_records::{compare_records, RECORDED, REPLAYED};
 use crate::demand3;
 use crate::evaluate::{evaluate, evaluate_plainly, first_fit, End, Fit, Outcome, Step};
@@ -38,6 +38,31 @@ pub const REFUSED: [&str; 5] = [
     "9 for a word after the argument of a curve",
 ];
 
+/// What is counted of the work buffer (02, F-5).
+pub const BUFFERS: [&str; 3] = ["10 for a work buffer of 8,192 words", "10 for one word too few", "work buffers with words behind those zeroed"];
+
+/// What is counted of long cues, of 1,000 words and more. A rule's sides share an end where both have the same words there.
+pub const LONG: [&str; 18] = [
+    "cues of 1,000 words and more",
+    "cues of 4,000 words and more",
+    "steps in a long one",
+    "steps in one of 4,000 words and more",
+    "steps that leave 4,096 words",
+    "steps that put there more than fits beside it",
+    "12 in a long one",
+    "12 for one word too many",
+    "steps at level 60 and deeper",
+    "steps by a rule whose right side is an end of its left side",
+    "by one whose sides share a placeholder at their end",
+    "several placeholders",
+    "names",
+    "nothing",
+    "by one that doubles a placeholder",
+    "changes placeholders about",
+    "drops a placeholder",
+    "stands behind twenty that start with its name",
+];
+
 /// What was met, for the statistics.
 #[derive(Clone, Default)]
 pub struct Counts {
@@ -58,6 +83,8 @@ pub struct Counts {
     pub several: u64,
     pub levels: [u64; LEVELS.len()],
     pub refused: [u64; REFUSED.len()],
+    pub buffers: [u64; BUFFERS.len()],
+    pub long: [u64; LONG.len()],
     pub recorded_met: [u64; RECORDED.len()],
     pub replayed_met: [u64; REPLAYED.len()],
     pub arguments: u64,
@@ -87,6 +114,8 @@ impl Counts {
         all(&mut self.steps, &o.steps);
         all(&mut self.levels, &o.levels);
         all(&mut self.refused, &o.refused);
+        all(&mut self.buffers, &o.buffers);
+        all(&mut self.long, &o.long);
         all(&mut self.recorded_met, &o.recorded_met);
         all(&mut self.replayed_met, &o.replayed_met);
         self.most_steps = self.most_steps.max(o.most_steps);
@@ -298,26 +327,45 @@ fn refused_book(case: &Case, fault: book::Fault, n: &mut Counts) -> Checked {
     same("matching over a refused book", NO_MATCH, product::first_match(words, ws))
 }
 
+/// A cue to be expanded, what is expected of it, and on 0 the words of the answer.
+struct Expansion<'a> {
+    cue: &'a [u16],
+    limit: u32,
+    answer: Answer,
+    words: Option<&'a [u16]>,
+}
+
 /// Runs the product's expander and holds its answer and both buffers to what is expected: on 0 the words, and where the work buffer is
 /// zeroed.
-fn expanded(case: &Case, cue: &[u16], limit: u32, expected: Answer, words: Option<&[u16]>) -> Checked {
-    let mut lent = Pair::new(case.out_words, case.work_words, case.dirt);
-    let got = product::expand(&case.book, cue, limit, lent.out.slice(), lent.work.slice());
-    same("expanding", expected, got)?;
-    lent.check(expected.number, words)?;
-    checked(case, cue, limit, expected, words)?;
-    twice(case, cue, limit, expected, words)
+fn expanded(case: &Case, plant: Plant, x: Expansion) -> Checked {
+    let mut lent = Pair::first(case, plant);
+    let got = product::expand(&case.book, x.cue, x.limit, lent.out.slice(), lent.work.slice());
+    same("expanding", x.answer, got)?;
+    lent.check(x.answer.number, x.words)?;
+    checked(case, plant, &x)?;
+    twice(case, plant, &x)
 }
 
 /// An answer buffer and a work buffer.
 pub struct Pair {
     out: Lent,
     work: Lent,
+    /// how many words of the work buffer are zeroed, if any are
+    zeroed: usize,
 }
 
 impl Pair {
-    pub fn new(out_words: usize, work_words: usize, dirt: u16) -> Pair {
-        Pair { out: Lent::new(out_words, dirt), work: Lent::new(work_words, dirt) }
+    fn new(out_words: usize, work_words: usize, dirt: u16, plant: Plant) -> Pair {
+        Pair { out: Lent::new(out_words, dirt), work: Lent::new(work_words, dirt), zeroed: plant.zeroed() }
+    }
+
+    pub fn first(case: &Case, plant: Plant) -> Pair {
+        Pair::new(case.out_words, case.work_words, case.dirt, plant)
+    }
+
+    /// Those of the expansion or replay that follows another.
+    pub fn second(case: &Case, plant: Plant) -> Pair {
+        Pair::new(case.again_words, case.spare_words, case.dirt, plant)
     }
 
     pub fn slices(&mut self) -> [&mut [u16]; 2] {
@@ -328,36 +376,37 @@ impl Pair {
     pub fn check(&self, number: u32, words: Option<&[u16]>) -> Checked {
         self.out.check("the answer buffer", words.unwrap_or(&[]))?;
         let zeroed = [0, 11, 12, 13, 16, 17].contains(&number);
-        self.work.check("the work buffer", if zeroed { &[0; 8192] } else { &[] })
+        self.work.check("the work buffer", if zeroed { &[0; WORK_WORDS][..self.zeroed.min(self.work.length)] } else { &[] })
     }
 }
 
 /// The order test and the expansion in one call are the two, one after the other.
-fn checked(case: &Case, cue: &[u16], limit: u32, expected: Answer, words: Option<&[u16]>) -> Checked {
-    let mut lent = Pair::new(case.out_words, case.work_words, case.dirt);
-    let got = product::expand_checked(&case.book, cue, limit, lent.out.slice(), lent.work.slice());
+fn checked(case: &Case, plant: Plant, x: &Expansion) -> Checked {
+    let mut lent = Pair::first(case, plant);
+    let got = product::expand_checked(&case.book, x.cue, x.limit, lent.out.slice(), lent.work.slice());
     same("testing, and expanding", product::test_strategies(&case.book), got.test)?;
-    same("expanding after the test", expected, got.answer)?;
-    lent.check(expected.number, words)
+    same("expanding after the test", x.answer, got.answer)?;
+    lent.check(x.answer.number, x.words)
 }
 
 /// And so is the answer expanded again with no step allowed, in a second pair of buffers; on a refusal there is no second expansion.
-fn twice(case: &Case, cue: &[u16], limit: u32, expected: Answer, words: Option<&[u16]>) -> Checked {
-    let mut first = Pair::new(case.out_words, case.work_words, case.dirt);
-    let mut second = Pair::new(4096, 8192, case.dirt);
-    let got = product::expand_twice(&case.book, cue, limit, first.slices(), second.slices());
+fn twice(case: &Case, plant: Plant, x: &Expansion) -> Checked {
+    let (mut first, mut second) = (Pair::first(case, plant), Pair::second(case, plant));
+    let got = product::expand_twice(&case.book, x.cue, x.limit, first.slices(), second.slices());
     same("testing, and expanding twice", product::test_strategies(&case.book), got.test)?;
-    same("expanding the first time", expected, got.first)?;
-    first.check(expected.number, words)?;
-    let Some(words) = words else {
-        same("the first answer for the second", expected, got.second)?;
+    same("expanding the first time", x.answer, got.first)?;
+    first.check(x.answer.number, x.words)?;
+    let Some(words) = x.words else {
+        same("the first answer for the second", x.answer, got.second)?;
         second.out.check("the second answer buffer", &[])?;
         return second.work.check("the second work buffer", &[]);
     };
-    let mut lent = Pair::new(4096, 8192, case.dirt);
+    let mut lent = Pair::second(case, plant);
     let again = product::expand(&case.book, words, 0, lent.out.slice(), lent.work.slice());
     same("expanding the second time", again, got.second)?;
-    if got.test.number == 0 {
+    if plant.cramped(case.again_words, case.spare_words) {
+        same("a second pair of buffers that is cramped", answer(10, 0, 0), again)?;
+    } else if got.test.number == 0 {
         same("an answer that rests", answer(0, words.len(), 0), again)?;
     }
     second.check(again.number, if again.number == 0 { Some(&lent.out.slice()[..again.place]) } else { None })
@@ -366,8 +415,8 @@ fn twice(case: &Case, cue: &[u16], limit: u32, expected: Answer, words: Option<&
 /// A book and a cue that are taken, or the answer of an operation that "checks 10, then the book, then the cue".
 pub type Input<'a> = Result<(&'a Book, &'a Rc<Cue>), Answer>;
 
-fn input<'a>(case: &Case, read: &'a Result<Book, book::Fault>, cue: &'a Result<Rc<Cue>, usize>) -> Input<'a> {
-    if case.out_words < 4096 || case.work_words < 8192 {
+fn input<'a>(case: &Case, plant: Plant, read: &'a Result<Book, book::Fault>, cue: &'a Result<Rc<Cue>, usize>) -> Input<'a> {
+    if plant.cramped(case.out_words, case.work_words) {
         return Err(answer(10, 0, 0));
     }
     let b = read.as_ref().map_err(|(number, place)| answer(*number, *place, 0))?;
@@ -380,10 +429,11 @@ fn expansion(case: &Case, plant: Plant, input: &Input, n: &mut Counts) -> Checke
         Ok(both) => *both,
         Err(refused) => {
             n.expand[refused.number as usize] += 1;
-            return expanded(case, &case.cue, case.limit, *refused, None);
+            return expanded(case, plant, Expansion { cue: &case.cue, limit: case.limit, answer: *refused, words: None });
         }
     };
     let o = evaluate(b, c, case.limit, plant, true, PATIENCE);
+    count(&mut n.long, &long(b, c.words, &o));
     if plant != Plant::Evaluated {
         remembered(b, c, case.limit, plant, &o, n)?;
     }
@@ -397,14 +447,14 @@ fn expansion(case: &Case, plant: Plant, input: &Input, n: &mut Counts) -> Checke
             if number == 11 && evaluates_in(b, c, case.limit.saturating_add(1), case.limit) {
                 n.one_short += 1;
             }
-            expanded(case, &case.cue, case.limit, answer(number, 0, o.steps), None)
+            expanded(case, plant, Expansion { cue: &case.cue, limit: case.limit, answer: answer(number, 0, o.steps), words: None })
         }
-        End::Cue(ref last) => handed_back(case, b, &o, &last.to_words(), n),
+        End::Cue(ref last) => handed_back(case, plant, b, &o, &last.to_words(), n),
     }
 }
 
 /// A cue that was handed back: the product's answer, and demand 3.
-fn handed_back(case: &Case, b: &Book, o: &Outcome, words: &[u16], n: &mut Counts) -> Checked {
+fn handed_back(case: &Case, plant: Plant, b: &Book, o: &Outcome, words: &[u16], n: &mut Counts) -> Checked {
     n.expand[0] += 1;
     n.steps[match o.steps {
         0 => 0,
@@ -416,7 +466,8 @@ fn handed_back(case: &Case, b: &Book, o: &Outcome, words: &[u16], n: &mut Counts
     n.most_steps = n.most_steps.max(o.steps);
     n.exact += (o.steps == case.limit) as u64;
     count(&mut n.levels, &levels(b, &o.trace, words));
-    expanded(case, &case.cue, case.limit, answer(0, words.len(), o.steps), Some(words))?;
+    let handed = |cue, limit, steps| Expansion { cue, limit, answer: answer(0, words.len(), steps), words: Some(words) };
+    expanded(case, plant, handed(&case.cue, case.limit, o.steps))?;
     // demand 3: the list of steps, for every book
     if o.steps as usize * words.len().max(case.cue.len()) < 400_000 {
         n.listed += 1;
@@ -426,7 +477,7 @@ fn handed_back(case: &Case, b: &Book, o: &Outcome, words: &[u16], n: &mut Counts
     if product::test_strategies(&case.book).number == 0 {
         n.settled += 1;
         demand3::check_settled(b, words).map_err(|e| format!("demand 3: {e}"))?;
-        expanded(case, words, 0, answer(0, words.len(), 0), Some(words)).map_err(|e| format!("demand 3, the answer again: {e}"))?;
+        expanded(case, plant, handed(words, 0, 0)).map_err(|e| format!("demand 3, the answer again: {e}"))?;
     }
     Ok(())
 }
@@ -448,6 +499,52 @@ fn levels(b: &Book, trace: &[Step], answer: &[u16]) -> [bool; LEVELS.len()] {
         answer.iter().any(level),
         answer.iter().any(operator),
         answer.iter().any(curve),
+    ]
+}
+
+/// What of BUFFERS is met.
+fn buffers(case: &Case, input: &Input) -> [bool; BUFFERS.len()] {
+    let only = !Plant::Nothing.cramped(case.out_words, WORK_WORDS);
+    [only && case.work_words == 8192, only && case.work_words == WORK_WORDS - 1, input.is_ok() && case.work_words > WORK_WORDS]
+}
+
+/// The words with which both sides of a rule end.
+fn shared(rule: &Rule) -> &[u16] {
+    let both = rule.left_words.iter().rev().zip(rule.right_words.iter().rev());
+    let n = both.take_while(|(l, r)| l == r).count();
+    &rule.right_words[rule.right_words.len() - n..]
+}
+
+/// What of LONG is met by the steps of a cue of so many words.
+fn long(b: &Book, words: usize, o: &Outcome) -> [bool; LONG.len()] {
+    let mut taken: Vec<usize> = o.trace.iter().map(|s| s.rule).collect();
+    taken.sort();
+    taken.dedup();
+    let stepped = o.most.before >= 1000;
+    let overlong = matches!(o.end, End::Stopped(12));
+    let by = |which: &dyn Fn(usize, &Rule) -> bool| stepped && taken.iter().any(|&k| b.rules.get(k).is_some_and(|r| which(k, r)));
+    let holes = |ws: &[u16]| ws.iter().copied().filter(|&w| w >= HOLE).collect::<Vec<u16>>();
+    let of = |r: &Rule, k: u16| r.right_words.iter().filter(|&&w| w == k).count();
+    let end = |which: &dyn Fn(&[u16]) -> bool| by(&|_, r| which(shared(r)));
+    [
+        words >= 1000,
+        words >= 4000,
+        stepped,
+        o.most.before >= 4000,
+        o.most.after == LONGEST,
+        o.most.together > LONGEST,
+        overlong && o.most.before.max(words) >= 1000,
+        overlong && o.next.is_some_and(|(_, words)| words == LONGEST + 1),
+        stepped && o.most.level >= 60,
+        by(&|_, r| shared(r).len() == r.right_words.len()),
+        end(&|ws| holes(ws).len() == 1),
+        end(&|ws| holes(ws).len() > 1),
+        end(&|ws| holes(ws).len() < ws.len()),
+        end(&|ws| ws.is_empty()),
+        by(&|_, r| holes(&r.left_words).iter().any(|&k| of(r, k) > 1)),
+        by(&|_, r| holes(&r.right_words).windows(2).any(|w| w[0] > w[1])),
+        by(&|_, r| holes(&r.left_words).iter().any(|&k| of(r, k) == 0)),
+        by(&|k, r| b.rules[..k].iter().filter(|q| q.left_words[0] == r.left_words[0]).count() >= 20),
     ]
 }
 
@@ -518,7 +615,8 @@ pub fn compare(case: &Case, plant: Plant, n: &mut Counts) -> Checked {
         }
     };
     count(&mut n.refused, &refused(case, &read, &cue));
-    let input = input(case, &read, &cue);
+    let input = input(case, plant, &read, &cue);
+    count(&mut n.buffers, &buffers(case, &input));
     expansion(case, plant, &input, n)?;
     compare_records(case, plant, &input, n)
 }

@@ -67,7 +67,7 @@ fn recorded(case: &Case, plant: Plant, input: &Input, n: &mut Counts) -> Option<
         number == 16 && left == 1,
         number == 16 && overlong,
         number == 11 && left < 2,
-        number == 0 && cramped(case),
+        number == 0 && cramped(case, plant),
     ];
     count(&mut n.recorded_met, &met);
     let place = words.as_ref().map_or(0, |w| w.len());
@@ -75,8 +75,8 @@ fn recorded(case: &Case, plant: Plant, input: &Input, n: &mut Counts) -> Option<
 }
 
 /// Whether the buffers of the replay that follows an expansion are too short.
-fn cramped(case: &Case) -> bool {
-    case.again_words < 4096 || case.spare_words < 8192
+fn cramped(case: &Case, plant: Plant) -> bool {
+    plant.cramped(case.again_words, case.spare_words)
 }
 
 /// A fault of a buffer, with the operation that left it so.
@@ -85,8 +85,8 @@ fn of(operation: &'static str) -> impl Fn(String) -> String {
 }
 
 /// The product's recorded expansion: "after any answer the record holds the pairs of the steps reported, its other words unchanged".
-fn expanded(case: &Case, expected: &Recorded) -> Checked {
-    let (mut lent, mut record) = (Pair::new(case.out_words, case.work_words, case.dirt), Lent::new(case.room, case.dirt));
+fn expanded(case: &Case, plant: Plant, expected: &Recorded) -> Checked {
+    let (mut lent, mut record) = (Pair::first(case, plant), Lent::new(case.room, case.dirt));
     let [out, work] = lent.slices();
     let got = product::expand_recorded(&case.book, &case.cue, case.limit, [out, work, record.slice()]);
     same("expanding with a record", expected.answer, got)?;
@@ -96,16 +96,16 @@ fn expanded(case: &Case, expected: &Recorded) -> Checked {
 
 /// "Every record that our expander wrote for a finished cue, cut to its pairs, is accepted and ends in that cue". Without a finished cue there
 /// is no replay.
-fn retraced(case: &Case, expected: &Recorded) -> Checked {
-    let (mut first, mut record) = (Pair::new(case.out_words, case.work_words, case.dirt), Lent::new(case.room, case.dirt));
-    let mut second = Pair::new(case.again_words, case.spare_words, case.dirt);
+fn retraced(case: &Case, plant: Plant, expected: &Recorded) -> Checked {
+    let (mut first, mut second) = (Pair::first(case, plant), Pair::second(case, plant));
+    let mut record = Lent::new(case.room, case.dirt);
     let [out, work] = first.slices();
     let got = product::expand_retraced(&case.book, &case.cue, case.limit, [out, work, record.slice()], second.slices());
     let a = expected.answer;
     same("expanding, to be replayed", a, got.answer)?;
     first.check(a.number, expected.words.as_deref()).map_err(of("expanding, to be replayed"))?;
     record.check("the record to be replayed", &expected.pairs)?;
-    let finished = expected.words.as_deref().filter(|_| !cramped(case));
+    let finished = expected.words.as_deref().filter(|_| !cramped(case, plant));
     let replay = match finished {
         None if a.number == 0 => Replayed { number: 10, place: 0, steps: 0 },
         _ => Replayed { number: a.number, place: a.place, steps: a.steps as usize },
@@ -142,7 +142,7 @@ fn replayed(case: &Case, plant: Plant, input: &Input, n: &mut Counts) -> Checked
         }
     };
     n.replayed[expected.number as usize] += 1;
-    let (mut lent, mut record) = (Pair::new(case.out_words, case.work_words, case.dirt), Lent::holding(&case.record, case.dirt));
+    let (mut lent, mut record) = (Pair::first(case, plant), Lent::holding(&case.record, case.dirt));
     let got = product::replay(&case.book, &case.cue, record.slice(), lent.slices());
     same("replaying", expected, got)?;
     lent.check(got.number, words.as_deref()).map_err(of("replaying"))?;
@@ -198,8 +198,8 @@ fn met(b: &Book, c: &Rc<Cue>, record: &[u16], played: &Replay) -> [bool; REPLAYE
 pub fn compare_records(case: &Case, plant: Plant, input: &Input, n: &mut Counts) -> Checked {
     if let Some(expected) = recorded(case, plant, input, n) {
         n.recorded[expected.answer.number as usize] += 1;
-        expanded(case, &expected)?;
-        retraced(case, &expected)?;
+        expanded(case, plant, &expected)?;
+        retraced(case, plant, &expected)?;
     }
     replayed(case, plant, input, n)
 }

@@ -32,6 +32,28 @@ pub struct Outcome {
     pub trace: Vec<Step>,
     /// the step that 11, 12 or 16 stopped, and how many words it would have left
     pub next: Option<(Step, usize)>,
+    pub most: Most,
+}
+
+/// The most that any step completed had: the words of the cue before it and after it, those before it and the ones that it put there
+/// together, and its level.
+#[derive(Clone, Copy, Default)]
+pub struct Most {
+    pub before: usize,
+    pub after: usize,
+    pub together: usize,
+    pub level: u32,
+}
+
+impl Most {
+    fn with(self, before: usize, after: usize, put: usize, level: u32) -> Most {
+        Most {
+            before: self.before.max(before),
+            after: self.after.max(after),
+            together: self.together.max(before + put),
+            level: self.level.max(level),
+        }
+    }
 }
 
 enum Stop {
@@ -48,6 +70,7 @@ struct Evaluator<'a> {
     steps: u32,
     trace: Option<Vec<Step>>,
     next: Option<(Step, usize)>,
+    most: Most,
     /// the words of the record; without one there is always room
     room: usize,
     /// what may still be spent before the evaluation is given up
@@ -162,7 +185,7 @@ impl Evaluator<'_> {
                 }
                 self.patience -= cost;
                 if entry == 0 {
-                    if let Some(new) = self.step(&cue, index)? {
+                    if let Some(new) = self.step(&cue, index, level)? {
                         cue = new;
                         if self.plant == Plant::OldOrder {
                             continue;
@@ -194,7 +217,7 @@ impl Evaluator<'_> {
     }
 
     /// Tries the rules: what the part becomes by a step, if one fits.
-    fn step(&mut self, cue: &Rc<Cue>, index: usize) -> Result<Option<Rc<Cue>>, Stop> {
+    fn step(&mut self, cue: &Rc<Cue>, index: usize, level: u32) -> Result<Option<Rc<Cue>>, Stop> {
         let Some(fit) = first_fit(self.book, cue, self.plant) else { return Ok(None) };
         let (step, new) = (Step { index, rule: fit.number() }, fit.reduct(self.book));
         let whole = self.whole - cue.words + new.words;
@@ -202,6 +225,7 @@ impl Evaluator<'_> {
             self.next = Some((step, whole));
             return Err(Stop::Number(number));
         }
+        self.most = self.most.with(self.whole, whole, new.words, level);
         self.whole = whole;
         self.steps += 1;
         if let Some(trace) = &mut self.trace {
@@ -230,14 +254,14 @@ impl Evaluator<'_> {
             Err(Stop::Number(n)) => End::Stopped(n),
             Err(Stop::TooLong) => End::TooLong,
         };
-        Outcome { end, steps: self.steps, trace: self.trace.unwrap_or_default(), next: self.next }
+        Outcome { end, steps: self.steps, trace: self.trace.unwrap_or_default(), next: self.next, most: self.most }
     }
 }
 
 fn evaluator<'a>(book: &'a Book, cue: &Rc<Cue>, allowance: u32, plant: Plant, traced: bool, patience: u64) -> Evaluator<'a> {
     let trace = traced.then(Vec::new);
     let (whole, room) = (cue.words, usize::MAX);
-    Evaluator { book, allowance, plant, whole, steps: 0, trace, next: None, room, patience, remembers: true }
+    Evaluator { book, allowance, plant, whole, steps: 0, trace, next: None, most: Most::default(), room, patience, remembers: true }
 }
 
 /// Evaluates a whole cue. `patience` bounds the work (entries followed, weighted by the cue's size and the rules tried).

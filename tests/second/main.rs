@@ -2,10 +2,10 @@
 //!
 //!     second [CASES] [--seed N] [--threads N] [--plant N] [--plain]
 //!
-//! CASES cases (100,000 if not said), from seed 0 (or --seed) on; one thread for each processor, if not said. --plant 1 to 12 plants a fault
+//! CASES cases (100,000 if not said), from seed 0 (or --seed) on; one thread for each processor, if not said. --plant 1 to 14 plants a fault
 //! in the second evaluator, which the run must then find. --plain leaves out what takes too long if nothing is remembered of arguments that
 //! took no step: for a product that remembers nothing. Exit status: 0 no difference; 1 a difference, printed with its seed and cut down; 2 a
-//! number of the table, a nest of repeats, a kind of level, or a kind of record came too seldom, or bad usage.
+//! number of the table, a nest of repeats, a kind of level, of work buffer, of long cue or of record came too seldom, or bad usage.
 
 mod book;
 mod compare;
@@ -15,12 +15,13 @@ mod evaluate;
 mod paper;
 mod product;
 mod random;
+mod random_long;
 mod random_records;
 mod replay;
 mod shrink;
 
 use book::Plant;
-use compare::{compare, Counts, LEVELS, NUMBERS, REFUSED};
+use compare::{compare, Counts, BUFFERS, LEVELS, LONG, NUMBERS, REFUSED};
 use compare_records::{RECORDED, REPLAYED};
 use random::Case;
 use std::sync::atomic::{AtomicU64, Ordering};
@@ -65,6 +66,8 @@ fn options() -> Option<Options> {
                     "10" => Plant::AnyPlace,
                     "11" => Plant::CutOff,
                     "12" => Plant::LowByte,
+                    "13" => Plant::OldRoom,
+                    "14" => Plant::OldZeros,
                     _ => return None,
                 }
             }
@@ -139,6 +142,8 @@ fn statistics(n: &Counts) {
     println!("  books in which several names fail the order test {}", n.several);
     println!("  cases with {}", list(&LEVELS, &n.levels));
     println!("  refused: {}", list(&REFUSED, &n.refused));
+    println!("  buffers: {}", list(&BUFFERS, &n.buffers));
+    println!("  long cues: {}", list(&LONG, &n.long));
     println!("  recorded: {}", list(&RECORDED, &n.recorded_met));
     println!("  replay: {}", list(&REPLAYED, &n.replayed_met));
     print!("  demand 3: lists of steps checked {}, settled cues checked and expanded again {}", n.listed, n.settled);
@@ -146,8 +151,8 @@ fn statistics(n: &Counts) {
     println!("  the same without memory {}, too long without it {}; left out as too long {}", n.plain, n.repeats, n.too_long);
 }
 
-/// Every number of each operation is to come often, and so are nested repeats, levels of each kind, refusals round the curve, and what is
-/// counted of records: at least once in 500 cases.
+/// Every number of each operation is to come often, and so are nested repeats, levels of each kind, refusals round the curve, work buffers of
+/// every size, and what is counted of records: at least once in 500 cases; and what is counted of long cues, once in 1,000.
 fn seldom(n: &Counts, plain: bool) -> Vec<String> {
     let least = n.cases / 500;
     let mut all = vec![];
@@ -166,9 +171,15 @@ fn seldom(n: &Counts, plain: bool) -> Vec<String> {
             all.push(format!("{i} of {name} came only {} times", counts[i]));
         }
     }
-    let lists: [(&[&str], &[u64]); 4] =
-        [(&LEVELS, &n.levels), (&REFUSED, &n.refused), (&RECORDED, &n.recorded_met), (&REPLAYED, &n.replayed_met)];
-    for (whats, counts) in lists {
+    let lists: [(&[&str], &[u64], u64); 6] = [
+        (&LEVELS, &n.levels, least),
+        (&REFUSED, &n.refused, least),
+        (&BUFFERS, &n.buffers, least),
+        (&LONG, &n.long, least / 2),
+        (&RECORDED, &n.recorded_met, least),
+        (&REPLAYED, &n.replayed_met, least),
+    ];
+    for (whats, counts, least) in lists {
         for (what, c) in whats.iter().zip(counts).filter(|(_, c)| **c < least) {
             all.push(format!("{what} came only {c} times"));
         }
@@ -214,7 +225,7 @@ fn run(o: &Options) -> (Counts, Option<u64>) {
 
 fn all() -> i32 {
     let Some(o) = options() else {
-        eprintln!("second [CASES] [--seed N] [--threads N] [--plant 1 to 12] [--plain]");
+        eprintln!("second [CASES] [--seed N] [--threads N] [--plant 1 to 14] [--plain]");
         return 2;
     };
     if o.plant == Plant::Nothing {
@@ -222,6 +233,7 @@ fn all() -> i32 {
         faults.extend(paper::levels());
         faults.extend(paper::records());
         faults.extend(paper::curve());
+        faults.extend(paper::lengths());
         if !o.plain {
             faults.extend(paper::repeats());
         }
@@ -231,7 +243,7 @@ fn all() -> i32 {
         if !faults.is_empty() {
             return 1;
         }
-        println!("second: the paper's cases C1 to C15, F-2's to F-4's{} hold for both", if o.plain { "" } else { ", and nested repeats," });
+        println!("second: the paper's cases C1 to C15, F-2's to F-5's{} hold for both", if o.plain { "" } else { ", and nested repeats," });
     }
     let start = Instant::now();
     let (n, found) = run(&o);

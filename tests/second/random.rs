@@ -1,7 +1,8 @@
 //! Random books and cues. Each case comes from its own seed alone, so that it can be made again.
 
-use crate::book::{self, Book, Cue, Plant, CURVE, HIGHER, HOLE, LEVEL, LOWER};
+use crate::book::{self, Book, Cue, Plant, ANSWER_WORDS, CURVE, HIGHER, HOLE, LEVEL, LOWER, WORK_WORDS};
 use crate::evaluate::{evaluate, End, Outcome};
+use crate::random_long::long;
 use crate::random_records::{noise, record, room};
 use std::rc::Rc;
 
@@ -86,7 +87,7 @@ impl Draft {
         w
     }
 
-    fn name(&mut self, count: usize, order: &[usize]) -> u16 {
+    pub fn name(&mut self, count: usize, order: &[usize]) -> u16 {
         self.counts.push(count);
         self.orders.push(order.to_vec());
         self.counts.len() as u16 - 1
@@ -119,12 +120,13 @@ pub struct Case {
 /// More work than this is too much for one case.
 pub const PATIENCE: u64 = 1_000_000;
 
-/// How long a case may be: most are short, few are long.
+/// How long a case may be: most are short, few are long. Some have long cues, though they may take few steps.
 #[derive(Clone, Copy, PartialEq)]
 enum Scale {
     Short,
     Middle,
     Long,
+    LongCue,
 }
 
 impl Scale {
@@ -132,6 +134,7 @@ impl Scale {
         match r.below(1000) {
             0..=24 => Scale::Long,
             25..=149 => Scale::Middle,
+            150..=239 => Scale::LongCue,
             _ => Scale::Short,
         }
     }
@@ -140,14 +143,14 @@ impl Scale {
         match self {
             Scale::Short => short,
             Scale::Middle => middle,
-            Scale::Long => long,
+            Scale::Long | Scale::LongCue => long,
         }
     }
 }
 
 // ---- orders
 
-fn order(r: &mut Random, n: usize) -> Vec<usize> {
+pub fn order(r: &mut Random, n: usize) -> Vec<usize> {
     let all: Vec<usize> = (1..=n).collect();
     let with = |mut v: Vec<usize>, e: usize| {
         v.push(e);
@@ -981,6 +984,7 @@ fn plain(r: &mut Random) -> (Draft, Vec<u16>) {
 /// A book and a cue without damage.
 fn draft(r: &mut Random, scale: Scale) -> (Draft, Vec<u16>) {
     let (mut d, mut cue) = match r.below(128) {
+        _ if scale == Scale::LongCue => long(r),
         0..=26 => plain(r),
         27..=44 => again(r),
         45..=56 => arithmetic(r, scale),
@@ -1004,7 +1008,7 @@ fn draft(r: &mut Random, scale: Scale) -> (Draft, Vec<u16>) {
     if r.percent(30) {
         d = renumber(r, &d, &mut cue);
     }
-    if scale != Scale::Long && r.percent(25) {
+    if !matches!(scale, Scale::Long | Scale::LongCue) && r.percent(25) {
         // a cue of the same names, but another
         cue.clear();
         let room = r.from(1, 30);
@@ -1013,17 +1017,17 @@ fn draft(r: &mut Random, scale: Scale) -> (Draft, Vec<u16>) {
     (d, cue)
 }
 
-/// The lengths of answer buffer and work buffer: mostly the least.
+/// The lengths of answer buffer and work buffer: mostly the least. 8,192 words were enough for the work buffer before F-5.
 fn buffers(r: &mut Random) -> (usize, usize) {
-    let (mut out_words, mut work_words) = (4096, 8192);
+    let (mut out_words, mut work_words) = (ANSWER_WORDS, WORK_WORDS);
     if r.percent(25) {
         out_words = *r.pick(&[4095, 4095, 4096, 4097, 0, 1, 5000]);
-        work_words = *r.pick(&[8191, 8191, 8192, 8193, 0, 4096, 12288]);
+        work_words = *r.pick(&[12287, 12287, 12288, 12289, 12289, 8191, 8192, 8192, 8193, 0, 4096, 16384]);
         if r.percent(40) {
-            out_words = out_words.max(4096);
+            out_words = out_words.max(ANSWER_WORDS);
         }
         if r.percent(40) {
-            work_words = work_words.max(8192);
+            work_words = work_words.max(WORK_WORDS);
         }
     }
     (out_words, work_words)
@@ -1034,7 +1038,7 @@ pub fn case(seed: u64) -> Case {
     let scale = Scale::any(r);
     let (d, mut cue) = draft(r, scale);
     let mut book = d.write();
-    match r.below(100) {
+    match r.below(if scale == Scale::LongCue { 500 } else { 100 }) {
         0..=16 => book = planned_damage(r, &d),
         17..=24 => damage(r, &mut book),
         25 => book = (0..r.below(40)).map(|_| odd_word(r, 1)).collect(),
@@ -1063,8 +1067,12 @@ pub fn case(seed: u64) -> Case {
 
 /// An allowance that is met by one more or less, or far from being met, and an expansion with at least that.
 fn limit(r: &mut Random, scale: Scale, b: &Book, c: &Rc<Cue>) -> (u32, Outcome) {
-    let most = scale.of(64 + r.below(60) as u32, 700, 6000);
-    let patience = scale.of(PATIENCE / 50, PATIENCE / 5, PATIENCE);
+    let (most, patience) = match scale {
+        Scale::Short => (64 + r.below(60) as u32, PATIENCE / 50),
+        Scale::Middle => (700, PATIENCE / 5),
+        Scale::LongCue => (1500, PATIENCE / 4),
+        Scale::Long => (6000, PATIENCE),
+    };
     let o = evaluate(b, c, most, Plant::Nothing, true, patience);
     let n = o.steps;
     let limit = match o.end {

@@ -1,6 +1,6 @@
 //! Cutting a case down while it still shows a difference.
 
-use crate::book::{self, Book, Cue, Plant};
+use crate::book::{self, Book, Cue, Plant, ANSWER_WORDS, WORK_WORDS};
 use crate::compare::{compare, Counts};
 use crate::random::{Case, Draft};
 use crate::replay::replay;
@@ -22,14 +22,14 @@ fn smaller(case: &Case) -> Vec<Case> {
     if case.dirt != 0 {
         put(&|c| c.dirt = 0);
     }
-    if case.out_words > 4096 {
-        put(&|c| c.out_words = 4096);
+    if case.out_words > ANSWER_WORDS {
+        put(&|c| c.out_words = ANSWER_WORDS);
     }
-    if case.work_words > 8192 {
-        put(&|c| c.work_words = 8192);
+    if case.work_words > WORK_WORDS {
+        put(&|c| c.work_words = WORK_WORDS);
     }
-    if (case.again_words, case.spare_words) != (4096, 8192) {
-        put(&|c| (c.again_words, c.spare_words) = (4096, 8192));
+    if (case.again_words, case.spare_words) != (ANSWER_WORDS, WORK_WORDS) {
+        put(&|c| (c.again_words, c.spare_words) = (ANSWER_WORDS, WORK_WORDS));
     }
     for l in [0, case.limit / 2, case.limit.wrapping_sub(1)] {
         if l < case.limit {
@@ -89,15 +89,15 @@ fn smaller(case: &Case) -> Vec<Case> {
         }
         // parts of right sides
         for k in 0..d.rules.len() {
-            for w in parts(&d, &d.rules[k].1) {
+            for w in parts(&d, &d.rules[k].1, 1) {
                 let mut e = d.clone();
                 e.rules[k].1 = w;
                 put(&|c| c.book = e.write());
             }
         }
-        // parts of the cue
-        if let Some(cue) = b.cue(&case.cue).ok().filter(|c| c.words < 600) {
-            for w in parts(&d, &case.cue) {
+        // parts of the cue, of a long one only large parts
+        if let Ok(cue) = b.cue(&case.cue) {
+            for w in parts(&d, &case.cue, 1 + cue.words / 600 * 60) {
                 put(&|c| c.cue = w.clone());
             }
             for (cue, record) in onward(&b, &cue, &case.record) {
@@ -166,14 +166,17 @@ fn onward(b: &Book, cue: &Rc<Cue>, record: &[u16]) -> Vec<(Vec<u16>, Vec<u16>)> 
     all
 }
 
-/// The words with one part replaced by one of its arguments, or by name 0 if that has none.
-fn parts(d: &Draft, words: &[u16]) -> Vec<Vec<u16>> {
+/// The words with one part, of at least so many words, replaced by one of its arguments, or by name 0 if that has none.
+fn parts(d: &Draft, words: &[u16], least: usize) -> Vec<Vec<u16>> {
     fn end(d: &Draft, words: &[u16], at: usize) -> usize {
         (0..d.arguments(words[at])).fold(at + 1, |e, _| end(d, words, e))
     }
     let mut all = vec![];
     for at in 0..words.len() {
         let stop = end(d, words, at);
+        if stop - at < least {
+            continue;
+        }
         let put = |with: &[u16]| [&words[..at], with, &words[stop..]].concat();
         if d.counts[0] == 0 && words[at..stop] != [0] {
             all.push(put(&[0]));
