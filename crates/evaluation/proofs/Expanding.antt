@@ -4,14 +4,13 @@ use native.Mathlib.Omega.{arith}
 use native.Mathlib.Decide.{decLt, ℕ-discrete}
 use mathlib.Core.Path.{_≡_, refl, sym, ap, _∙_}
 use mathlib.Core.Bool.{Bool, true, false, cond}
-use mathlib.Core.List.{List, [], _++_}
-use lib.ListN.{length, take, drop, length-append, length-drop}
-use lib.Seq.{take-at, drop-at, sets-eq}
+use mathlib.Core.List.{List, _++_}
+use lib.ListN.{length, drop, length-append, length-drop}
+use lib.Seq.{take-append-le, drop-at, sets-eq}
 use borrow.Author.Tests.{le-leb, lt-leb}
 use Rattle.system.specs.Limits.{areaWords, termWords}
 use Rattle.buffers.specs.Words.{over, zeros}
-use Rattle.buffers.specs.moves.Parts.{pad}
-use Rattle.buffers.proofs.Pads.{length-zeros, take-pad}
+use Rattle.buffers.proofs.Pads.{length-zeros}
 use Rattle.system.specs.declared.Answer.{Answer}
 use Rattle.system.specs.declared.Shape.{Shape}
 use Rattle.system.specs.Terms.{Whole, WellFormed}
@@ -21,12 +20,14 @@ use Rattle.system.proofs.Accepts.{read-sound}
 use Rattle.system.proofs.Answering as answering
 use Rattle.system.proofs.TermChecks.{fault-whole}
 use Rattle.system.specs.Book.{systemOf, Accepted}
-use Rattle.evaluation.specs.declared.run.RunResult.{RunResult}
+use Rattle.rows.specs.declared.gap.Gap.{Gap}
+use Rattle.rows.specs.gap.Gaps.{closed, termIn, wordsIn, Lies}
+use Rattle.rows.proofs.gap.Closed.{closed-length}
 use Rattle.rewriting.specs.Evaluation.{Limits, Outcome, finished, stopped, evaluation}
-use Rattle.evaluation.specs.run.RunResult.{Ran}
+use Rattle.evaluation.specs.declared.run.RunResult.{RunResult}
+use Rattle.evaluation.specs.run.RunResult.{outcomeNumber, left, Ran}
 use Rattle.evaluation.specs.recording.Kept.{kept}
 use Rattle.evaluation.specs.Expansion.{Expansion, result, expansionOf, room, earlier, checked, afterChecks, traceOf, keep, recordAfter}
-use Rattle.rewriting.proofs.Done.{theorem-done, steps-last}
 
 -- ---- what the check of a term tells
 
@@ -191,57 +192,39 @@ module _ (b : Bool) (book term : List ℕ) (limits : Limits) (out work words : L
 pub same-result : {r r′ : Answer} {out out′ work work′ : List ℕ} → r ≡ r′ → out ≡ out′ → work ≡ work′ → result r out work ≡ result r′ out′ work′
 same-result p q s i = result (p i) (q i) (s i)
 
--- what is handed back is no longer than a term may be
-pub size-bounded : (book term : List ℕ) (limits : Limits) → Checks book term → (e : RunResult) (ws : List ℕ) → Ran (evaluation (systemOf book) limits term) e ws → e .size ≤ termWords
-size-bounded book term limits c e ws = go (evaluation (systemOf book) limits term) refl
-  where
-    go : (o : Outcome) → evaluation (systemOf book) limits term ≡ o → Ran o e ws → e .size ≤ termWords
-    go (finished r) q h = let d = theorem-done (systemOf book) (checks-well book term c) limits term r (c .whole) (c .bounded) q in
-        let z = ap (λ y. y .size) (h .0) in
-        omega (arith, steps-last (systemOf book) (d .path))
-    go (stopped n k) q h = let z = ap (λ y. y .size) (h .0) in omega arith
-
--- so many words at the area's front, and zeros behind them
-pub record Leaves (words : List ℕ) (size : ℕ) (ws : List ℕ) : Type 0 where
-  pub counted : size ≡ length words
-  pub padded : ws ≡ pad areaWords words
-
-pub leaves-none : {size : ℕ} {ws : List ℕ} → size ≡ 0 → ws ≡ zeros areaWords → Leaves [] size ws
-unfolding pad
-leaves-none e w = record { counted = e; padded = w }
-
--- what a run leaves there: the term, or nothing where it was stopped
-abbrev pub left : Outcome → List ℕ
-left (finished r) = r .term
-left (stopped n h) = []
-
-pub leaves : (o : Outcome) (e : RunResult) (ws : List ℕ) → Ran o e ws → Leaves (left o) (e .size) ws
-leaves (finished r) e ws h = record { counted = ap (λ y. y .size) (h .0); padded = h .1 }
-leaves (stopped n k) e ws h = leaves-none (ap (λ y. y .size) (h .0)) (h .1)
-
--- these words are handed back, whatever comes after the area
-pub leaves-words : {t : List ℕ} {size : ℕ} {ws : List ℕ} → Leaves t size ws → (rest : List ℕ) → take size (ws ++ rest) ≡ t
-leaves-words {t} l rest = (λ i. take (l .counted i) (l .padded i ++ rest)) ∙ take-pad areaWords t rest (length t) refl
-
 -- the area is lent as the first words of the work buffer; what stands behind it is as it was
 module _ (work ws : List ℕ) (room : areaWords ≤ length work) (size : length ws ≡ areaWords) where
-  pub whole-length : length (ws ++ drop areaWords work) ≡ length work
+  abbrev whole : List ℕ
+  whole = ws ++ drop areaWords work
+
+  pub whole-length : length whole ≡ length work
   whole-length = rw (length-append, length-drop, size) (omega arith)
 
-  pub whole-front : {t : List ℕ} {n : ℕ} → Leaves t n ws → take areaWords (ws ++ drop areaWords work) ≡ pad areaWords (take n (ws ++ drop areaWords work))
-  whole-front l = take-at ws (drop areaWords work) areaWords size ∙ l .padded ∙ ap (pad areaWords) (sym (leaves-words l (drop areaWords work)))
+  pub whole-term : (gap : Gap) → termIn whole gap ≡ termIn ws gap
+  whole-term gap = ap (closed gap) (take-append-le termWords ws (drop areaWords work) (omega arith))
 
-  pub whole-zeroed : over (ws ++ drop areaWords work) 0 (zeros areaWords) ≡ over work 0 (zeros areaWords)
+  pub whole-zeroed : over whole 0 (zeros areaWords) ≡ over work 0 (zeros areaWords)
   whole-zeroed =
       let n = length-zeros areaWords in
       let k : 0 + length (zeros areaWords) ≡ areaWords = omega arith in
-      sets-eq (zeros areaWords) (ws ++ drop areaWords work) 0 (rw whole-length (omega arith))
+      sets-eq (zeros areaWords) whole 0 (rw whole-length (omega arith))
       ∙ rw (k, drop-at ws (drop areaWords work) areaWords size)
       (sym (sets-eq (zeros areaWords) work 0 (omega arith) ∙ rw k))
 
+  -- the words around a gap are handed back, and so many they are
+  pub whole-words : {t : List ℕ} {gap : Gap} → Lies gap → termIn ws gap ≡ t → (wordsIn gap ≡ length t) × (termIn whole gap ≡ t)
+  whole-words {gap = gap} l e = (sym (closed-length ws gap (record { room = omega arith; lies = l })) ∙ ap length e, whole-term gap ∙ e)
+
   -- the end: the numbers, the answer buffer and the work buffer
   pub finishes : (o : Outcome) (e : RunResult) (out : List ℕ) → Ran o e ws →
-      result (record { number = e .number; place = e .size; steps = e .steps }) (over out 0 (take (e .size) (ws ++ drop areaWords work)))
-      (over (ws ++ drop areaWords work) 0 (zeros areaWords)) ≡ expansionOf out work o
-  finishes (finished r) e out h = same-result (rw (h .0)) (ap (over out 0) (leaves-words (leaves (finished r) e ws h) (drop areaWords work))) whole-zeroed
-  finishes (stopped n k) e out h = same-result (rw (h .0)) (ap (over out 0) (leaves-words (leaves (stopped n k) e ws h) (drop areaWords work))) whole-zeroed
+      result (record { number = e .number; place = wordsIn (e .gap); steps = e .steps }) (over out 0 (termIn whole (e .gap))) (over whole 0 (zeros areaWords))
+      ≡ expansionOf out work o
+  finishes o e out h =
+      let w = whole-words (h .lies) (h .words) in
+      same-result (λ i. record { number = h .number i; place = w .0 i; steps = h .steps i }) (ap (over out 0) (w .1)) whole-zeroed ∙ told o
+    where
+      told : (o : Outcome) →
+          result (record { number = outcomeNumber o; place = length (left o); steps = length (traceOf o) }) (over out 0 (left o)) (over work 0 (zeros areaWords))
+          ≡ expansionOf out work o
+      told (finished r) = refl
+      told (stopped n k) = refl

@@ -1,6 +1,4 @@
 -- A run in an area of words: what the proofs of `run` cite.
-pub mod Starts
-pub mod Cleared
 pub mod Running
 pub mod Rounds
 pub mod Steps

@@ -1,13 +1,10 @@
 // Advancing and rewriting in turn, and telling each step in the record.
 ghost use mathlib.Core.Path.{_≡_};
-ghost use Prim.Native.Nat.{_≤_};
 ghost use lib.ListN.{length};
-ghost use Rattle.buffers.specs.Words.{zeros};
-ghost use Rattle.buffers.specs.moves.Parts.{pad};
 ghost use Rattle.system.specs.Book.{systemOf};
+ghost use Rattle.system.specs.Limits.{termWords};
+ghost use Rattle.rows.specs.gap.Gaps.{behind};
 ghost use Rattle.rewriting.specs.Evaluation.{evaluation};
-ghost use Rattle.system.specs.Limits.{areaWords};
-ghost use Rattle.machine.specs.advance.Area.{Layout};
 ghost use Rattle.evaluation.specs.Expansion.{traceOf};
 ghost use Rattle.evaluation.specs.recording.Kept.{limitsOf, kept};
 ghost use Rattle.evaluation.specs.run.RunResult.{Runnable, Ran};
@@ -17,59 +14,46 @@ use crate::recording::put_pair;
 use machine::advance::State;
 use machine::advance::Stop;
 use machine::advance::advance;
-use machine::reducts::Reduced;
-use machine::reducts::Subterm;
-use machine::reducts::rewrite;
+use machine::steps::step;
 use matching::rules::rule_number;
+use reducts::putting::Reduced;
+use rows::gap::Gap;
+use rows::lengths::COUNTS;
+use rows::lengths::lay;
 use system::Shape;
 use system::layout::index::INDEX;
 use system::layout::index::build_index;
-use system::limits::AREA_WORDS;
 use system::limits::LEVELS;
 use system::limits::TERM_WORDS;
 use system::numbers::NESTED;
 use system::numbers::OVERLONG;
 use system::numbers::TAKEN;
 
-// How a run ended: 0, 11, 12, 13 or 16; how many words the term has, on 0; and the steps taken.
+// How a run ended: 0, 11, 12, 13 or 16; the gap around which the term stands, on 0, and otherwise one that leaves no word; and the steps taken.
 pub struct RunResult {
     pub number: u32,
-    pub size: usize,
+    pub gap: Gap,
     pub steps: u32,
 }
 
-fn outcome(number: u32, size: usize, steps: u32) -> RunResult
-    ensures { λ r. ⌜ r ≡ record { number = number; size = size; steps = steps } ⌝ }
+fn outcome(number: u32, gap: Gap, steps: u32) -> RunResult
+    ensures { λ r. ⌜ r ≡ record { number = number; gap = gap; steps = steps } ⌝ }
 {
-    RunResult {
-        number,
-        size,
-        steps,
-    }
+    RunResult { number, gap, steps }
 }
 
-// Writes a term and zeros behind it: one level is open, with no entry begun. Each word of the area is written once.
-pub fn start(area: &mut [u16], term: &[u16])
-    requires { ⌜ (length (now term) ≤ areaWords) × (length (now area) ≡ areaWords) ⌝ }
-    ensures { λ _. ⌜ now (area .exit) ≡ pad areaWords (now (term .entry)) ⌝ }
+// How a run ends that a limit stops: no word is handed back.
+fn stopped(number: u32, steps: u32) -> RunResult
+    ensures { λ r. ⌜ r ≡ record { number = number; gap = behind termWords; steps = steps } ⌝ }
 {
-    let n = term.len();
-    buffers::copy_in(area, 0, term);
-    buffers::clear(area, n, AREA_WORDS - n);
+    let gap = Gap {
+        front: 0,
+        back: TERM_WORDS,
+    };
+    outcome(number, gap, steps)
 }
 
-// How a run ends that a limit stops: the term's words and the counts are cleared; all other words are zero already.
-fn halt(area: &mut [u16], n: usize, level: usize, number: u32, steps: u32) -> RunResult
-    requires { ⌜ Layout (now area) n level ⌝ }
-    ensures numbers { λ r. ⌜ r ≡ record { number = number; size = 0; steps = steps } ⌝ }
-    ensures cleared { λ _. ⌜ now (area .exit) ≡ zeros areaWords ⌝ }
-{
-    buffers::clear(area, 0, n);
-    buffers::clear(area, TERM_WORDS, level + 1);
-    outcome(number, 0, steps)
-}
-
-// Evaluates a term in an area of 8,192 words, and writes the pair of each step behind those before it.
+// Evaluates a term in an area of 12,288 words, whatever they hold, and writes the pair of each step behind those before it.
 pub fn run(
     book: &[u16],
     shape: Shape,
@@ -84,41 +68,40 @@ pub fn run(
     ensures told { λ _. ⌜ now («record» .exit) ≡ kept (bounds .recorded) (now («record» .entry))
         (traceOf (evaluation (systemOf (now (book .entry))) (limitsOf bounds (length (now («record» .entry)))) (now (term .entry)))) ⌝ }
 {
-    start(area, term);
     let mut index = [0u16; INDEX];
     build_index(book, shape, &mut index);
     let mut positions = [0usize; LEVELS];
-    let mut n = term.len();
+    let mut gap = lay(book, area, term);
+    area[COUNTS] = 0;
     let mut level = 0;
     let mut steps: u32 = 0;
     loop {
-        let state = State { n, level };
-        let a = advance(book, shape, &index, area, &mut positions, state);
+        let from = State { gap, level };
+        let a = advance(book, shape, &index, area, &mut positions, from);
         let stop = a.stop;
         match stop {
             Stop::Final => {
-                return outcome(TAKEN, n, steps);
+                return outcome(TAKEN, gap, steps);
             }
             Stop::Deep => {
-                return halt(area, n, a.level, NESTED, steps);
+                return stopped(NESTED, steps);
             }
             Stop::Ready => {
                 level = a.level;
                 let met = limit_met(bounds, record.len(), steps);
                 if met != TAKEN {
-                    return halt(area, n, level, met, steps);
+                    return stopped(met, steps);
                 }
-                let m = a.matched;
+                let m = a.redex;
                 let found = m.rule;
                 let at = positions[level];
-                let width = a.width;
-                let u = Subterm { level, at, width };
-                let r = rewrite(book, area, n, u, m);
-                let Reduced::Done(k) = r else {
-                    return halt(area, n, level, OVERLONG, steps);
+                let here = State { gap, level };
+                let r = step(book, &index, area, &positions, here, m);
+                let Reduced::Done(g) = r else {
+                    return stopped(OVERLONG, steps);
                 };
                 put_pair(record, bounds, steps, at, rule_number(found));
-                n = k;
+                gap = g;
                 steps += 1;
             }
         }

@@ -2,18 +2,20 @@
 ghost use mathlib.Core.Path.{_≡_};
 ghost use mathlib.Core.Bool.{cond};
 ghost use Prim.Native.Nat.{_≤_};
-ghost use lib.ListN.{length, take};
+ghost use lib.ListN.{length};
 ghost use Rattle.buffers.specs.Words.{over, zeros};
-ghost use Rattle.buffers.specs.moves.Parts.{pad};
 ghost use Rattle.system.specs.Answers.{termAnswer};
 ghost use Rattle.system.specs.Limits.{areaWords, termWords};
 ghost use Rattle.system.specs.Parser.{read};
 ghost use Rattle.system.specs.reader.Sections.{scanOf};
+ghost use Rattle.rows.specs.gap.Gaps.{Lies, termIn};
 ghost use Rattle.rewriting.specs.Evaluation.{unrecorded};
 ghost use Rattle.evaluation.specs.Expansion.{result, room, earlier, expansion, recordAfter};
 ghost use Rattle.evaluation.specs.recording.Kept.{limitsOf};
 use crate::recording::Bounds;
 use crate::run::run;
+use rows::gap::Gap;
+use rows::gap::words;
 use system::Answer;
 use system::limits::AREA_WORDS;
 use system::limits::TERM_WORDS;
@@ -72,10 +74,11 @@ pub fn expand_within(
         &mut work[0..AREA_WORDS],
         record,
     );
-    hand_back(out, work, e.size);
+    let gap = e.gap;
+    hand_back(out, work, gap);
     Answer {
         number: e.number,
-        place: e.size,
+        place: words(gap),
         steps: e.steps,
     }
 }
@@ -90,15 +93,17 @@ pub fn check_call(book: &[u16], scan: Scan, term: &[u16], out: usize, work: usiz
     earlier(buffers, words)
 }
 
-// Hands the first n words of the area to the caller, and clears them; all other words of it are zero already.
-pub fn hand_back(out: &mut [u16], work: &mut [u16], n: usize)
-    requires { ⌜ (areaWords ≤ length (now work)) × (n ≤ termWords) × (termWords ≤ length (now out))
-        × (take areaWords (now work) ≡ pad areaWords (take n (now work))) ⌝ }
-    ensures answer { λ _. ⌜ now (out .exit) ≡ over (now (out .entry)) 0 (take n (now (work .entry))) ⌝ }
+// Hands the term in the area's first row to the caller, the words before its gap and those behind it, and clears the area.
+pub fn hand_back(out: &mut [u16], work: &mut [u16], gap: Gap)
+    requires { ⌜ (areaWords ≤ length (now work)) × Lies gap × (termWords ≤ length (now out)) ⌝ }
+    ensures answer { λ _. ⌜ now (out .exit) ≡ over (now (out .entry)) 0 (termIn (now (work .entry)) gap) ⌝ }
     ensures zeroed { λ _. ⌜ now (work .exit) ≡ over (now (work .entry)) 0 (zeros areaWords) ⌝ }
 {
-    buffers::copy_in(out, 0, &work[0..n]);
-    buffers::clear(work, 0, n);
+    let front = gap.front;
+    let back = gap.back;
+    buffers::copy_in(out, 0, &work[0..front]);
+    buffers::copy_in(out, front, &work[back..TERM_WORDS]);
+    buffers::clear(work, 0, AREA_WORDS);
 }
 
 // 10 for buffers below the words that are asked for, else 0.

@@ -1,27 +1,28 @@
--- What is known of a run in an area at the head of its loop: how it starts, that a state after a rewrite keeps it, and what a stop has to clear.
-use Prim.Native.Nat.{ℕ, zero, suc, _≤_, _<_}
+-- What is known of a run in an area at the head of its loop: how it starts, and that a state after a rewrite keeps it.
+use Prim.Native.Nat.{ℕ, zero, suc, _≤_}
 use native.Mathlib.Omega.{arith}
 use mathlib.Core.Path.{_≡_, refl, sym, _∙_}
 use mathlib.Core.List.{List, [], _∷_, _++_}
-use lib.ListN.{length, getD, take}
-use Rattle.buffers.specs.moves.Parts.{pad}
+use lib.ListN.{length, getD, take, set}
+use Rattle.system.specs.Limits.{termWords, areaWords, levels}
 use Rattle.system.specs.Signature.{replace}
 use Rattle.system.specs.System.{System}
 use Rattle.system.specs.Terms.{Whole, WellFormed}
-use Rattle.system.specs.Limits.{termWords, areaWords, levels}
+use Rattle.rows.specs.declared.gap.Gap.{Gap}
+use Rattle.rows.specs.gap.Gaps.{countsAt, termIn}
+use Rattle.rows.specs.lengths.Written.{Laid}
 use Rattle.rewriting.specs.Trace.{Trace}
 use Rattle.rewriting.specs.Evaluation.{Limits, evaluation}
 use Rattle.rewriting.specs.Machine.{position, down, Opened, base}
-use Rattle.machine.specs.advance.Area.{area, termIn, outerIn, countIn, Layout, Valid, Positioned, Represents, Tracks}
+use Rattle.machine.specs.advance.Area.{outerIn, countIn, Stands, Valid, Positioned, Tracks}
 use Rattle.rewriting.proofs.Laws.{position-le}
 use Rattle.rewriting.proofs.OpenLevels.{opened-replace}
 use Rattle.rewriting.proofs.MachineTheorem.{remains, remains-start}
 use Rattle.machine.proofs.advance.States.{valid-start, valid-within}
-use Rattle.machine.proofs.advance.Areas.{held-term, held-outer, held-count, held-length, holds, area-pushed}
+use Rattle.machine.proofs.advance.Areas.{stands-set, held-outer, held-count, holds}
 use Rattle.evaluation.specs.declared.recording.Bounds.{Bounds}
 use Rattle.evaluation.specs.recording.Kept.{limitsOf, kept}
 use Rattle.evaluation.proofs.Records.{kept-start}
-use Rattle.evaluation.proofs.run.Starts.{area-bare}
 
 -- ---- the levels around one of the open levels
 
@@ -55,39 +56,35 @@ abbrev pub limits : Asked → Limits
 limits a = limitsOf (a .bounds) (length (a .lent))
 
 -- so many steps are taken, and the record holds their pairs
-pub record Running (s : System) (a : Asked) (ws positions words : List ℕ) (n level steps : ℕ) : Type 0 where
-  pub holds : Tracks s ws positions n level
+pub record Running (s : System) (a : Asked) (ws positions words : List ℕ) (gap : Gap) (level steps : ℕ) : Type 0 where
+  pub holds : Tracks s ws positions gap level
   pub afford : steps ≤ a .bounds .limit
   pub trace : Trace
   pub counted : length trace ≡ steps
   pub told : words ≡ kept (a .bounds .recorded) (a .lent) trace
-  pub same : remains s (limits a) (outerIn ws level ++ countIn ws level ∷ []) (record { term = termIn ws n; trace = trace }) ≡ evaluation s (limits a) (a .term)
+  pub same : remains s (limits a) (outerIn ws level ++ countIn ws level ∷ []) (record { term = termIn ws gap; trace = trace }) ≡ evaluation s (limits a) (a .term)
 
--- an area that was made from a state, whose term has n words, with `level` levels around the innermost one
-pub record Made (s : System) (ws positions : List ℕ) (n level : ℕ) : Type 0 where
+-- an area that was made from a state, with `level` levels around the innermost one
+pub record Made (s : System) (ws positions : List ℕ) (gap : Gap) (level : ℕ) : Type 0 where
   pub t : List ℕ
   pub outer : List ℕ
   pub c : ℕ
   pub valid : Valid s t outer c
-  pub words : length t ≡ n
   pub around : length outer ≡ level
-  pub equal : ws ≡ area t (outer ++ c ∷ [])
+  pub stands : Stands (s .arities) ws gap t (outer ++ c ∷ [])
   pub slots : length positions ≡ levels
   pub positioned : Positioned s t outer positions
 
-pub running-made : {s : System} {ws positions : List ℕ} {n level : ℕ} (m : Made s ws positions n level) (a : Asked) (h : Trace) (steps : ℕ) (words : List ℕ) →
+pub running-made : {s : System} {ws positions : List ℕ} {gap : Gap} {level : ℕ} (m : Made s ws positions gap level) (a : Asked) (h : Trace) (steps : ℕ) (words : List ℕ) →
     steps ≤ a .bounds .limit → length h ≡ steps → words ≡ kept (a .bounds .recorded) (a .lent) h →
     remains s (limits a) (m .outer ++ m .c ∷ []) (record { term = m .t; trace = h }) ≡ evaluation s (limits a) (a .term) →
-    Running s a ws positions words n level steps
-running-made {s} {ws} {positions} {n} {level} m a h steps words afford counted told same =
-    let g = m .valid in
-    let b = g .bounded in
-    let room : level < levels = omega (arith, g .room, m .around) in
-    let et = held-term ws (m .t) (m .outer) (m .c) n level (m .equal) b (m .words) (m .around) room in
-    let eo = held-outer ws (m .t) (m .outer) (m .c) n level (m .equal) b (m .words) (m .around) room in
-    let ec = held-count ws (m .t) (m .outer) (m .c) n level (m .equal) b (m .words) (m .around) room in
+    Running s a ws positions words gap level steps
+running-made {s} {ws} {positions} {gap} {level} m a h steps words afford counted told same =
+    let et = m .stands .term in
+    let eo = held-outer (m .outer) (m .c) (m .stands) (m .around) in
+    let ec = held-count (m .outer) (m .c) (m .stands) (m .around) in
     record {
-      holds = holds ws (m .t) (m .outer) (m .c) n level (m .equal) b (m .words) (m .around) room s g positions (m .slots) (m .positioned);
+      holds = holds (m .outer) (m .c) (m .stands) (m .around) (m .valid) positions (m .slots) (m .positioned);
       afford = afford;
       trace = h;
       counted = counted;
@@ -95,11 +92,12 @@ running-made {s} {ws} {positions} {n} {level} m a h steps words afford counted t
       same = rw (et, eo, ec) same;
     }
 
--- the start
-pub running-start : (s : System) → WellFormed s → (a : Asked) (ws positions : List ℕ) → Whole (s .arities) (a .term) → length (a .term) ≤ termWords →
-    ws ≡ pad areaWords (a .term) → length positions ≡ levels → getD positions 0 0 ≡ 0 → Running s a ws positions (a .lent) (length (a .term)) 0 0
+-- the start: the term is laid, and no entry of it is begun
+pub running-start : (s : System) → WellFormed s → (a : Asked) (ws positions : List ℕ) (gap : Gap) → Whole (s .arities) (a .term) → length (a .term) ≤ termWords →
+    Laid (s .arities) (a .term) areaWords ws gap → length positions ≡ levels → getD positions 0 0 ≡ 0 →
+    Running s a (set ws countsAt 0) positions (a .lent) gap 0 0
 unfolding position
-running-start s wf a ws positions h b e slots z =
+running-start s wf a ws positions gap h b l slots z =
     running-made m a [] 0 (a .lent) (omega arith) refl (kept-start (a .bounds .recorded) (a .lent)) (remains-start s (limits a) wf t₀)
   where
     t₀ : List ℕ
@@ -109,32 +107,14 @@ running-start s wf a ws positions h b e slots z =
     first zero m = z
     first (suc k) m = absurd (omega arith)
 
-    m : Made s ws positions (length t₀) 0
+    m : Made s (set ws countsAt 0) positions gap 0
     m = record {
       t = t₀;
       outer = [];
       c = 0;
       valid = valid-start s t₀ h b;
-      words = refl;
       around = refl;
-      equal = e ∙ sym (area-bare t₀ b) ∙ area-pushed t₀ [] (omega arith);
+      stands = stands-set [] 0 0 refl (omega arith) (record { total = l .total; measured = l .measured; term = l .words; counts = refl });
       slots = slots;
       positioned = λ k m. first k m;
-    }
-
--- ---- what a stop has to clear
-
-pub represents-length : {s : System} {ws : List ℕ} {n level : ℕ} → Represents s ws n level → length ws ≡ areaWords
-represents-length {ws} {n} {level} h =
-    let g = h .valid in
-    held-length ws (termIn ws n) (outerIn ws level) (countIn ws level) n level (h .equal) (g .bounded) (h .words) (h .levels) (omega (arith, g .room, h .levels))
-
-pub represents-layout : {s : System} {ws : List ℕ} {n level : ℕ} → Represents s ws n level → Layout ws n level
-represents-layout h =
-    let g = h .valid in
-    record {
-      bounded = omega (arith, h .words, g .bounded);
-      room = omega (arith, h .levels, g .room);
-      total = represents-length h;
-      equal = h .equal;
     }

@@ -1,18 +1,18 @@
--- What a run in an area asks for, and how it ends: the outcome's numbers; on 0 the term at the area's front and zeros behind it, and where it
--- was stopped only zeros.
+-- What a run in an area asks for, and how it ends: the outcome's numbers, and the gap around which its term stands in the area; one that leaves no
+-- word where it was stopped. What else the area holds does not matter.
 use Prim.Native.Nat.{ℕ, _≤_}
 use mathlib.Core.Path.{_≡_}
-use mathlib.Core.List.{List}
+use mathlib.Core.List.{List, []}
 use lib.ListN.{length}
-use Rattle.buffers.specs.Words.{zeros}
-use Rattle.buffers.specs.moves.Parts.{pad}
 use Rattle.system.specs.declared.Shape.{Shape}
 use Rattle.system.specs.Terms.{Whole}
 use Rattle.system.specs.Book.{systemOf, Accepted}
-use Rattle.evaluation.specs.declared.run.RunResult.{RunResult}
-use Rattle.rewriting.specs.Evaluation.{steps, Outcome, finished, stopped}
-use Rattle.system.specs.Numbers.{limitNumber}
+use Rattle.system.specs.Numbers.{taken, numberOf, limitNumber}
 use Rattle.system.specs.Limits.{areaWords, termWords}
+use Rattle.rows.specs.gap.Gaps.{Lies, termIn}
+use Rattle.rewriting.specs.Evaluation.{Outcome, finished, stopped}
+use Rattle.evaluation.specs.declared.run.RunResult.{RunResult}
+use Rattle.evaluation.specs.Expansion.{traceOf}
 
 pub record Runnable (book : List ℕ) (shape : Shape) (term area : List ℕ) : Type 0 where
   pub accepted : Accepted book shape
@@ -20,6 +20,17 @@ pub record Runnable (book : List ℕ) (shape : Shape) (term area : List ℕ) : T
   pub bounded : length term ≤ termWords
   pub words : length area ≡ areaWords
 
-abbrev pub Ran : Outcome → RunResult → List ℕ → Type 0
-Ran (finished r) e ws = (e ≡ record { number = 0; size = length (r .term); steps = steps r }) × (ws ≡ pad areaWords (r .term))
-Ran (stopped n h) e ws = (e ≡ record { number = limitNumber n; size = 0; steps = length h }) × (ws ≡ zeros areaWords)
+-- the number of an outcome, and what is handed back: the term, or nothing where it was stopped
+abbrev pub outcomeNumber : Outcome → ℕ
+outcomeNumber (finished r) = numberOf taken
+outcomeNumber (stopped n h) = limitNumber n
+
+abbrev pub left : Outcome → List ℕ
+left (finished r) = r .term
+left (stopped n h) = []
+
+pub record Ran (o : Outcome) (e : RunResult) (ws : List ℕ) : Type 0 where
+  pub number : e .number ≡ outcomeNumber o
+  pub steps : e .steps ≡ length (traceOf o)
+  pub lies : Lies (e .gap)
+  pub words : termIn ws (e .gap) ≡ left o

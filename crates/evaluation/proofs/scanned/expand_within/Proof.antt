@@ -1,6 +1,6 @@
 -- `scanned::expand_within` meets its contract.
 use native.Mathlib.Omega.{arith}
-use mathlib.Core.Path.{_≡_, refl, sym, ap, _∙_}
+use mathlib.Core.Path.{_≡_, sym, ap, _∙_}
 use lib.ListN.{length}
 use lib.Seq.{length-take-le}
 use borrow.Author.Needs.{needs}
@@ -10,7 +10,7 @@ use Rattle.rewriting.specs.Evaluation.{Limits, evaluation}
 use Rattle.evaluation.specs.Expansion.{result, expansionOf, checked}
 use Rattle.evaluation.specs.recording.Kept.{limitsOf}
 use Rattle.evaluation.proofs.Expanding.{Checks, checks, checks-accepted, Passed, passed, refuses, evaluates, lent-refused, lent-told}
-use Rattle.evaluation.proofs.Expanding.{size-bounded, leaves, whole-length, whole-front, same-result, finishes}
+use Rattle.evaluation.proofs.Expanding.{whole-length, same-result, finishes}
 use Rattle.evaluation.proofs.scanned.expand_within.Statement.{statement}
 use Rattle.evaluation.proofs.scanned.expand_within.Tie as tie
 
@@ -26,7 +26,7 @@ abbrev entry : tie.Else1 → tie.Start
 entry c = start (c .before .before)
 
 abbrev kept : tie.After-hand-back-arg2 → tie.After-record
-kept c = c .before .before .before
+kept c = c .before .before .before .before
 
 abbrev evaluated : tie.After-hand-back-arg2 → tie.After-run
 evaluated c = kept c .before .before .before
@@ -90,23 +90,24 @@ hand-back-requires c κs =
     let a = entry d .args in
     let p = passes d in
     let ws = q .run .last .1 .1 .1 .1 .0 in
-    let l = limits (entry d) in
-    let small = size-bounded (a .book .now) (a .term .now) l (good d) (q .run .result) ws (q .run .ensures .0) in
-    let front = whole-front (a .work .now) ws (p .room-work) (ran q) (leaves (evaluation (systemOf (a .book .now)) l (a .term .now)) (q .run .result) ws (q .run .ensures .0)) in
-    (omega (arith, p .room-work, whole-length (a .work .now) ws (p .room-work) (ran q)), small, p .room-answer, front)
+    (omega (arith, p .room-work, whole-length (a .work .now) ws (p .room-work) (ran q)), q .run .ensures .0 .lies, p .room-answer)
+
+words-requires : tie.Need-words-requires
+words-requires c κs = evaluated (finished c .before) .run .ensures .0 .lies
 
 returns-2 : tie.Need-returns-2
 returns-2 c =
-    let f = finished c in
+    let f = finished (c .before) in
     let q = evaluated (f .before) in
     let d = q .before .before .before in
     let a = entry d .args in
     let p = passes d in
     let l = limits (entry d) in
+    let e = q .run .result in
     let o = evaluation (systemOf (a .book .now)) l (a .term .now) in
     let k = evaluates (a .book .now) (a .term .now) (a .out .now) (a .work .now) (expansionOf (a .out .now) (a .work .now) o) (p .room-answer) (p .room-work) (p .good) in
-    let z = finishes (a .work .now) (q .run .last .1 .1 .1 .1 .0) (p .room-work) (ran q) o (q .run .result) (a .out .now) (q .run .ensures .0) in (
-      same-result refl (f .hand-back .ensures .0) (f .hand-back .ensures .1) ∙ z ∙ sym k,
+    let z = finishes (a .work .now) (q .run .last .1 .1 .1 .1 .0) (p .room-work) (ran q) o e (a .out .now) (q .run .ensures .0) in (
+      same-result (ap (λ n. record { number = e .number; place = n; steps = e .steps }) (c .words .ensures)) (f .hand-back .ensures .0) (f .hand-back .ensures .1) ∙ z ∙ sym k,
       q .run .ensures .1 ∙ lent-told (a .bounds .recorded) (a .book .now) (a .term .now) l (a .out .now) (a .work .now) (a .«record» .now) p,
     )
 
@@ -114,5 +115,5 @@ pub expand-within-spec : {M : Type 1} → statement M
 expand-within-spec =
     tie.close
     (tie.spec
-    check-call-requires returns (λ c. search needs) (λ c. search needs) part-run-end run-requires hand-back-requires (λ c. search needs)
+    check-call-requires returns (λ c. search needs) (λ c. search needs) part-run-end run-requires hand-back-requires words-requires (λ c. search needs)
     (λ c. search needs) (λ c. search needs) returns-2)
