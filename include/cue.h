@@ -30,12 +30,12 @@ extern "C" {
 #endif
 
 /* The version: a change of what a function takes or answers raises the first number, anything new the second. */
-#define CUE_VERSION_MAJOR 2
-#define CUE_VERSION_MINOR 3
+#define CUE_VERSION_MAJOR 3
+#define CUE_VERSION_MINOR 0
 
 /* Sizes, in words. */
 #define CUE_TERM_WORDS 4096 /* the most words of a cue, and the least of an answer buffer */
-#define CUE_WORK_WORDS 12288 /* the least words of a work buffer: 8,192 before version 2.3 */
+#define CUE_WORK_WORDS 12288 /* the least words of a work buffer: 8,192 before version 3.0 */
 #define CUE_BOOK_WORDS 21251 /* the longest book that can be accepted */
 
 /* Limits of a book and of an expansion. */
@@ -190,7 +190,7 @@ cue_answer cue_test_strategies(const uint16_t *book, size_t book_words);
  * the call. The book may fail the order test.
  *
  * While a cue is expanded, the work buffer holds beside each of its words the length of the part that starts there, so that a long argument
- * is not counted again whenever it is passed. With that much lent, cues and counts are those that 8,192 words gave before version 2.3.
+ * is not counted again whenever it is passed. With that much lent, cues and counts are those that 8,192 words gave before version 3.0.
  */
 cue_answer cue_expand(const uint16_t *book, size_t book_words, const uint16_t *term, size_t term_words, uint32_t limit, uint16_t *out,
                       size_t out_words, uint16_t *work, size_t work_words);
