@@ -1,57 +1,19 @@
--- Where the arguments of a symbol start and what stands there, told by the words from the symbol on; and spans that are counted in a front of
--- the words only.
-use Prim.Native.Nat.{ℕ, zero, suc, _+_, _-_, _≤_, _<_}
-use native.Mathlib.Nat.{zero-add, le-of-suc-le-suc, not-suc-le-zero}
+-- Where the arguments of a symbol start and what stands there, told by the words from the symbol on.
+use Prim.Native.Nat.{ℕ, suc, _+_, _-_, _<_}
+use native.Mathlib.Nat.{zero-add}
 use native.Mathlib.Omega.{arith}
-use mathlib.Core.Path.{_≡_, refl, sym, ap, _∙_}
-use mathlib.Core.List.{List, [], _∷_, _++_, append-assoc}
-use lib.ListN.{length, getD, take, drop}
-use lib.Seq.{take-nil, drop-cons, drop-drop, drop-append-seam}
+use mathlib.Core.Path.{_≡_, sym, ap, _∙_}
+use mathlib.Core.List.{List, _++_, append-assoc}
+use lib.ListN.{length, getD, drop}
+use lib.Seq.{drop-cons, drop-drop, drop-append-seam}
 use Rattle.system.specs.Signature.{Signature, Symbol, arity, span, argument}
 use Rattle.system.specs.Terms.{Forest, more, Whole}
 use Rattle.system.proofs.Forests.{span-zero, span-forest, Split, split}
+use Rattle.rows.proofs.Spans.{spans-at, argument-hop}
 use Rattle.rewriting.proofs.Laws.{next-entry}
 
 module _ (g : Signature) where
-  -- ---- counted in the first m words only
-
-  pub span-take-le : (ws : List ℕ) (m k : ℕ) → span g (take m ws) k ≤ span g ws k
-  unfolding span
-  span-take-le [] m k = rw (take-nil m) (omega arith)
-  span-take-le (w ∷ ws) zero k = omega arith
-  span-take-le (w ∷ ws) (suc m) zero = omega arith
-  span-take-le (w ∷ ws) (suc m) (suc k) = omega (arith, span-take-le ws m (k + arity g w))
-
-  -- where they are fewer than m, these are all
-  pub span-take : (ws : List ℕ) (m k : ℕ) → span g (take m ws) k < m → span g (take m ws) k ≡ span g ws k
-  unfolding span
-  span-take [] m k h = rw (take-nil m)
-  span-take (w ∷ ws) zero k h = absurd (not-suc-le-zero h)
-  span-take (w ∷ ws) (suc m) zero h = refl
-  span-take (w ∷ ws) (suc m) (suc k) h = ap suc (span-take ws m (k + arity g w) (le-of-suc-le-suc h))
-
-  -- the words of the subterm at a, counted up to and with the one at q: that tells whether q lies behind the subterm, and then where it ends
-  abbrev pub counted : List ℕ → ℕ → ℕ → ℕ
-  counted t a q = span g (take (suc (q - a)) (drop a t)) 1
-
-  module _ (t : List ℕ) (a q : ℕ) where
-    pub counted-behind : counted t a q ≤ q - a → counted t a q ≡ span g (drop a t) 1
-    counted-behind h = span-take (drop a t) (suc (q - a)) 1 (omega arith)
-
-    pub counted-inside : q - a < counted t a q → q - a < span g (drop a t) 1
-    counted-inside h = omega (arith, span-take-le (drop a t) (suc (q - a)) 1)
-
   -- ---- where an argument starts
-
-  -- the words of i subterms, and of j more
-  pub span-add : (ws : List ℕ) (i j : ℕ) → span g ws (i + j) ≡ span g ws i + span g (drop (span g ws i) ws) j
-  unfolding span
-  span-add [] i j = refl
-  span-add (w ∷ ws) zero j = rw (zero-add j) (omega arith)
-  span-add (w ∷ ws) (suc i) j =
-      let e : suc i + j ≡ suc (i + j) = omega arith in
-      let e′ : i + j + arity g w ≡ i + arity g w + j = omega arith in
-      rw (e, e′, span-add ws (i + arity g w) j) (omega arith)
 
   module _ (t : List ℕ) (p : ℕ) where
     -- behind its symbol
@@ -65,11 +27,7 @@ module _ (g : Signature) where
 
     -- the next one behind this one
     pub argument-next : (i : ℕ) → argument g t p (suc i) ≡ argument g t p i + span g (drop (argument g t p i) t) 1
-    unfolding argument
-    argument-next i =
-        let ws = drop (suc p) t in
-        let e : suc i ≡ i + 1 = omega arith in
-        rw (← (drop-drop (span g ws i) (suc p) t), e, span-add ws i 1) (omega arith)
+    argument-next i = argument-hop g t p i ∙ ap (λ k. argument g t p i + k) (spans-at g t (argument g t p i))
 
     -- behind the last one the subterm ends
     pub argument-end : p < length t → argument g t p (arity g (getD t p 0)) ≡ p + span g (drop p t) 1

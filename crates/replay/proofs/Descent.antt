@@ -6,20 +6,19 @@ use native.Mathlib.Decide.{ℕ-discrete}
 use mathlib.Core.Path.{_≡_, refl, sym, ap, _∙_, subst}
 use mathlib.Core.Bool.{Bool, true, false}
 use mathlib.Core.List.{List, [], _∷_, _++_, append-nil}
-use lib.ListN.{length, getD, take, drop, length-drop}
-use lib.Seq.{split-at, length-take-le}
-use Rattle.system.specs.Signature.{Signature, Symbol, arity, span, argument, replace}
+use lib.ListN.{length, getD, drop, length-drop}
+use Rattle.system.specs.Signature.{Signature, Symbol, arity, span, argument}
 use Rattle.system.specs.System.{System, strategy}
 use Rattle.system.specs.Terms.{Whole, Member, WellFormed, among}
 use Rattle.system.proofs.Forests.{span-forest}
 use Rattle.system.proofs.words.SpanSteps.{span-le}
 use Rattle.system.proofs.layout.entries.Repeats.{among-member}
 use Rattle.rewriting.specs.Rewriting.{Active, root, below}
-use Rattle.rewriting.proofs.Actives.{active-front, active-whole, at-parted}
+use Rattle.rewriting.proofs.Actives.{active-whole, at-parted}
 use Rattle.rewriting.proofs.Contractions.{active-within}
 use Rattle.replay.specs.Activity.{pending, front, activeAt}
 use Rattle.replay.specs.walk.Descent.{Above, From}
-use Rattle.replay.proofs.Arguments.{counted, counted-behind, counted-inside, argument-first, argument-next, argument-end, argument-of, argument-words}
+use Rattle.replay.proofs.Arguments.{argument-first, argument-next, argument-end, argument-of, argument-words}
 use Rattle.replay.proofs.Activities.{pending-add, pending-false, argument-pending, active-pending, activeAt-sound, activeAt-complete}
 
 module _ (s : System) where
@@ -33,12 +32,6 @@ module _ (s : System) where
     above-root h q l =
         let e : span g t 1 ≡ length t = ap (λ z. span g z 1) (sym (append-nil t)) ∙ span-forest g (Symbol g) [] h in
         record { active = root; within = omega arith; low = omega arith; high = omega arith }
-
-    -- a step at p leaves the active positions before it, and its own
-    pub active-kept : (p : ℕ) (v : List ℕ) {q : ℕ} → p < length t → q ≤ p → Active s t q → Active s (replace g t p v) q
-    unfolding replace
-    active-kept p v {q} l h act =
-        active-front s (take p t) (getD t p 0) (drop (suc p) t) _ (subst (λ z. Active s z q) (split-at t p 0 l) act) (rw (length-take-le p t (omega arith)) h)
 
   -- ---- from argument to argument
 
@@ -82,16 +75,7 @@ module _ (s : System) where
             low = omega arith;
           }
 
-      -- the same, counted only up to q
-      pub from-next′ : at + counted g t at q ≤ q → (at + counted g t at q ≡ argument g t p (suc i)) × From s t p q (suc i)
-      from-next′ l =
-          let e = counted-behind g t at q (omega arith) in
-          (omega (arith, argument-next g t p i), from-next (omega arith))
-
-      pub from-here : q < at + counted g t at q → q < at + span g (drop at t) 1
-      from-here l = let z = v .low in omega (arith, counted-inside g t at q (omega arith))
-
-      -- the last argument holds q, without a count
+      -- the last argument holds q, without a read
       pub from-last : suc i ≡ arity g (getD t p 0) → q < at + span g (drop at t) 1
       from-last e =
           let x = ap (argument g t p) e in

@@ -1,9 +1,7 @@
 -- Whether a position lies in a subterm, and which argument holds it
 pub mod Insides
 pub mod Hopping
--- The way to the finger, and the area that holds it
-pub mod Ways
-pub mod Areas
+-- The area that holds a term and the way to the finger
 pub mod Pointing
 -- The walk: up, and down
 pub mod Climbing

@@ -1,24 +1,29 @@
 // Following the pairs of a record, one after the other, in an area of lent words.
 ghost use mathlib.Core.Path.{_≡_};
 ghost use Prim.Native.Nat.{_≤_};
-ghost use Rattle.buffers.specs.Words.{zeros};
+ghost use lib.ListN.{length};
 ghost use Rattle.system.specs.Book.{systemOf, Accepted};
 ghost use Rattle.system.specs.Limits.{areaWords};
 ghost use Rattle.system.specs.layout.Index.{Indexed};
-ghost use Rattle.machine.specs.advance.Area.{termIn};
+ghost use Rattle.rows.specs.gap.Gaps.{termIn};
+ghost use Rattle.machine.specs.steps.Raised.{Raisable, Raised};
 ghost use Rattle.evaluation.specs.run.RunResult.{Runnable};
 ghost use Rattle.rewriting.specs.Evaluation.{start};
 ghost use Rattle.replay.specs.Replay.{replay};
-ghost use Rattle.replay.specs.walk.Way.{PointsIn};
-ghost use Rattle.replay.specs.retrace.Retraces.{placeOf, Clearable, Follows, Retraces};
+ghost use Rattle.replay.specs.walk.Way.{wayIn, PointsIn};
+ghost use Rattle.replay.specs.retrace.Retraces.{noWords, placeOf, Follows, Retraces};
 use crate::walk::Finger;
 use crate::walk::find;
-use evaluation::run::start;
-use machine::reducts::Reduced;
-use machine::reducts::Subterm;
-use machine::reducts::rewrite;
-use matching::rules::first_rule;
+use machine::rewrites::rewrite;
+use matching::redexes::first_redex;
 use matching::rules::rule_number;
+use reducts::putting::Reduced;
+use reducts::putting::Subterm;
+use rows::gap::Gap;
+use rows::gap::length_at;
+use rows::gap::words;
+use rows::lengths::COUNTS;
+use rows::lengths::lay;
 use system::Shape;
 use system::layout::index::INDEX;
 use system::layout::index::build_index;
@@ -34,18 +39,31 @@ pub struct Pair {
     pub number: usize,
 }
 
-// What came of a pair: 0, 17 or 12; and the finger then.
+// What came of a pair: 0, 17 or 12; and the finger then, on 0.
 pub struct Followed {
     pub number: u32,
     pub finger: Finger,
 }
 
-// How a replay ended: 0, 17 or 12; how many words the term has, on 0; its place, and the steps taken.
+// How a replay ended: 0, 17 or 12; where the gap of the rows is, on 0 (else they hold no word); its place, and the steps taken.
 pub struct Retraced {
     pub number: u32,
-    pub size: usize,
+    pub gap: Gap,
     pub place: usize,
     pub steps: usize,
+}
+
+// The lengths of the symbols on the way, which stands in the third row: each is `width` less and `size` more.
+fn raise_way(area: &mut [u16], level: usize, width: usize, size: usize)
+    requires { ⌜ (length (now area) ≡ areaWords) × (length (wayIn (now area) level) ≡ level) × Raisable (now area) (wayIn (now area) level) width size ⌝ }
+    ensures { λ _. ⌜ Raised (now (area .entry)) (wayIn (now (area .entry)) level) width size (now (area .exit)) ⌝ }
+{
+    let mut j = 0;
+    while j < level {
+        let at = TERM_WORDS + wide(area[COUNTS + j]);
+        area[at] = (wide(area[at]) - width + size) as u16;
+        j += 1;
+    }
 }
 
 // Takes the step that a pair tells of, if its index is an active position and its rule the first that matches there.
@@ -59,59 +77,58 @@ fn follow(
 ) -> Followed
     requires { ⌜ Accepted (now book) shape × Indexed (now book) shape (now index) × PointsIn (systemOf (now book)) (now area) from
         × (pair .number ≤ 65535) ⌝ }
-    ensures { λ r. ⌜ Follows (systemOf (now (book .entry))) (termIn (now (area .entry)) (from .n)) pair r (now (area .exit)) ⌝ }
+    ensures { λ r. ⌜ Follows (systemOf (now (book .entry))) (termIn (now (area .entry)) (from .gap)) pair r (now (area .exit)) ⌝ }
 {
     let f = find(book, shape, index, area, from, pair.at);
-    let n = f.n;
+    let gap = f.gap;
     let level = f.level;
     let at = f.at;
     if at != pair.at {
-        return outcome(UNTRUE, n, level, at);
+        return outcome(UNTRUE, gap, level, at);
     }
-    let search = first_rule(book, shape, &area[at..n]);
-    let m = search.matched;
+    let m = first_redex(book, shape, index, area, gap, at);
     let found = m.rule;
     if rule_number(found) != pair.number {
-        return outcome(UNTRUE, n, level, at);
+        return outcome(UNTRUE, gap, level, at);
     }
-    let width = search.width;
+    let width = length_at(area, gap, at);
     let u = Subterm { level, at, width };
-    let r = rewrite(book, area, n, u, m);
-    let Reduced::Done(k) = r else {
-        return outcome(OVERLONG, n, level, at);
+    let r = rewrite(book, index, area, gap, u, m);
+    let Reduced::Done(g) = r else {
+        return outcome(OVERLONG, gap, level, at);
     };
-    outcome(TAKEN, k, level, at)
+    raise_way(area, level, width, words(g) + width - words(gap));
+    outcome(TAKEN, g, level, at)
 }
 
-fn outcome(number: u32, n: usize, level: usize, at: usize) -> Followed
-    ensures { λ r. ⌜ r ≡ record { number = number; finger = record { n = n; level = level; at = at } } ⌝ }
+fn outcome(number: u32, gap: Gap, level: usize, at: usize) -> Followed
+    ensures { λ r. ⌜ r ≡ record { number = number; finger = record { gap = gap; level = level; at = at } } ⌝ }
 {
-    let finger = Finger { n, level, at };
+    let finger = Finger { gap, level, at };
     Followed { number, finger }
 }
 
-// How a replay ends that stops: the term's words and the way are cleared; all other words are zero already. The place of 17 is the pair's
-// number: as many as the steps before it.
-fn halt(area: &mut [u16], f: Finger, number: u32, steps: usize) -> Retraced
-    requires { ⌜ Clearable (now area) f ⌝ }
-    ensures numbers { λ r. ⌜ r ≡ record { number = number; size = 0; place = placeOf number steps; steps = steps } ⌝ }
-    ensures cleared { λ _. ⌜ now (area .exit) ≡ zeros areaWords ⌝ }
+// How a replay ends that stops: no word is handed back. The place of 17 is the pair's number: as many as the steps before it.
+fn halt(number: u32, steps: usize) -> Retraced
+    ensures { λ r. ⌜ r ≡ record { number = number; gap = noWords; place = placeOf number steps; steps = steps } ⌝ }
 {
-    buffers::clear(area, 0, f.n);
-    buffers::clear(area, TERM_WORDS, f.level);
     let mut place = 0;
     if number == UNTRUE {
         place = steps;
     }
+    let gap = Gap {
+        front: 0,
+        back: TERM_WORDS,
+    };
     Retraced {
         number,
-        size: 0,
+        gap,
         place,
         steps,
     }
 }
 
-// Follows a record in an area of 8,192 words.
+// Follows a record in an area of 12,288 words. What stands in the area then does not matter, but for the rows' words around the gap.
 pub fn retrace(
     book: &[u16],
     shape: Shape,
@@ -122,16 +139,19 @@ pub fn retrace(
     requires { ⌜ Runnable (now book) shape (now term) (now area) ⌝ }
     ensures { λ r. ⌜ Retraces (replay (systemOf (now (book .entry))) (now («record» .entry)) (start (now (term .entry)))) r (now (area .exit)) ⌝ }
 {
-    start(area, term);
+    let laid = lay(book, area, term);
     let mut index = [0u16; INDEX];
     build_index(book, shape, &mut index);
-    let n = term.len();
-    let mut f = Finger { n, level: 0, at: 0 };
+    let mut f = Finger {
+        gap: laid,
+        level: 0,
+        at: 0,
+    };
     let mut steps = 0;
     while 2 * steps < record.len() {
         let i = 2 * steps;
         if record.len() - i < 2 {
-            return halt(area, f, UNTRUE, steps);
+            return halt(UNTRUE, steps);
         }
         let pair = Pair {
             at: wide(record[i]),
@@ -140,17 +160,15 @@ pub fn retrace(
         let r = follow(book, shape, &index, area, f, pair);
         f = r.finger;
         if r.number != TAKEN {
-            return halt(area, f, r.number, steps);
+            return halt(r.number, steps);
         }
         steps += 1;
     }
-    let size = f.n;
-    let level = f.level;
-    buffers::clear(area, TERM_WORDS, level);
+    let gap = f.gap;
     Retraced {
         number: TAKEN,
-        size,
-        place: size,
+        gap,
+        place: words(gap),
         steps,
     }
 }

@@ -34,7 +34,7 @@ pub fn replay_scanned(
         };
     }
     let e = retrace(book, scan.shape, term, record, &mut work[0..AREA_WORDS]);
-    hand_back(out, work, e.size);
+    hand_back(out, work, e.gap);
     Replayed {
         number: e.number,
         place: e.place,

@@ -1,26 +1,32 @@
 // Finds whether a position of the term is active (02, F-3: "its index an active place then"), by a walk from the position of the last step.
 //
 // The finger is at that position. In the place of the machine's counts the area holds the way to it: the positions of the symbols from the
-// root on, outermost first. So a position near the last step's costs little.
+// root on, outermost first. So a position near the last step's costs little; and where a subterm ends is one read (02, F-5: "No span of the cue
+// is counted any more").
 ghost use mathlib.Core.Path.{_≡_};
 ghost use Prim.Native.Nat.{_<_};
-ghost use lib.ListN.{length};
-ghost use Rattle.system.specs.Answers.{signatureOf};
 ghost use Rattle.system.specs.Book.{systemOf, Accepted};
+ghost use Rattle.system.specs.Signature.{Signature};
+ghost use Rattle.system.specs.System.{System};
+ghost use Rattle.system.specs.Terms.{WellFormed};
 ghost use Rattle.system.specs.layout.Index.{Indexed};
-ghost use Rattle.machine.specs.advance.Area.{termIn};
+ghost use Rattle.rows.specs.gap.Gaps.{wordsIn, termIn, Gapped};
+ghost use Rattle.rows.specs.lengths.Measured.{Measured};
 ghost use Rattle.replay.specs.walk.Descent.{Readable, within, Above, Held};
-ghost use Rattle.replay.specs.walk.Way.{PointsIn, Over, Found};
+ghost use Rattle.replay.specs.walk.Way.{PointsIn, PointsForSome, Over, Found};
+use rows::gap::Gap;
+use rows::gap::length_at;
+use rows::gap::word_at;
+use rows::gap::words;
+use rows::lengths::COUNTS;
 use system::Shape;
 use system::layout::entries::stands_in;
-use system::limits::TERM_WORDS;
 use system::words::arity;
-use system::words::span;
 use system::words::wide;
 
-// How many words the term has, how many positions stand on the way, and the position that it leads to.
+// Where the gap of the rows is, how many positions stand on the way, and the position that it leads to.
 pub struct Finger {
-    pub n: usize,
+    pub gap: Gap,
     pub level: usize,
     pub at: usize,
 }
@@ -31,27 +37,29 @@ struct Argument {
     start: usize,
 }
 
-// Tells whether the position q lies in the subterm at `at`. The words are counted only up to q.
-fn inside(book: &[u16], term: &[u16], at: usize, q: usize) -> bool
-    requires { ⌜ q < length (now term) ⌝ }
-    ensures { λ r. ⌜ r ≡ within (signatureOf (now (book .entry))) (now (term .entry)) at q ⌝ }
+// Tells whether the position q lies in the subterm at `at`, by one read.
+fn inside(area: &[u16], gap: Gap, at: usize, q: usize) -> bool
+    requires { ⌜ Gapped (now area) gap × (at < wordsIn gap) ⌝ }
+    ensures { λ r. ⌜ ((g : Signature) → Measured g (now (area .entry)) gap → r ≡ within g (termIn (now (area .entry)) gap) at q) ⌝ }
 {
     if q < at {
         return false;
     }
-    q - at < span(book, &term[at..q + 1])
+    q - at < length_at(area, gap, at)
 }
 
-// Finds the argument of the symbol at `at` that holds the position q. If none of the others does, it is the last one, which needs no count.
-fn holder(book: &[u16], term: &[u16], at: usize, q: usize) -> Argument
-    requires { ⌜ Readable (now book) × Above (systemOf (now book)) (now term) at q × (at < q) ⌝ }
-    ensures { λ r. ⌜ Held (systemOf (now (book .entry))) (now (term .entry)) at q r ⌝ }
+// Finds the argument of the symbol at `at` that holds the position q, by at most as many reads as it has arguments. If none of the others does, it is
+// the last one, which needs no read.
+fn holder(book: &[u16], area: &[u16], gap: Gap, at: usize, q: usize) -> Argument
+    requires { ⌜ Readable (now book) × Measured (systemOf (now book) .arities) (now area) gap
+        × Above (systemOf (now book)) (termIn (now area) gap) at q × (at < q) ⌝ }
+    ensures { λ r. ⌜ Held (systemOf (now (book .entry))) (termIn (now (area .entry)) gap) at q r ⌝ }
 {
-    let last = arity(book, term[at]) - 1;
+    let last = arity(book, word_at(area, gap, at)) - 1;
     let mut number = 0;
     let mut start = at + 1;
     while number < last {
-        let width = span(book, &term[start..q + 1]);
+        let width = length_at(area, gap, start);
         if q - start < width {
             return Argument { number, start };
         }
@@ -62,22 +70,22 @@ fn holder(book: &[u16], term: &[u16], at: usize, q: usize) -> Argument
 }
 
 // Goes up the way to the first position whose subterm holds q. The root's does.
-fn climb(book: &[u16], area: &mut [u16], f: Finger, q: usize) -> Finger
-    requires { ⌜ Readable (now book) × PointsIn (systemOf (now book)) (now area) f × (q < f .n) ⌝ }
-    ensures { λ r. ⌜ Over (systemOf (now (book .entry))) (termIn (now (area .entry)) (f .n)) (now (area .exit)) r q ⌝ }
+fn climb(area: &[u16], f: Finger, q: usize) -> Finger
+    requires { ⌜ PointsForSome (now area) f × (q < wordsIn (f .gap)) ⌝ }
+    ensures { λ r. ⌜ ((s : System) → WellFormed s → PointsIn s (now (area .entry)) f →
+        Over s (termIn (now (area .entry)) (f .gap)) (now (area .entry)) r q) ⌝ }
 {
-    let n = f.n;
+    let gap = f.gap;
     let mut level = f.level;
     let mut at = f.at;
     while 0 < level {
-        if inside(book, &area[..n], at, q) {
-            return Finger { n, level, at };
+        if inside(area, gap, at, q) {
+            return Finger { gap, level, at };
         }
         level -= 1;
-        at = wide(area[TERM_WORDS + level]);
-        area[TERM_WORDS + level] = 0;
+        at = wide(area[COUNTS + level]);
     }
-    Finger { n, level, at }
+    Finger { gap, level, at }
 }
 
 // Goes down to q, as long as the argument that holds q stands in the strategy, and notes the way.
@@ -90,22 +98,22 @@ fn descend(
     q: usize,
 ) -> Finger
     requires { ⌜ Accepted (now book) shape × Indexed (now book) shape (now index)
-        × Over (systemOf (now book)) (termIn (now area) (f .n)) (now area) f q ⌝ }
-    ensures { λ r. ⌜ Found (systemOf (now (book .entry))) (termIn (now (area .entry)) (f .n)) (now (area .exit)) r q ⌝ }
+        × Over (systemOf (now book)) (termIn (now area) (f .gap)) (now area) f q ⌝ }
+    ensures { λ r. ⌜ Found (systemOf (now (book .entry))) (termIn (now (area .entry)) (f .gap)) (now (area .exit)) r q ⌝ }
 {
-    let n = f.n;
+    let gap = f.gap;
     let mut level = f.level;
     let mut at = f.at;
     while at < q {
-        let a = holder(book, &area[..n], at, q);
-        if !stands_in(book, shape, index, area[at], a.number + 1) {
-            return Finger { n, level, at };
+        let a = holder(book, area, gap, at, q);
+        if !stands_in(book, shape, index, word_at(area, gap, at), a.number + 1) {
+            return Finger { gap, level, at };
         }
-        area[TERM_WORDS + level] = at as u16;
+        area[COUNTS + level] = at as u16;
         level += 1;
         at = a.start;
     }
-    Finger { n, level, at }
+    Finger { gap, level, at }
 }
 
 // Brings the finger to the position q if that is active, and to another position if it is not. Any word of a record may be asked for.
@@ -118,11 +126,11 @@ pub fn find(
     q: usize,
 ) -> Finger
     requires { ⌜ Accepted (now book) shape × Indexed (now book) shape (now index) × PointsIn (systemOf (now book)) (now area) f ⌝ }
-    ensures { λ r. ⌜ Found (systemOf (now (book .entry))) (termIn (now (area .entry)) (f .n)) (now (area .exit)) r q ⌝ }
+    ensures { λ r. ⌜ Found (systemOf (now (book .entry))) (termIn (now (area .entry)) (f .gap)) (now (area .exit)) r q ⌝ }
 {
-    if f.n <= q {
+    if words(f.gap) <= q {
         return f;
     }
-    let over = climb(book, area, f, q);
+    let over = climb(area, f, q);
     descend(book, shape, index, area, over, q)
 }

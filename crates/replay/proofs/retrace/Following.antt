@@ -1,44 +1,46 @@
 -- One pair, in the terms of the code: where the walk came to, what the search found there, and what the rewrite left.
-use Prim.Native.Nat.{ℕ, _-_, _≤_, _<_}
+use Prim.Native.Nat.{ℕ, _+_, _-_, _≤_, _<_}
 use native.Mathlib.Omega.{arith}
 use mathlib.Core.Path.{_≡_, refl, sym, ap, _∙_, subst}
 use mathlib.Core.Bool.{true}
 use mathlib.Core.Option.{Option, none, some}
 use mathlib.Core.List.{List}
-use lib.ListN.{length, take, drop}
+use lib.ListN.{length, getD, drop}
 use borrow.Author.Tests.{eq-eqb, ne-eqb}
 use Rattle.system.specs.declared.Shape.{Shape}
 use Rattle.system.specs.Book.{systemOf, Accepted}
-use Rattle.system.specs.Limits.{termWords}
+use Rattle.system.specs.Limits.{areaWords, termWords}
 use Rattle.system.specs.Signature.{span, replace}
 use Rattle.system.specs.System.{System}
-use Rattle.system.specs.Terms.{Whole, WellFormed}
+use Rattle.system.specs.Terms.{WellFormed}
+use Rattle.system.specs.layout.Index.{Indexed}
 use Rattle.system.proofs.layout.Books.{well}
-use Rattle.matching.specs.declared.Match.{Match}
+use Rattle.rows.specs.declared.gap.Gap.{Gap}
+use Rattle.rows.specs.gap.Gaps.{termIn, lengthsIn, wordsIn, Lies}
+use Rattle.rows.proofs.lengths.Measures.{measured-length}
+use Rattle.reducts.specs.declared.putting.Reduced.{Reduced}
+use Rattle.reducts.specs.declared.putting.Reduced.the-variants.{Done, TooLong}
+use Rattle.reducts.specs.declared.putting.Subterm.{Subterm}
+use Rattle.reducts.specs.putting.Replaced.{Placed}
 use Rattle.matching.specs.declared.FirstRule.the-variants.{Nothing}
-use Rattle.matching.specs.declared.rules.Search.{Search}
+use Rattle.matching.specs.declared.redexes.Redex.{Redex}
 use Rattle.matching.specs.Matching.{Contraction, contraction}
-use Rattle.matching.specs.Bindings.{matchOf}
-use Rattle.matching.specs.rules.Searches.{searchOf, ruleNumber}
-use Rattle.matching.proofs.Reducts.{match-number}
-use Rattle.matching.proofs.rules.Fits.{fit-match, fit-some, fit-width}
+use Rattle.matching.specs.redexes.Redexes.{redexOf}
+use Rattle.matching.specs.rules.Searches.{ruleNumber}
+use Rattle.matching.proofs.redexes.Finding.{redex-some, redex-number}
 use Rattle.rewriting.specs.Rewriting.{Active}
-use Rattle.rewriting.proofs.Actives.{active-whole, at-parted}
-use Rattle.rewriting.proofs.Contractions.{first-there, replaced-whole}
-use Rattle.machine.specs.declared.reducts.Reduced.{Reduced}
-use Rattle.machine.specs.declared.reducts.Reduced.the-variants.{Done, TooLong}
-use Rattle.machine.specs.declared.reducts.Subterm.{Subterm}
-use Rattle.machine.specs.advance.Area.{termIn}
-use Rattle.machine.specs.reducts.Rewritten.{Reducible, Rewritten, done, long, Rewrites}
+use Rattle.rewriting.proofs.Contractions.{first-there}
+use Rattle.rewriting.proofs.Ways.{way-active}
+use Rattle.machine.specs.rewrites.Rewritten.{Reducible, Rewrites}
+use Rattle.machine.specs.steps.Raised.{Raisable, Raised}
+use Rattle.machine.proofs.steps.Stepping.{Left, left}
 use Rattle.replay.specs.declared.walk.Finger.{Finger}
 use Rattle.replay.specs.declared.retrace.Pair.{Pair}
 use Rattle.replay.specs.Activity.{activeAt}
 use Rattle.replay.specs.Replay.{toldBy}
-use Rattle.replay.specs.walk.Way.{Points, Found}
+use Rattle.replay.specs.walk.Way.{wayIn, Points, Found}
 use Rattle.replay.proofs.Pairs.{told-inactive, told-nothing, told-other, right-told}
-use Rattle.replay.proofs.walk.Ways.{way-active}
-use Rattle.replay.proofs.walk.Pointing.{points-term}
-use Rattle.replay.proofs.walk.Stepping.{points-subterm, points-width, points-stepped, points-reducible}
+use Rattle.replay.proofs.walk.Stepping.{step-words, step-levels, step-raisable, points-stepped, points-reducible}
 
 -- the walk did not come to the pair's position, which is not active
 pub missed : (s : System) {t ws : List ℕ} {f : Finger} (p : Pair) → Found s t ws f (p .at) → (f .at ≡ p .at → ⊥) → toldBy s t (p .at) (p .number) ≡ none
@@ -48,15 +50,17 @@ missed s {t} {f} p v d = told-inactive s t (p .at) (p .number) (sym (v .answer) 
 pub record Searched : Type 0 where
   pub book : List ℕ
   pub shape : Shape
+  pub index : List ℕ
   pub accepted : Accepted book shape
+  pub indexed : Indexed book shape index
   pub t : List ℕ
   pub ws : List ℕ
   pub f : Finger
   pub p : Pair
   pub found : Found (systemOf book) t ws f (p .at)
   pub here : f .at ≡ p .at
-  pub fit : Search
-  pub fits : fit ≡ searchOf (systemOf book) (take (f .n - f .at) (drop (f .at) ws))
+  pub m : Redex
+  pub tried : m ≡ redexOf (systemOf book) (drop (f .at) (termIn ws (f .gap)))
 
 module _ (k : Searched) where
   abbrev s : System
@@ -71,9 +75,6 @@ module _ (k : Searched) where
   abbrev p : Pair
   p = k .p
 
-  abbrev m : Match
-  m = k .fit .matched
-
   abbrev points : Points s t (k .ws) (k .f)
   points = k .found .points
 
@@ -86,20 +87,17 @@ module _ (k : Searched) where
   there : Active s t at
   there = way-active (points .way)
 
-  in-term : k .fit ≡ searchOf s (drop at t)
-  in-term = k .fits ∙ ap (searchOf s) (points-subterm s wf points)
+  match : k .m ≡ redexOf s (drop at t)
+  match = k .tried ∙ ap (λ y. redexOf s (drop at y)) (points .term)
 
-  match : m ≡ matchOf s (drop at t)
-  match = fit-match (k .book) (k .shape) (k .accepted) _ (k .fit) in-term
-
-  numbered : (x : Contraction) → contraction s (drop at t) ≡ some x → ruleNumber (m .rule) ≡ x .number
-  numbered = match-number (k .book) (k .shape) (k .accepted) (drop at t) m match
+  numbered : (x : Contraction) → contraction s (drop at t) ≡ some x → ruleNumber (k .m .rule) ≡ x .number
+  numbered = redex-number (k .book) (k .shape) (k .accepted) (drop at t) (k .m) match
 
   at-pair : (o : Option Contraction) → contraction s (drop at t) ≡ o → contraction s (drop (p .at) t) ≡ o
   at-pair o e = ap (λ y. contraction s (drop y t)) (sym (k .here)) ∙ e
 
   -- the rule that is found is another one, or none
-  pub other : (ruleNumber (m .rule) ≡ p .number → ⊥) → toldBy s t (p .at) (p .number) ≡ none
+  pub other : (ruleNumber (k .m .rule) ≡ p .number → ⊥) → toldBy s t (p .at) (p .number) ≡ none
   other d = go (contraction s (drop at t)) refl
     where
       go : (o : Option Contraction) → contraction s (drop at t) ≡ o → toldBy s t (p .at) (p .number) ≡ none
@@ -107,12 +105,12 @@ module _ (k : Searched) where
       go (some x) e = told-other s t (p .at) (p .number) active (at-pair (some x) e) (λ z. d (numbered x e ∙ z))
 
   -- it is the pair's, which is a word
-  module _ (same : ruleNumber (m .rule) ≡ p .number) (word : p .number ≤ 65535) where
-    rule-found : m .rule ≡ Nothing → ⊥
+  module _ (same : ruleNumber (k .m .rule) ≡ p .number) (word : p .number ≤ 65535) where
+    rule-found : k .m .rule ≡ Nothing → ⊥
     rule-found e = let z = ap ruleNumber e in omega arith
 
     pub contracted : (x : Contraction) × (contraction s (drop at t) ≡ some x)
-    contracted = fit-some (k .book) (k .shape) (k .accepted) _ (k .fit) in-term rule-found
+    contracted = redex-some (k .book) (k .shape) (k .accepted) (drop at t) (k .m) match rule-found
 
     abbrev pub x : Contraction
     x = contracted .0
@@ -122,17 +120,6 @@ module _ (k : Searched) where
 
     pub told : toldBy s t (p .at) (p .number) ≡ some x
     told = right-told s t (p .at) (p .number) (record { active = active; found = at-pair (some x) contracts; number = sym (numbered x contracts) ∙ same })
-
-    abbrev u : Subterm
-    u = record { level = k .f .level; at = at; width = k .fit .width }
-
-    width : k .fit .width ≡ span (s .arities) (drop at t) 1
-    width =
-        let a = active-whole s wf (points .whole) there in
-        fit-width (k .book) (k .shape) (k .accepted) _ (k .fit) in-term rule-found (a .behind) (a .whole) (at-parted s a)
-
-    pub reducible : Reducible (k .book) (k .ws) (k .f .n) u m
-    reducible = points-reducible (k .book) (k .shape) (k .accepted) points (k .fit .width) m x width match contracts
 
     -- the term after the step
     abbrev pub after : List ℕ
@@ -145,30 +132,56 @@ module _ (k : Searched) where
     here-after : here ≡ after
     here-after = ap (λ y. replace (s .arities) t y (x .reduct)) (k .here)
 
-    here-whole : Whole (s .arities) here
-    here-whole = replaced-whole s wf (points .whole) there (first-there s wf (points .whole) there x contracts .left)
+    -- the words of the redex
+    module _ (width : ℕ) (read : width ≡ getD (lengthsIn (k .ws) (k .f .gap)) at 0) where
+      abbrev u : Subterm
+      u = record { level = k .f .level; at = at; width = width }
 
-    abbrev pub Stepped : Reduced → List ℕ → Type 0
-    Stepped TooLong ws′ = (termWords < length after) × Points s t ws′ (k .f)
-    Stepped (Done n) ws′ = (length after ≤ termWords) × Points s after ws′ (record { n = n; level = k .f .level; at = at })
+      wide : width ≡ span (s .arities) (drop at t) 1
+      wide = read ∙ measured-length (points .measured) at ∙ ap (λ y. span (s .arities) (drop at y) 1) (points .term)
 
-    pub stepped : (r : Reduced) (ws′ : List ℕ) → Rewrites (k .book) (k .ws) (k .f .n) u r ws′ → Stepped r ws′
-    stepped r ws′ h = go (h x (ap (λ y. contraction s (drop at y)) e ∙ contracts))
-      where
-        e : termIn (k .ws) (k .f .n) ≡ t
-        e = points-term s wf points
+      pub reducible : Reducible (k .book) (k .index) (k .ws) (k .f .gap) u (k .m)
+      reducible = points-reducible (k .book) (k .shape) (k .accepted) points (k .index) (k .indexed) width (k .m) x wide match contracts
 
-        moved : replace (s .arities) (termIn (k .ws) (k .f .n)) at (x .reduct) ≡ here
-        moved = ap (λ y. replace (s .arities) y at (x .reduct)) e
+      -- what the rewrite left
+      module _ {r : Reduced} {ws₁ : List ℕ} (rewrites : Rewrites (k .book) (k .ws) (k .f .gap) u r ws₁) where
+        leaves : Left s (k .ws) (k .f .gap) u x ws₁ r
+        leaves = left (rewrites x (ap (λ y. contraction s (drop at y)) (points .term) ∙ contracts))
 
-        go : Rewritten s (k .ws) (k .f .n) u x r ws′ → Stepped r ws′
-        go (long l q w) =
-            subst (λ r. Stepped r ws′) (sym q)
-            (subst (λ y. termWords < length y) (moved ∙ here-after) l, subst (λ y. Points s t y (k .f)) (sym w) points)
-        go (done l q w) =
-            let b = subst (λ y. length y ≤ termWords) moved l in
-            let v = points-stepped s wf points (x .reduct) (length here) (k .fit .width) ws′ here-whole refl b (rw width (points-width s wf points)) (rw e at w) in
-            subst (λ r. Stepped r ws′) (sym (q ∙ ap (λ y. Done (length y)) moved)) (
-              subst (λ y. length y ≤ termWords) here-after b,
-              subst (λ y. Points s y ws′ (record { n = length here; level = k .f .level; at = at })) here-after v,
-            )
+        moved : replace (s .arities) (termIn (k .ws) (k .f .gap)) at (x .reduct) ≡ here
+        moved = ap (λ y. replace (s .arities) y at (x .reduct)) (points .term)
+
+        -- the term would have too many words
+        pub exceeds : r ≡ TooLong → (termWords < length after) × (length ws₁ ≡ areaWords)
+        exceeds q =
+            let z = subst (Left s (k .ws) (k .f .gap) u x ws₁) q leaves in
+            (subst (λ y. termWords < length y) (moved ∙ here-after) (z .0), z .1)
+
+        -- it is done
+        module _ (gap : Gap) (q : r ≡ Done gap) where
+          few : length here ≤ termWords
+          few = subst (λ y. length y ≤ termWords) moved (subst (Left s (k .ws) (k .f .gap) u x ws₁) q leaves .0)
+
+          placed : Placed (s .arities) (k .ws) t here at (k .f .level) gap ws₁
+          placed =
+              subst (λ y. Placed (s .arities) (k .ws) y (replace (s .arities) y at (x .reduct)) at (k .f .level) gap ws₁) (points .term)
+              (subst (Left s (k .ws) (k .f .gap) u x ws₁) q leaves .1)
+
+          pub after-few : length after ≤ termWords
+          after-few = subst (λ y. length y ≤ termWords) here-after few
+
+          pub placed-lies : Lies gap
+          placed-lies = placed .gapped .lies
+
+          pub placed-words : wordsIn (k .f .gap) ≤ wordsIn gap + width
+          placed-words = step-words s wf points wide (x .reduct) placed
+
+          -- the lengths on the way, and the area where they are raised
+          module _ (size : ℕ) (is : size ≡ wordsIn gap + width - wordsIn (k .f .gap)) where
+            pub way-raisable : (length ws₁ ≡ areaWords) × (length (wayIn ws₁ (k .f .level)) ≡ k .f .level) × Raisable ws₁ (wayIn ws₁ (k .f .level)) width size
+            way-raisable = (placed .total, step-levels s wf points wide (x .reduct) placed, step-raisable s wf points wide (x .reduct) placed size is few)
+
+            pub way-raised : {ws₂ : List ℕ} → Raised ws₁ (wayIn ws₁ (k .f .level)) width size ws₂ → Points s after ws₂ (record { gap = gap; level = k .f .level; at = at })
+            way-raised {ws₂} raised =
+                subst (λ y. Points s y ws₂ (record { gap = gap; level = k .f .level; at = at })) here-after
+                (points-stepped s wf points wide (x .reduct) placed size is (first-there s wf (points .whole) there x contracts .left) raised)

@@ -5,31 +5,30 @@ use mathlib.Core.Path.{_≡_, sym, ap, _∙_, subst}
 use mathlib.Core.Bool.{Bool, true, false}
 use mathlib.Core.List.{List}
 use lib.ListN.{getD, set}
-use lib.Seq.{getD-take}
 use borrow.Author.Tests.{eq-eqb, ne-eqb}
 use Rattle.system.specs.declared.Shape.{Shape}
 use Rattle.system.specs.Book.{systemOf, Accepted}
-use Rattle.system.specs.Limits.{termWords, maxArity}
+use Rattle.system.specs.Limits.{maxArity}
 use Rattle.system.specs.System.{System, strategy}
 use Rattle.system.specs.Terms.{Member, WellFormed, among}
 use Rattle.system.proofs.layout.Books.{well}
 use Rattle.system.proofs.layout.entries.Repeats.{among-member, member-among}
-use Rattle.machine.specs.advance.Area.{termIn}
+use Rattle.rows.specs.gap.Gaps.{countsAt, termIn}
 use Rattle.replay.specs.declared.walk.Argument.{Argument}
 use Rattle.replay.specs.declared.walk.Finger.{Finger}
 use Rattle.replay.specs.walk.Descent.{Above, Held}
 use Rattle.replay.specs.walk.Way.{Over, Found}
 use Rattle.replay.proofs.Arguments.{argument-behind}
 use Rattle.replay.proofs.Descent.{above-here, above-out, above-down}
-use Rattle.replay.proofs.walk.Pointing.{Bounds, points-term, points-bounds, points-down}
+use Rattle.replay.proofs.walk.Pointing.{Bounds, points-bounds, points-down}
 
 module _ (book : List ℕ) (shape : Shape) (accepted : Accepted book shape) {t ws : List ℕ} {f : Finger} {q : ℕ} (v : Over (systemOf book) t ws f q) where
   pub descent-bounds : Bounds ws f
   descent-bounds = points-bounds (systemOf book) (well book shape accepted) (v .points)
 
   -- the same of the term as the area holds it
-  pub over-in : Over (systemOf book) (termIn ws (f .n)) ws f q
-  over-in = subst (λ y. Over (systemOf book) y ws f q) (sym (points-term (systemOf book) (well book shape accepted) (v .points))) v
+  pub over-in : Over (systemOf book) (termIn ws (f .gap)) ws f q
+  over-in = subst (λ y. Over (systemOf book) y ws f q) (sym (v .points .term)) v
 
   -- the walk has come to q
   pub descended : q ≤ f .at → Found (systemOf book) t ws f q
@@ -50,9 +49,11 @@ pub record Turn : Type 0 where
   pub over : Over (systemOf book) t ws f q
   pub lower : f .at < q
   pub a : Argument
-  pub held : Held (systemOf book) (termIn ws (f .n)) (f .at) q a
+  pub held : Held (systemOf book) (termIn ws (f .gap)) (f .at) q a
+  pub word : ℕ
+  pub reads : word ≡ getD (termIn ws (f .gap)) (f .at) 0
   pub stands : Bool
-  pub asked : stands ≡ among (a .number + 1) (strategy (systemOf book) (getD ws (f .at) 0))
+  pub asked : stands ≡ among (a .number + 1) (strategy (systemOf book) word)
 
 module _ (τ : Turn) where
   abbrev s : System
@@ -73,14 +74,11 @@ module _ (τ : Turn) where
   wf : WellFormed s
   wf = well (τ .book) (τ .shape) (τ .accepted)
 
-  term : termIn (τ .ws) (τ .f .n) ≡ t
-  term = points-term s wf (τ .over .points)
-
   pub turn-bounds : Bounds (τ .ws) (τ .f)
   turn-bounds = descent-bounds (τ .book) (τ .shape) (τ .accepted) (τ .over)
 
   here : Held s t p q a
-  here = subst (λ y. Held s y p q a) term (τ .held)
+  here = subst (λ y. Held s y p q a) (τ .over .points .term) (τ .held)
 
   -- the argument starts behind its symbol, and not behind q
   pub argument-ends : (p < a .start) × (a .start ≤ q)
@@ -91,7 +89,7 @@ module _ (τ : Turn) where
   entry : among (suc (a .number)) (strategy s (getD t p 0)) ≡ τ .stands
   entry =
       let z : suc (a .number) ≡ a .number + 1 = omega arith in
-      let w : getD t p 0 ≡ getD (τ .ws) p 0 = ap (λ y. getD y p 0) (sym term) ∙ getD-take (τ .f .n) (τ .ws) p 0 (turn-bounds .within) in
+      let w : getD t p 0 ≡ τ .word = ap (λ y. getD y p 0) (sym (τ .over .points .term)) ∙ sym (τ .reads) in
       (λ i. among (z i) (strategy s (w i))) ∙ sym (τ .asked)
 
   -- it does not: the position is not active
@@ -104,11 +102,13 @@ module _ (τ : Turn) where
       out m = let x : true ≡ false = sym (member-among m) ∙ entry ∙ n in let z : _≡_ {A = ℕ} 0 1 = cc in omega arith
 
   -- it does: on from there
-  pub descends : τ .stands ≡ true → Over s t (set (τ .ws) (termWords + τ .f .level) p) (record { n = τ .f .n; level = τ .f .level + 1; at = a .start }) q
+  pub descends : τ .stands ≡ true → Over s t (set (τ .ws) (countsAt + τ .f .level) p) (record { gap = τ .f .gap; level = τ .f .level + 1; at = a .start }) q
   descends y =
-      let x : Above s t (a .start) q =
-      subst (λ p. Above s t p q) (sym (here .start)) (above-down s (here .from) (here .high) (among-member (suc (a .number)) _ (entry ∙ y))) in
-      record { points = points-down s wf (τ .over .points) (a .start) (argument-ends .0) (x .active); above = x }
+      let m : Member (suc (a .number)) (strategy s (getD t p 0)) = among-member (suc (a .number)) _ (entry ∙ y) in
+      record {
+        points = points-down s wf (τ .over .points) (a .number) (a .start) m (here .start);
+        above = subst (λ p. Above s t p q) (sym (here .start)) (above-down s (here .from) (here .high) m);
+      }
 
 -- so that one more fits a number
 pub few-arguments : (book : List ℕ) (shape : Shape) → Accepted book shape → {t : List ℕ} {p q : ℕ} {a : Argument} → Held (systemOf book) t p q a → a .number < maxArity

@@ -9,14 +9,14 @@ use Rattle.system.specs.Book.{systemOf, Accepted}
 use Rattle.system.specs.System.{System}
 use Rattle.system.specs.Terms.{WellFormed}
 use Rattle.system.proofs.layout.Books.{well}
-use Rattle.machine.specs.advance.Area.{termIn}
+use Rattle.rows.specs.gap.Gaps.{wordsIn, termIn}
 use Rattle.replay.specs.declared.walk.Finger.{Finger}
 use Rattle.replay.specs.declared.retrace.Pair.{Pair}
 use Rattle.replay.specs.declared.retrace.Followed.{Followed}
 use Rattle.replay.specs.walk.Way.{Points, PointsIn, Found}
 use Rattle.replay.specs.retrace.Retraces.{Follows}
 use Rattle.replay.proofs.Descent.{above-end}
-use Rattle.replay.proofs.walk.Pointing.{points-term, points-bounds}
+use Rattle.replay.proofs.walk.Pointing.{points-words, points-bounds}
 
 module _ (book : List ℕ) (shape : Shape) (accepted : Accepted book shape) {t ws : List ℕ} {f : Finger} (v : Points (systemOf book) t ws f) where
   abbrev s : System
@@ -26,17 +26,17 @@ module _ (book : List ℕ) (shape : Shape) (accepted : Accepted book shape) {t w
   wf = well book shape accepted
 
   -- behind the term: the finger stays
-  pub found-behind : (q : ℕ) → f .n ≤ q → Found s t ws f q
+  pub found-behind : (q : ℕ) → wordsIn (f .gap) ≤ q → Found s t ws f q
   found-behind q h =
       let b = points-bounds s wf v in
-      record { points = v; answer = ne-eqb (f .at) q (λ e. omega arith) ∙ sym (above-end s wf (v .whole) q (omega (arith, v .words))) }
+      record { points = v; answer = ne-eqb (f .at) q (λ e. omega arith) ∙ sym (above-end s wf (v .whole) q (omega (arith, points-words v))) }
 
   -- the term as the area holds it: what `walk::find` asks, and what was found in it
   pub points-in : PointsIn s ws f
-  points-in = subst (λ y. Points s y ws f) (sym (points-term s wf v)) v
+  points-in = subst (λ y. Points s y ws f) (sym (v .term)) v
 
-  pub found-in : {ws′ : List ℕ} {f′ : Finger} {q : ℕ} → Found s (termIn ws (f .n)) ws′ f′ q → Found s t ws′ f′ q
-  found-in {ws′} {f′} {q} = subst (λ y. Found s y ws′ f′ q) (points-term s wf v)
+  pub found-in : {ws′ : List ℕ} {f′ : Finger} {q : ℕ} → Found s (termIn ws (f .gap)) ws′ f′ q → Found s t ws′ f′ q
+  found-in {ws′} {f′} {q} = subst (λ y. Found s y ws′ f′ q) (v .term)
 
-  pub follows-in : {p : Pair} {r : Followed} {ws′ : List ℕ} → Follows s (termIn ws (f .n)) p r ws′ → Follows s t p r ws′
-  follows-in {p} {r} {ws′} = subst (λ y. Follows s y p r ws′) (points-term s wf v)
+  pub follows-in : {p : Pair} {r : Followed} {ws′ : List ℕ} → Follows s (termIn ws (f .gap)) p r ws′ → Follows s t p r ws′
+  follows-in {p} {r} {ws′} = subst (λ y. Follows s y p r ws′) (v .term)

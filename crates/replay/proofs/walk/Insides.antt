@@ -1,16 +1,15 @@
--- Whether a position lies in the subterm at another, counted only up to it.
-use Prim.Native.Nat.{ℕ, suc, _+_, _-_, _≤_, _<_}
+-- Whether a position lies in the subterm at another, by that one's length.
+use Prim.Native.Nat.{ℕ, _+_, _-_, _≤_, _<_}
 use native.Mathlib.Omega.{arith}
 use native.Mathlib.Decide.{decLt}
-use mathlib.Core.Path.{_≡_, refl, sym, ap, _∙_}
+use mathlib.Core.Path.{_≡_, refl, sym, _∙_}
 use mathlib.Core.Bool.{Bool, true, false, _&&_}
 use mathlib.Core.List.{List}
-use lib.ListN.{take, drop}
+use lib.ListN.{drop}
 use lib.Dec.{leb, ltb}
 use borrow.Author.Tests.{leb-true, ltb-true, le-leb, lt-leb, lt-ltb, le-ltb}
 use Rattle.system.specs.Signature.{Signature, span}
 use Rattle.replay.specs.walk.Descent.{within}
-use Rattle.replay.proofs.Arguments.{counted, counted-behind, counted-inside}
 
 module _ (g : Signature) (t : List ℕ) (p q : ℕ) where
   pub within-before : q < p → within g t p q ≡ false
@@ -22,13 +21,11 @@ module _ (g : Signature) (t : List ℕ) (p q : ℕ) where
   unfolding within
   within-high h = rw (le-leb p q h)
 
-  pub within-counted : p ≤ q → (width : ℕ) → width ≡ span g (take (q + 1 - p) (drop p t)) 1 → ltb (q - p) width ≡ within g t p q
-  within-counted h width e =
-      let z : q + 1 - p ≡ suc (q - p) = omega arith in
-      let c : width ≡ counted g t p q = e ∙ ap (λ k. span g (take k (drop p t)) 1) z in
+  pub within-read : p ≤ q → (width : ℕ) → width ≡ span g (drop p t) 1 → ltb (q - p) width ≡ within g t p q
+  within-read h width e =
       elim (decLt (q - p) width) [
-        | yes l ↦ lt-ltb (q - p) width l ∙ sym (within-high h ∙ lt-ltb q _ (omega (arith, counted-inside g t p q (omega arith))))
-        | no l ↦ le-ltb (q - p) width (omega arith) ∙ sym (within-high h ∙ le-ltb q _ (omega (arith, counted-behind g t p q (omega arith))))
+        | yes l ↦ lt-ltb (q - p) width l ∙ sym (within-high h ∙ lt-ltb q _ (omega arith))
+        | no l ↦ le-ltb (q - p) width (omega arith) ∙ sym (within-high h ∙ le-ltb q _ (omega arith))
       ]
 
   -- what the answer tells
