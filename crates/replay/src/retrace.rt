@@ -3,7 +3,7 @@ ghost use mathlib.Core.Path.{_≡_};
 ghost use Prim.Native.Nat.{_≤_};
 ghost use lib.ListN.{length};
 ghost use Rattle.system.specs.Book.{systemOf, Accepted};
-ghost use Rattle.system.specs.Limits.{areaWords};
+ghost use Rattle.system.specs.Limits.{areaWords, termWords};
 ghost use Rattle.system.specs.layout.Index.{Indexed};
 ghost use Rattle.rows.specs.gap.Gaps.{termIn};
 ghost use Rattle.machine.specs.steps.Raised.{Raisable, Raised};
@@ -55,7 +55,7 @@ pub struct Retraced {
 
 // The lengths of the symbols on the way, which stands in the third row: each is `width` less and `size` more.
 fn raise_way(area: &mut [u16], level: usize, width: usize, size: usize)
-    requires { ⌜ (length (now area) ≡ areaWords) × (length (wayIn (now area) level) ≡ level) × Raisable (now area) (wayIn (now area) level) width size ⌝ }
+    requires { ⌜ (length (now area) ≡ areaWords) × (level ≤ termWords) × Raisable (now area) (wayIn (now area) level) width size ⌝ }
     ensures { λ _. ⌜ Raised (now (area .entry)) (wayIn (now (area .entry)) level) width size (now (area .exit)) ⌝ }
 {
     let mut j = 0;

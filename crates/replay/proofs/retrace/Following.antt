@@ -40,7 +40,8 @@ use Rattle.replay.specs.Activity.{activeAt}
 use Rattle.replay.specs.Replay.{toldBy}
 use Rattle.replay.specs.walk.Way.{wayIn, Points, Found}
 use Rattle.replay.proofs.Pairs.{told-inactive, told-nothing, told-other, right-told}
-use Rattle.replay.proofs.walk.Stepping.{step-words, step-levels, step-raisable, points-stepped, points-reducible}
+use Rattle.replay.proofs.walk.Pointing.{points-bounds}
+use Rattle.replay.proofs.walk.Stepping.{step-words, step-raisable, points-stepped, points-reducible}
 
 -- the walk did not come to the pair's position, which is not active
 pub missed : (s : System) {t ws : List ℕ} {f : Finger} (p : Pair) → Found s t ws f (p .at) → (f .at ≡ p .at → ⊥) → toldBy s t (p .at) (p .number) ≡ none
@@ -178,8 +179,8 @@ module _ (k : Searched) where
 
           -- the lengths on the way, and the area where they are raised
           module _ (size : ℕ) (is : size ≡ wordsIn gap + width - wordsIn (k .f .gap)) where
-            pub way-raisable : (length ws₁ ≡ areaWords) × (length (wayIn ws₁ (k .f .level)) ≡ k .f .level) × Raisable ws₁ (wayIn ws₁ (k .f .level)) width size
-            way-raisable = (placed .total, step-levels s wf points wide (x .reduct) placed, step-raisable s wf points wide (x .reduct) placed size is few)
+            pub way-raisable : (length ws₁ ≡ areaWords) × (k .f .level ≤ termWords) × Raisable ws₁ (wayIn ws₁ (k .f .level)) width size
+            way-raisable = (placed .total, let b = points-bounds s wf points in omega arith, step-raisable s wf points wide (x .reduct) placed size is few)
 
             pub way-raised : {ws₂ : List ℕ} → Raised ws₁ (wayIn ws₁ (k .f .level)) width size ws₂ → Points s after ws₂ (record { gap = gap; level = k .f .level; at = at })
             way-raised {ws₂} raised =

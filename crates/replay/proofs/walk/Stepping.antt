@@ -69,9 +69,6 @@ module _ (s : System) (wf : WellFormed s) {t ws : List ℕ} {f : Finger} (v : Po
     same-way : wayIn ws₁ (f .level) ≡ wayIn ws (f .level)
     same-way = placed .outer
 
-    pub step-levels : length (wayIn ws₁ (f .level)) ≡ f .level
-    step-levels = ap length same-way ∙ v .levels
-
     module _ (size : ℕ) (is : size ≡ wordsIn gap + width - wordsIn (f .gap)) where
       long : size ≡ length u
       long = omega (arith, step-counts)

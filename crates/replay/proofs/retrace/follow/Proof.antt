@@ -1,5 +1,222 @@
--- x
+-- `retrace::follow` meets its contract: a law of Following at each place.
+use Prim.Native.Nat.{_+_, _-_, _≤_}
+use native.Mathlib.Omega.{arith}
+use mathlib.Core.Path.{_≡_, sym, ap, _∙_, subst}
+use borrow.Author.Needs.{needs}
+use Rattle.system.specs.Book.{systemOf}
+use Rattle.system.proofs.layout.Books.{well, signature}
+use Rattle.rows.specs.gap.Gaps.{wordsIn, termIn}
+use Rattle.rows.specs.lengths.Measured.{Measured}
+use Rattle.matching.specs.rules.Searches.{ruleNumber}
+use Rattle.replay.specs.walk.Way.{Points}
+use Rattle.replay.specs.retrace.Retraces.{wrong, long, goes}
+use Rattle.replay.proofs.walk.Pointing.{Bounds, points-bounds}
+use Rattle.replay.proofs.retrace.Following.{missed, Searched, other, told, reducible, exceeds, after-few, placed-lies, placed-words, way-raisable, way-raised}
 use Rattle.replay.proofs.retrace.follow.Statement.{statement}
+use Rattle.replay.proofs.retrace.follow.Tie as tie
+
+-- ---- the places of the code that are behind others: the entry, the walk, the position reached, the rule found, its number, the width
+
+abbrev entry : tie.After-find → tie.Start
+entry c = c .before .before .before .before .before
+
+abbrev walked : tie.After-struct-known → tie.After-find
+walked c = c .before .before .before .before
+
+abbrev reached : tie.After-first-redex → tie.Else1
+reached c = c .before .before
+
+abbrev searched : tie.After-struct-known2 → tie.After-first-redex
+searched c = c .before .before
+
+abbrev measured : tie.After-length-at → tie.Else2
+measured c = c .before .before
+
+-- the rewrite, and where it is known to be done
+
+abbrev rewrote : tie.After-slice-known3 → tie.After-rewrite
+rewrote c = c .before .before
+
+abbrev widths : tie.After-rewrite → tie.After-length-at
+widths c = c .before .before
+
+abbrev done : tie.After-r → tie.After-rewrite
+done c = rewrote (c .before .before)
+
+abbrev counted : tie.After-words → tie.After-r
+counted c = c .before .before .before
+
+abbrev raised : tie.After-slice-known4 → tie.After-raise-way
+raised c = c .before .before
+
+bounds : (c : tie.After-find) → Bounds (c .find .last .1 .1 .1 .0) (c .find .result)
+bounds c =
+    let e = entry c in
+    points-bounds (systemOf (e .args .book .now)) (well (e .args .book .now) (e .args .shape) (e .pre .0)) (c .find .ensures .points)
+
+-- what was found at the pair's position, read once
+abbrev found : tie.After-first-redex → Searched
+found c =
+    let b = reached c in
+    let d = walked (b .before) in
+    let e = entry d in
+    let a = e .args in
+    record {
+      book = a .book .now;
+      shape = a .shape;
+      index = a .index .now;
+      accepted = e .pre .0;
+      indexed = e .pre .1;
+      t = termIn (a .area .now) (a .from .gap);
+      ws = d .find .last .1 .1 .1 .0;
+      f = d .find .result;
+      p = a .pair;
+      found = d .find .ensures;
+      here = b .if1 .left;
+      m = c .first-redex .result;
+      tried = c .first-redex .ensures;
+    }
+
+-- the rule is the pair's, and that a word
+same : (q : tie.Else2) → let k = found (searched (q .before)) in ruleNumber (k .m .rule) ≡ k .p .number
+same q = sym (q .before .before .rule-number .ensures) ∙ q .if2 .left
+
+word : (c : tie.After-first-redex) → found c .p .number ≤ 65535
+word c = entry (walked (reached c .before)) .pre .3
+
+-- ---- the needs: the walk and the search
+
+find-requires : tie.Need-find-requires
+find-requires c κs = let e = c .before .before .before .before in (e .pre .0, e .pre .1, e .pre .2)
+
+same-length : tie.Need-same-length
+same-length c = walked (c .before .before) .find .kept .1 .1 .1 .0
+
+returns : tie.Need-returns
+returns c =
+    let d = walked (c .before .before) in
+    let a = entry d .args in
+    wrong (missed (systemOf (a .book .now)) (a .pair) (d .find .ensures) (c .before .if1 .taken)) (ap (λ y. y .number) (c .outcome .ensures)) (bounds d .total)
+
+first-redex-requires : tie.Need-first-redex-requires
+first-redex-requires c κs =
+    let d = walked (c .before .before) in
+    let e = entry d in
+    let a = e .args in
+    let m = subst (λ g. Measured g (d .find .last .1 .1 .1 .0) (d .find .result .gap)) (signature (a .book .now) (a .shape) (e .pre .0)) (d .find .ensures .points .measured) in
+    (e .pre .0, e .pre .1, m, bounds d .within)
+
+same-length-2 : tie.Need-same-length-2
+same-length-2 c = walked (reached (searched (c .before .before)) .before) .find .kept .1 .1 .1 .0
+
+returns-2 : tie.Need-returns-2
+returns-2 c =
+    let n = c .before .before in
+    let k = found (searched n) in
+    wrong (other k (λ z. c .before .if2 .taken (n .before .rule-number .ensures ∙ z))) (ap (λ y. y .number) (c .outcome2 .ensures)) (k .found .points .total)
+
+-- ---- the rewrite
+
+length-at-requires : tie.Need-length-at-requires
+length-at-requires c κs = let b = bounds (walked (reached (searched (c .before .before)) .before)) in (b .gapped, b .within)
+
+rewrite-requires : tie.Need-rewrite-requires
+rewrite-requires c κs =
+    let w = c .before in
+    let q = measured w in
+    let k = searched (q .before) in
+    reducible (found k) (same q) (word k) (w .length-at .result) (w .length-at .ensures .0)
+
+abbrev refused : tie.After-outcome3 → tie.After-rewrite
+refused c = rewrote (c .before .before .before)
+
+same-length-3 : tie.Need-same-length-3
+same-length-3 c =
+    let r = refused c in
+    r .rewrite .kept .1 .1 .0 ∙ walked (reached (searched (measured (widths r) .before)) .before) .find .kept .1 .1 .1 .0
+
+returns-3 : tie.Need-returns-3
+returns-3 c =
+    let r = refused c in
+    let w = widths r in
+    let q = measured w in
+    let k = searched (q .before) in
+    let z = exceeds (found k) (same q) (word k) (w .length-at .result) (w .length-at .ensures .0) (r .rewrite .ensures) (c .before .enum-told .given .1) in
+    long _ (told (found k) (same q) (word k)) (z .0) (ap (λ y. y .number) (c .outcome3 .ensures)) (z .1)
+
+-- ---- it is done: the lengths on the way
+
+words-requires : tie.Need-words-requires
+words-requires c κs =
+    let y = c .before .before in
+    let r = done y in
+    let w = widths r in
+    let q = measured w in
+    let k = searched (q .before) in
+    placed-lies (found k) (same q) (word k) (w .length-at .result) (w .length-at .ensures .0) (r .rewrite .ensures) (y .r .given .0 .0) (y .r .given .1)
+
+add-raise-way : tie.Need-add-raise-way
+add-raise-way c =
+    let y = counted c in
+    let r = done y in
+    let w = widths r in
+    let q = measured w in
+    let k = searched (q .before) in
+    let z = placed-lies (found k) (same q) (word k) (w .length-at .result) (w .length-at .ensures .0) (r .rewrite .ensures) (y .r .given .0 .0) (y .r .given .1) in
+    omega (arith, w .length-at .ensures .1, c .words .ensures, z .low, z .high)
+
+words-requires-2 : tie.Need-words-requires-2
+words-requires-2 c κs = bounds (walked (reached (searched (measured (widths (done (counted c))) .before)) .before)) .gapped .lies
+
+sub-raise-way : tie.Need-sub-raise-way
+sub-raise-way c =
+    let y = counted (c .before) in
+    let r = done y in
+    let w = widths r in
+    let q = measured w in
+    let k = searched (q .before) in
+    let z = placed-words (found k) (same q) (word k) (w .length-at .result) (w .length-at .ensures .0) (r .rewrite .ensures) (y .r .given .0 .0) (y .r .given .1) in
+    omega (arith, c .before .words .ensures, c .words2 .ensures)
+
+-- by how much they are raised
+size : (c : tie.After-words2) → let y = counted (c .before) in let r = done y in let w = widths r in
+    c .before .words .result + w .length-at .result - c .words2 .result
+    ≡ wordsIn (y .r .given .0 .0) + w .length-at .result - wordsIn (found (searched (measured w .before)) .f .gap)
+size c = let w = widths (done (counted (c .before))) .length-at .result in λ i. c .before .words .ensures i + w - c .words2 .ensures i
+
+raise-way-requires : tie.Need-raise-way-requires
+raise-way-requires c κs =
+    let y = counted (c .before) in
+    let r = done y in
+    let w = widths r in
+    let q = measured w in
+    let k = searched (q .before) in
+    way-raisable (found k) (same q) (word k) (w .length-at .result) (w .length-at .ensures .0) (r .rewrite .ensures) (y .r .given .0 .0) (y .r .given .1) _ (size c)
+
+same-length-4 : tie.Need-same-length-4
+same-length-4 c =
+    let u = raised (c .before) in
+    let r = done (counted (u .before .before)) in
+    u .raise-way .kept .0 ∙ r .rewrite .kept .1 .1 .0 ∙ walked (reached (searched (measured (widths r) .before)) .before) .find .kept .1 .1 .1 .0
+
+returns-4 : tie.Need-returns-4
+returns-4 c =
+    let u = raised (c .before) in
+    let y = counted (u .before .before) in
+    let r = done y in
+    let w = widths r in
+    let q = measured w in
+    let k = searched (q .before) in
+    let few = after-few (found k) (same q) (word k) (w .length-at .result) (w .length-at .ensures .0) (r .rewrite .ensures) (y .r .given .0 .0) (y .r .given .1) in
+    let v = way-raised (found k) (same q) (word k) (w .length-at .result) (w .length-at .ensures .0) (r .rewrite .ensures) (y .r .given .0 .0) (y .r .given .1) _
+    (size (u .before)) (u .raise-way .ensures) in
+    goes _ (told (found k) (same q) (word k)) few (ap (λ y. y .number) (c .outcome4 .ensures))
+    (subst (Points _ _ _) (sym (ap (λ y. y .finger) (c .outcome4 .ensures))) v)
 
 pub follow-spec : {M : Type 1} → statement M
-follow-spec = ?
+follow-spec =
+    tie.close
+    (tie.spec
+    find-requires (λ c κs. search needs) same-length returns first-redex-requires (λ c κs. search needs) (λ c κs. search needs) same-length-2 returns-2
+    length-at-requires rewrite-requires (λ c. search needs) (λ c. search needs) (λ c κs. search needs) same-length-3 returns-3 words-requires
+    add-raise-way words-requires-2 sub-raise-way raise-way-requires (λ c κs. search needs) same-length-4 returns-4)
