@@ -3,7 +3,7 @@
 use Prim.Native.Nat.{ℕ, suc, _+_, _-_, _≤_, _<_}
 use native.Mathlib.Omega.{arith}
 use native.Mathlib.Decide.{ℕ-discrete}
-use mathlib.Core.Path.{_≡_, refl, sym, ap, _∙_, subst}
+use mathlib.Core.Path.{_≡_, refl, sym, ap, _∙_}
 use mathlib.Core.Bool.{Bool, true, false}
 use mathlib.Core.List.{List, [], _∷_, _++_, append-nil}
 use lib.ListN.{length, getD, drop, length-drop}
@@ -13,7 +13,7 @@ use Rattle.system.specs.Terms.{Whole, Member, WellFormed, among}
 use Rattle.system.proofs.Forests.{span-forest}
 use Rattle.system.proofs.words.SpanSteps.{span-le}
 use Rattle.system.proofs.layout.entries.Repeats.{among-member}
-use Rattle.rewriting.specs.Rewriting.{Active, root, below}
+use Rattle.rewriting.specs.Rewriting.{root, below}
 use Rattle.rewriting.proofs.Actives.{active-whole, at-parted}
 use Rattle.rewriting.proofs.Contractions.{active-within}
 use Rattle.replay.specs.Activity.{pending, front, activeAt}

@@ -1,6 +1,6 @@
 -- What the replay hands back, after its checks and its record: what stands in the lent buffers then.
 use Prim.Native.Nat.{ℕ, _≤_}
-use mathlib.Core.Path.{_≡_, refl, ap, _∙_}
+use mathlib.Core.Path.{_≡_, ap, _∙_}
 use mathlib.Core.List.{List, [], _++_}
 use lib.ListN.{length, drop}
 use Rattle.buffers.specs.Words.{over, zeros}

@@ -10,7 +10,7 @@ use borrow.Author.Tests.{eq-eqb, ne-eqb}
 use Rattle.system.specs.declared.Shape.{Shape}
 use Rattle.system.specs.Book.{systemOf, Accepted}
 use Rattle.system.specs.Limits.{areaWords, termWords}
-use Rattle.system.specs.Signature.{span, replace}
+use Rattle.system.specs.Signature.{Signature, span, replace}
 use Rattle.system.specs.System.{System}
 use Rattle.system.specs.Terms.{WellFormed}
 use Rattle.system.specs.layout.Index.{Indexed}
@@ -126,63 +126,98 @@ module _ (k : Searched) where
     abbrev pub after : List ℕ
     after = replace (s .arities) t (p .at) (x .reduct)
 
-    -- the same by the finger's position
-    abbrev here : List ℕ
-    here = replace (s .arities) t at (x .reduct)
+-- the rule is the pair's, and the redex has so many words
+pub record Chosen : Type 0 where
+  pub at : Searched
+  pub same : ruleNumber (at .m .rule) ≡ at .p .number
+  pub word : at .p .number ≤ 65535
+  pub width : ℕ
+  pub read : width ≡ getD (lengthsIn (at .ws) (at .f .gap)) (at .f .at) 0
 
-    here-after : here ≡ after
-    here-after = ap (λ y. replace (s .arities) t y (x .reduct)) (k .here)
+abbrev pub redex : Chosen → Subterm
+redex c = record { level = c .at .f .level; at = c .at .f .at; width = c .width }
 
-    -- the words of the redex
-    module _ (width : ℕ) (read : width ≡ getD (lengthsIn (k .ws) (k .f .gap)) at 0) where
-      abbrev u : Subterm
-      u = record { level = k .f .level; at = at; width = width }
+module _ (c : Chosen) where
+  abbrev k : Searched
+  k = c .at
 
-      wide : width ≡ span (s .arities) (drop at t) 1
-      wide = read ∙ measured-length (points .measured) at ∙ ap (λ y. span (s .arities) (drop at y) 1) (points .term)
+  abbrev g : Signature
+  g = systemOf (k .book) .arities
 
-      pub reducible : Reducible (k .book) (k .index) (k .ws) (k .f .gap) u (k .m)
-      reducible = points-reducible (k .book) (k .shape) (k .accepted) points (k .index) (k .indexed) width (k .m) x wide match contracts
+  abbrev v : Points (systemOf (k .book)) (k .t) (k .ws) (k .f)
+  v = k .found .points
 
-      -- what the rewrite left
-      module _ {r : Reduced} {ws₁ : List ℕ} (rewrites : Rewrites (k .book) (k .ws) (k .f .gap) u r ws₁) where
-        leaves : Left s (k .ws) (k .f .gap) u x ws₁ r
-        leaves = left (rewrites x (ap (λ y. contraction s (drop at y)) (points .term) ∙ contracts))
+  abbrev y : Contraction
+  y = x k (c .same) (c .word)
 
-        moved : replace (s .arities) (termIn (k .ws) (k .f .gap)) at (x .reduct) ≡ here
-        moved = ap (λ y. replace (s .arities) y at (x .reduct)) (points .term)
+  fires : contraction (systemOf (k .book)) (drop (k .f .at) (k .t)) ≡ some y
+  fires = contracted k (c .same) (c .word) .1
 
-        -- the term would have too many words
-        pub exceeds : r ≡ TooLong → (termWords < length after) × (length ws₁ ≡ areaWords)
-        exceeds q =
-            let z = subst (Left s (k .ws) (k .f .gap) u x ws₁) q leaves in
-            (subst (λ y. termWords < length y) (moved ∙ here-after) (z .0), z .1)
+  abbrev u : Subterm
+  u = redex c
 
-        -- it is done
-        module _ (gap : Gap) (q : r ≡ Done gap) where
-          few : length here ≤ termWords
-          few = subst (λ y. length y ≤ termWords) moved (subst (Left s (k .ws) (k .f .gap) u x ws₁) q leaves .0)
+  -- the term after the step
+  abbrev pub next : List ℕ
+  next = after k (c .same) (c .word)
 
-          placed : Placed (s .arities) (k .ws) t here at (k .f .level) gap ws₁
-          placed =
-              subst (λ y. Placed (s .arities) (k .ws) y (replace (s .arities) y at (x .reduct)) at (k .f .level) gap ws₁) (points .term)
-              (subst (Left s (k .ws) (k .f .gap) u x ws₁) q leaves .1)
+  -- the same by the finger's position
+  abbrev here : List ℕ
+  here = replace g (k .t) (k .f .at) (y .reduct)
 
-          pub after-few : length after ≤ termWords
-          after-few = subst (λ y. length y ≤ termWords) here-after few
+  here-next : here ≡ next
+  here-next = ap (λ z. replace g (k .t) z (y .reduct)) (k .here)
 
-          pub placed-lies : Lies gap
-          placed-lies = placed .gapped .lies
+  wide : c .width ≡ span g (drop (k .f .at) (k .t)) 1
+  wide = c .read ∙ measured-length (v .measured) (k .f .at) ∙ ap (λ z. span g (drop (k .f .at) z) 1) (v .term)
 
-          pub placed-words : wordsIn (k .f .gap) ≤ wordsIn gap + width
-          placed-words = step-words s wf points wide (x .reduct) placed
+  pub reducible : Reducible (k .book) (k .index) (k .ws) (k .f .gap) u (k .m)
+  reducible = points-reducible (k .book) (k .shape) (k .accepted) v (k .index) (k .indexed) (c .width) (k .m) y wide (match k) fires
 
-          -- the lengths on the way, and the area where they are raised
-          module _ (size : ℕ) (is : size ≡ wordsIn gap + width - wordsIn (k .f .gap)) where
-            pub way-raisable : (length ws₁ ≡ areaWords) × (k .f .level ≤ termWords) × Raisable ws₁ (wayIn ws₁ (k .f .level)) width size
-            way-raisable = (placed .total, let b = points-bounds s wf points in omega arith, step-raisable s wf points wide (x .reduct) placed size is few)
+  -- what the rewrite left
+  module _ {r : Reduced} {ws₁ : List ℕ} (rewrites : Rewrites (k .book) (k .ws) (k .f .gap) u r ws₁) where
+    leaves : Left (systemOf (k .book)) (k .ws) (k .f .gap) u y ws₁ r
+    leaves = left (rewrites y (ap (λ z. contraction (systemOf (k .book)) (drop (k .f .at) z)) (v .term) ∙ fires))
 
-            pub way-raised : {ws₂ : List ℕ} → Raised ws₁ (wayIn ws₁ (k .f .level)) width size ws₂ → Points s after ws₂ (record { gap = gap; level = k .f .level; at = at })
-            way-raised {ws₂} raised =
-                subst (λ y. Points s y ws₂ (record { gap = gap; level = k .f .level; at = at })) here-after
-                (points-stepped s wf points wide (x .reduct) placed size is (first-there s wf (points .whole) there x contracts .left) raised)
+    moved : replace g (termIn (k .ws) (k .f .gap)) (k .f .at) (y .reduct) ≡ here
+    moved = ap (λ z. replace g z (k .f .at) (y .reduct)) (v .term)
+
+    -- the term would have too many words
+    pub exceeds : r ≡ TooLong → (termWords < length next) × (length ws₁ ≡ areaWords)
+    exceeds q =
+        let z = subst (Left (systemOf (k .book)) (k .ws) (k .f .gap) u y ws₁) q leaves in
+        (subst (λ z. termWords < length z) (moved ∙ here-next) (z .0), z .1)
+
+    -- it is done
+    module _ (gap : Gap) (q : r ≡ Done gap) where
+      few : length here ≤ termWords
+      few = subst (λ z. length z ≤ termWords) moved (subst (Left (systemOf (k .book)) (k .ws) (k .f .gap) u y ws₁) q leaves .0)
+
+      placed : Placed g (k .ws) (k .t) here (k .f .at) (k .f .level) gap ws₁
+      placed =
+          subst (λ z. Placed g (k .ws) z (replace g z (k .f .at) (y .reduct)) (k .f .at) (k .f .level) gap ws₁) (v .term)
+          (subst (Left (systemOf (k .book)) (k .ws) (k .f .gap) u y ws₁) q leaves .1)
+
+      pub next-few : length next ≤ termWords
+      next-few = subst (λ z. length z ≤ termWords) here-next few
+
+      pub placed-lies : Lies gap
+      placed-lies = placed .gapped .lies
+
+      pub placed-words : wordsIn (k .f .gap) ≤ wordsIn gap + c .width
+      placed-words = step-words (systemOf (k .book)) (wf k) v wide (y .reduct) placed
+
+      -- the lengths on the way, and the area where they are raised
+      module _ (size : ℕ) (is : size ≡ wordsIn gap + c .width - wordsIn (k .f .gap)) where
+        pub way-raisable : (length ws₁ ≡ areaWords) × (k .f .level ≤ termWords) × Raisable ws₁ (wayIn ws₁ (k .f .level)) (c .width) size
+        way-raisable = (
+          placed .total,
+          let b = points-bounds (systemOf (k .book)) (wf k) v in omega arith,
+          step-raisable (systemOf (k .book)) (wf k) v wide (y .reduct) placed size is few,
+        )
+
+        pub way-raised : {ws₂ : List ℕ} → Raised ws₁ (wayIn ws₁ (k .f .level)) (c .width) size ws₂ →
+            Points (systemOf (k .book)) next ws₂ (record { gap = gap; level = k .f .level; at = k .f .at })
+        way-raised {ws₂} raised =
+            let h = first-there (systemOf (k .book)) (wf k) (v .whole) (there k) y fires .left in
+            subst (λ z. Points (systemOf (k .book)) z ws₂ (record { gap = gap; level = k .f .level; at = k .f .at })) here-next
+            (points-stepped (systemOf (k .book)) (wf k) v wide (y .reduct) placed size is h raised)

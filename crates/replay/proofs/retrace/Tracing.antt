@@ -9,12 +9,12 @@ use borrow.Author.Tests.{eq-eqb, ne-eqb}
 use Rattle.system.specs.declared.Shape.{Shape}
 use Rattle.system.specs.Answers.{signatureOf}
 use Rattle.system.specs.Book.{systemOf, Accepted}
-use Rattle.system.specs.Limits.{areaWords, termWords}
+use Rattle.system.specs.Limits.{areaWords}
 use Rattle.system.specs.Numbers.{taken, untrue, numberOf}
 use Rattle.system.specs.System.{System}
 use Rattle.system.specs.Terms.{Whole}
 use Rattle.rows.specs.declared.gap.Gap.{Gap}
-use Rattle.rows.specs.gap.Gaps.{countsAt, wordsIn}
+use Rattle.rows.specs.gap.Gaps.{wordsIn}
 use Rattle.rows.specs.lengths.Written.{Laid}
 use Rattle.rows.proofs.lengths.Writes.{term-end}
 use Rattle.rewriting.specs.Trace.{Trace}

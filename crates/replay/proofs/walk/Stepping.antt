@@ -17,7 +17,7 @@ use Rattle.system.proofs.Places.{replace-length}
 use Rattle.system.proofs.layout.Books.{well, signature}
 use Rattle.system.proofs.words.SpanSteps.{span-le}
 use Rattle.rows.specs.declared.gap.Gap.{Gap}
-use Rattle.rows.specs.gap.Gaps.{countsAt, wordsIn}
+use Rattle.rows.specs.gap.Gaps.{wordsIn}
 use Rattle.rows.specs.lengths.Measured.{Measured}
 use Rattle.rows.specs.lengths.Written.{Laid}
 use Rattle.rows.proofs.lengths.Measures.{words-length}

@@ -1,5 +1,5 @@
 -- `retrace::follow` meets its contract: a law of Following at each place.
-use Prim.Native.Nat.{_+_, _-_, _≤_}
+use Prim.Native.Nat.{_+_, _-_}
 use native.Mathlib.Omega.{arith}
 use mathlib.Core.Path.{_≡_, sym, ap, _∙_, subst}
 use borrow.Author.Needs.{needs}
@@ -7,11 +7,10 @@ use Rattle.system.specs.Book.{systemOf}
 use Rattle.system.proofs.layout.Books.{well, signature}
 use Rattle.rows.specs.gap.Gaps.{wordsIn, termIn}
 use Rattle.rows.specs.lengths.Measured.{Measured}
-use Rattle.matching.specs.rules.Searches.{ruleNumber}
 use Rattle.replay.specs.walk.Way.{Points}
 use Rattle.replay.specs.retrace.Retraces.{wrong, long, goes}
 use Rattle.replay.proofs.walk.Pointing.{Bounds, points-bounds}
-use Rattle.replay.proofs.retrace.Following.{missed, Searched, other, told, reducible, exceeds, after-few, placed-lies, placed-words, way-raisable, way-raised}
+use Rattle.replay.proofs.retrace.Following.{missed, Searched, other, told, Chosen, reducible, exceeds, next-few, placed-lies, placed-words, way-raisable, way-raised}
 use Rattle.replay.proofs.retrace.follow.Statement.{statement}
 use Rattle.replay.proofs.retrace.follow.Tie as tie
 
@@ -77,12 +76,18 @@ found c =
       tried = c .first-redex .ensures;
     }
 
--- the rule is the pair's, and that a word
-same : (q : tie.Else2) → let k = found (searched (q .before)) in ruleNumber (k .m .rule) ≡ k .p .number
-same q = sym (q .before .before .rule-number .ensures) ∙ q .if2 .left
-
-word : (c : tie.After-first-redex) → found c .p .number ≤ 65535
-word c = entry (walked (reached c .before)) .pre .3
+-- the rule is the pair's, which is a word; and the width is read
+abbrev chosen : tie.After-length-at → Chosen
+chosen c =
+    let q = measured c in
+    let k = searched (q .before) in
+    record {
+      at = found k;
+      same = sym (q .before .before .rule-number .ensures) ∙ q .if2 .left;
+      word = entry (walked (reached k .before)) .pre .3;
+      width = c .length-at .result;
+      read = c .length-at .ensures .0;
+    }
 
 -- ---- the needs: the walk and the search
 
@@ -121,11 +126,7 @@ length-at-requires : tie.Need-length-at-requires
 length-at-requires c κs = let b = bounds (walked (reached (searched (c .before .before)) .before)) in (b .gapped, b .within)
 
 rewrite-requires : tie.Need-rewrite-requires
-rewrite-requires c κs =
-    let w = c .before in
-    let q = measured w in
-    let k = searched (q .before) in
-    reducible (found k) (same q) (word k) (w .length-at .result) (w .length-at .ensures .0)
+rewrite-requires c κs = reducible (chosen (c .before))
 
 abbrev refused : tie.After-outcome3 → tie.After-rewrite
 refused c = rewrote (c .before .before .before)
@@ -138,60 +139,43 @@ same-length-3 c =
 returns-3 : tie.Need-returns-3
 returns-3 c =
     let r = refused c in
-    let w = widths r in
-    let q = measured w in
-    let k = searched (q .before) in
-    let z = exceeds (found k) (same q) (word k) (w .length-at .result) (w .length-at .ensures .0) (r .rewrite .ensures) (c .before .enum-told .given .1) in
-    long _ (told (found k) (same q) (word k)) (z .0) (ap (λ y. y .number) (c .outcome3 .ensures)) (z .1)
+    let d = chosen (widths r) in
+    let z = exceeds d (r .rewrite .ensures) (c .before .enum-told .given .1) in
+    long _ (told (d .at) (d .same) (d .word)) (z .0) (ap (λ y. y .number) (c .outcome3 .ensures)) (z .1)
 
 -- ---- it is done: the lengths on the way
 
 words-requires : tie.Need-words-requires
-words-requires c κs =
-    let y = c .before .before in
-    let r = done y in
-    let w = widths r in
-    let q = measured w in
-    let k = searched (q .before) in
-    placed-lies (found k) (same q) (word k) (w .length-at .result) (w .length-at .ensures .0) (r .rewrite .ensures) (y .r .given .0 .0) (y .r .given .1)
+words-requires c κs = let y = c .before .before in let r = done y in placed-lies (chosen (widths r)) (r .rewrite .ensures) (y .r .given .0 .0) (y .r .given .1)
 
 add-raise-way : tie.Need-add-raise-way
 add-raise-way c =
     let y = counted c in
     let r = done y in
     let w = widths r in
-    let q = measured w in
-    let k = searched (q .before) in
-    let z = placed-lies (found k) (same q) (word k) (w .length-at .result) (w .length-at .ensures .0) (r .rewrite .ensures) (y .r .given .0 .0) (y .r .given .1) in
+    let z = placed-lies (chosen w) (r .rewrite .ensures) (y .r .given .0 .0) (y .r .given .1) in
     omega (arith, w .length-at .ensures .1, c .words .ensures, z .low, z .high)
 
 words-requires-2 : tie.Need-words-requires-2
-words-requires-2 c κs = bounds (walked (reached (searched (measured (widths (done (counted c))) .before)) .before)) .gapped .lies
+words-requires-2 c κs = chosen (widths (done (counted c))) .at .found .points .measured .gapped .lies
 
 sub-raise-way : tie.Need-sub-raise-way
 sub-raise-way c =
     let y = counted (c .before) in
     let r = done y in
-    let w = widths r in
-    let q = measured w in
-    let k = searched (q .before) in
-    let z = placed-words (found k) (same q) (word k) (w .length-at .result) (w .length-at .ensures .0) (r .rewrite .ensures) (y .r .given .0 .0) (y .r .given .1) in
+    let z = placed-words (chosen (widths r)) (r .rewrite .ensures) (y .r .given .0 .0) (y .r .given .1) in
     omega (arith, c .before .words .ensures, c .words2 .ensures)
 
 -- by how much they are raised
-size : (c : tie.After-words2) → let y = counted (c .before) in let r = done y in let w = widths r in
-    c .before .words .result + w .length-at .result - c .words2 .result
-    ≡ wordsIn (y .r .given .0 .0) + w .length-at .result - wordsIn (found (searched (measured w .before)) .f .gap)
-size c = let w = widths (done (counted (c .before))) .length-at .result in λ i. c .before .words .ensures i + w - c .words2 .ensures i
+size : (c : tie.After-words2) → let y = counted (c .before) in let d = chosen (widths (done y)) in
+    c .before .words .result + d .width - c .words2 .result ≡ wordsIn (y .r .given .0 .0) + d .width - wordsIn (d .at .f .gap)
+size c = let d = chosen (widths (done (counted (c .before)))) in λ i. c .before .words .ensures i + d .width - c .words2 .ensures i
 
 raise-way-requires : tie.Need-raise-way-requires
 raise-way-requires c κs =
     let y = counted (c .before) in
     let r = done y in
-    let w = widths r in
-    let q = measured w in
-    let k = searched (q .before) in
-    way-raisable (found k) (same q) (word k) (w .length-at .result) (w .length-at .ensures .0) (r .rewrite .ensures) (y .r .given .0 .0) (y .r .given .1) _ (size c)
+    way-raisable (chosen (widths r)) (r .rewrite .ensures) (y .r .given .0 .0) (y .r .given .1) _ (size c)
 
 same-length-4 : tie.Need-same-length-4
 same-length-4 c =
@@ -204,13 +188,10 @@ returns-4 c =
     let u = raised (c .before) in
     let y = counted (u .before .before) in
     let r = done y in
-    let w = widths r in
-    let q = measured w in
-    let k = searched (q .before) in
-    let few = after-few (found k) (same q) (word k) (w .length-at .result) (w .length-at .ensures .0) (r .rewrite .ensures) (y .r .given .0 .0) (y .r .given .1) in
-    let v = way-raised (found k) (same q) (word k) (w .length-at .result) (w .length-at .ensures .0) (r .rewrite .ensures) (y .r .given .0 .0) (y .r .given .1) _
-    (size (u .before)) (u .raise-way .ensures) in
-    goes _ (told (found k) (same q) (word k)) few (ap (λ y. y .number) (c .outcome4 .ensures))
+    let d = chosen (widths r) in
+    let few = next-few d (r .rewrite .ensures) (y .r .given .0 .0) (y .r .given .1) in
+    let v = way-raised d (r .rewrite .ensures) (y .r .given .0 .0) (y .r .given .1) _ (size (u .before)) (u .raise-way .ensures) in
+    goes _ (told (d .at) (d .same) (d .word)) few (ap (λ y. y .number) (c .outcome4 .ensures))
     (subst (Points _ _ _) (sym (ap (λ y. y .finger) (c .outcome4 .ensures))) v)
 
 pub follow-spec : {M : Type 1} → statement M

@@ -1,5 +1,4 @@
 -- `retrace::halt` meets its contract.
-use borrow.Author.Needs.{needs}
 use Rattle.replay.proofs.retrace.Tracing.{halt-told, halt-none}
 use Rattle.replay.proofs.retrace.halt.Statement.{statement}
 use Rattle.replay.proofs.retrace.halt.Tie as tie

@@ -1,12 +1,11 @@
 -- `walk::climb` meets its contract. The loop's invariant: the area holds a way to the finger, which goes up, for each system for which it did.
 use native.Mathlib.Omega.{arith}
-use mathlib.Core.Path.{_≡_, sym, _∙_}
+use mathlib.Core.Path.{sym, _∙_}
 use borrow.Author.Needs.{needs}
 use Rattle.system.specs.System.{System}
 use Rattle.system.specs.Terms.{WellFormed}
-use Rattle.rows.specs.gap.Gaps.{termIn}
 use Rattle.replay.specs.declared.walk.Finger.{Finger}
-use Rattle.replay.specs.walk.Way.{PointsIn, Points}
+use Rattle.replay.specs.walk.Way.{PointsIn}
 use Rattle.replay.proofs.walk.Pointing.{Bounds, points-bounds, points-up}
 use Rattle.replay.proofs.walk.Climbing.{climbed-here, climbed-all}
 use Rattle.replay.proofs.walk.climb.Statement.{statement}

@@ -1,7 +1,5 @@
 -- `walk::find` meets its contract.
 use native.Mathlib.Omega.{arith}
-use mathlib.Core.Path.{_≡_, sym, _∙_, subst}
-use Prim.Native.Nat.{_<_, _≤_}
 use borrow.Author.Needs.{needs}
 use Rattle.system.specs.Book.{systemOf}
 use Rattle.system.proofs.layout.Books.{well}

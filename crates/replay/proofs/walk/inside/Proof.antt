@@ -1,6 +1,5 @@
 -- `walk::inside` meets its contract.
 use mathlib.Core.Path.{sym, _∙_}
-use borrow.Author.Needs.{needs}
 use Rattle.rows.specs.gap.Gaps.{termIn}
 use Rattle.rows.proofs.lengths.Measures.{measured-length}
 use Rattle.replay.proofs.walk.Insides.{within-before, within-read}
