@@ -27,7 +27,7 @@ use Rattle.matching.specs.declared.redexes.Redex.{Redex}
 use Rattle.matching.specs.Matching.{Contraction, contraction}
 use Rattle.matching.specs.redexes.Redexes.{redexOf}
 use Rattle.matching.specs.rules.Searches.{ruleNumber}
-use Rattle.matching.proofs.redexes.Finding.{redex-some, redex-number}
+use Rattle.matching.proofs.redexes.Found.{redex-some, redex-number}
 use Rattle.rewriting.specs.Rewriting.{Active}
 use Rattle.rewriting.proofs.Contractions.{first-there}
 use Rattle.rewriting.proofs.Ways.{way-active}
