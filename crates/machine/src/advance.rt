@@ -6,9 +6,11 @@ ghost use Rattle.machine.specs.advance.Area.{Tracks};
 ghost use Rattle.machine.specs.advance.Transition.{sinceAt, Performed};
 ghost use Rattle.machine.specs.advance.Arrivals.{Advances};
 ghost use Rattle.system.specs.layout.Index.{Indexed};
-use matching::FirstRule;
+use matching::redexes::BINDINGS;
 use matching::redexes::Redex;
+use matching::redexes::Spot;
 use matching::redexes::first_redex;
+use matching::rules::UNNUMBERED;
 use rows::gap::Gap;
 use rows::gap::word_at;
 use rows::lengths::COUNTS;
@@ -17,11 +19,13 @@ use system::Shape;
 use system::layout::entries::Entry;
 use system::layout::entries::entry_of;
 use system::limits::LEVELS;
-use system::limits::VARIABLES;
 use system::words::wide;
 
 // How many levels stand around the deepest one.
 const DEEPEST: usize = LEVELS - 1;
+
+// The words of a call's frame: the positions of the open levels, outermost first, and behind them the bindings of the match that was found last.
+pub const FRAME: usize = LEVELS + BINDINGS;
 
 // The state that an area holds, but for its words: where the gap in its rows is, and how many levels stand around the innermost one.
 pub struct State {
@@ -81,18 +85,18 @@ fn take_transition(
     shape: Shape,
     index: &[u16],
     area: &mut [u16],
-    positions: &mut [usize],
+    frame: &mut [u16],
     at: Innermost,
 ) -> Event
     requires { ⌜ Accepted (now book) shape × Indexed (now book) shape (now index)
-        × Tracks (systemOf (now book)) (now area) (now positions) (at .gap) (at .level) ⌝ }
-    ensures { λ r. ⌜ Performed (systemOf (now (book .entry))) at (now (area .entry)) (now (positions .entry)) r
-        (now (area .exit)) (now (positions .exit)) ⌝ }
+        × Tracks (systemOf (now book)) (now area) (now frame) (at .gap) (at .level) ⌝ }
+    ensures { λ r. ⌜ Performed (systemOf (now (book .entry))) at (now (area .entry)) (now (frame .entry)) r
+        (now (area .exit)) (now (frame .exit)) ⌝ }
 {
     let gap = at.gap;
     let level = at.level;
     let since = at.since;
-    let p = positions[level];
+    let p = wide(frame[level]);
     let c = area[COUNTS + level];
     let begun = c + 1;
     let w = word_at(area, gap, p);
@@ -116,7 +120,7 @@ fn take_transition(
             let q = hop(area, gap, p + 1, i);
             area[COUNTS + level] = begun;
             area[COUNTS + level + 1] = 0;
-            positions[level + 1] = q;
+            frame[level + 1] = q as u16;
             return Event::Argument;
         }
     }
@@ -131,12 +135,12 @@ pub fn advance(
     shape: Shape,
     index: &[u16],
     area: &mut [u16],
-    positions: &mut [usize],
+    frame: &mut [u16],
     state: State,
 ) -> Advanced
     requires { ⌜ Accepted (now book) shape × Indexed (now book) shape (now index)
-        × Tracks (systemOf (now book)) (now area) (now positions) (state .gap) (state .level) ⌝ }
-    ensures { λ r. ⌜ Advances (systemOf (now (book .entry))) state (now (area .entry)) r (now (area .exit)) (now (positions .exit)) ⌝ }
+        × Tracks (systemOf (now book)) (now area) (now frame) (state .gap) (state .level) ⌝ }
+    ensures { λ r. ⌜ Advances (systemOf (now (book .entry))) state (now (area .entry)) r (now (area .exit)) (now (frame .exit)) ⌝ }
 {
     let gap = state.gap;
     let mut level = state.level;
@@ -144,17 +148,22 @@ pub fn advance(
     let mut since = wide(area[COUNTS + level]);
     loop {
         let at = at_level(gap, level, floor, since);
-        let event = take_transition(book, shape, index, area, positions, at);
+        let event = take_transition(book, shape, index, area, frame, at);
         match event {
             Event::Repeated => {}
             Event::Rules => {
-                let redex = first_redex(book, shape, index, area, gap, positions[level]);
-                let found = redex.rule;
-                match found {
-                    FirstRule::Nothing => {}
-                    _ => {
-                        return ready(level, redex);
-                    }
+                let at = wide(frame[level]);
+                let spot = Spot { gap, at };
+                let redex = first_redex(
+                    book,
+                    shape,
+                    index,
+                    area,
+                    spot,
+                    &mut frame[LEVELS..FRAME],
+                );
+                if redex.number != UNNUMBERED {
+                    return ready(level, redex);
                 }
             }
             Event::Argument => {
@@ -194,9 +203,8 @@ fn stopped(stop: Stop, level: usize) -> Advanced
         stop,
         level,
         redex: Redex {
-            rule: FirstRule::Nothing,
-            starts: [0; VARIABLES],
-            lengths: [0; VARIABLES],
+            number: UNNUMBERED,
+            word: 0,
         },
     }
 }

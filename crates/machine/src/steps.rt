@@ -3,25 +3,27 @@ ghost use Prim.Native.Nat.{_≤_};
 ghost use lib.ListN.{length, take};
 ghost use Rattle.machine.specs.steps.Raised.{Raisable, Raised};
 ghost use Rattle.machine.specs.steps.Stepped.{Steppable, Steps};
+use crate::advance::FRAME;
 use crate::advance::State;
+use crate::rewrites::Site;
 use crate::rewrites::rewrite;
 use matching::redexes::Redex;
 use reducts::putting::Reduced;
-use reducts::putting::Subterm;
 use rows::gap::length_at;
 use rows::gap::words;
 use rows::lengths::COUNTS;
+use system::limits::LEVELS;
 use system::limits::TERM_WORDS;
 use system::words::wide;
 
 // The lengths of the symbols on the way: each is `width` less and `size` more.
-fn raise(area: &mut [u16], positions: &[usize], level: usize, width: usize, size: usize)
-    requires { ⌜ (level ≤ length (now positions)) × Raisable (now area) (take level (now positions)) width size ⌝ }
-    ensures { λ _. ⌜ Raised (now (area .entry)) (take level (now (positions .entry))) width size (now (area .exit)) ⌝ }
+fn raise(area: &mut [u16], frame: &[u16], level: usize, width: usize, size: usize)
+    requires { ⌜ (level ≤ length (now frame)) × Raisable (now area) (take level (now frame)) width size ⌝ }
+    ensures { λ _. ⌜ Raised (now (area .entry)) (take level (now (frame .entry))) width size (now (area .exit)) ⌝ }
 {
     let mut j = 0;
     while j < level {
-        let at = TERM_WORDS + positions[j];
+        let at = TERM_WORDS + wide(frame[j]);
         area[at] = (wide(area[at]) - width + size) as u16;
         j += 1;
     }
@@ -32,23 +34,29 @@ pub fn step(
     book: &[u16],
     index: &[u16],
     area: &mut [u16],
-    positions: &[usize],
+    frame: &[u16],
     state: State,
     m: Redex,
 ) -> Reduced
-    requires { ⌜ Steppable (now book) (now index) (now area) (now positions) state m ⌝ }
-    ensures { λ r. ⌜ Steps (now (book .entry)) (now (area .entry)) (now (positions .entry)) state r (now (area .exit)) ⌝ }
+    requires { ⌜ Steppable (now book) (now index) (now area) (now frame) state m ⌝ }
+    ensures { λ r. ⌜ Steps (now (book .entry)) (now (area .entry)) (now (frame .entry)) state r (now (area .exit)) ⌝ }
 {
     let gap = state.gap;
     let level = state.level;
-    let at = positions[level];
+    let at = wide(frame[level]);
     let width = length_at(area, gap, at);
-    let u = Subterm { level, at, width };
-    let r = rewrite(book, index, area, gap, u, m);
-    let Reduced::Done(g) = r else {
-        return Reduced::TooLong;
+    let site = Site {
+        gap,
+        level,
+        at,
+        width,
     };
-    raise(area, positions, level, width, words(g) + width - words(gap));
+    let r = rewrite(book, index, area, site, m, &frame[LEVELS..FRAME]);
+    if r.long {
+        return r;
+    }
+    let after = words(r.gap);
+    raise(area, frame, level, width, after + width - words(gap));
     area[COUNTS + level] = 0;
-    Reduced::Done(g)
+    r
 }

@@ -11,6 +11,7 @@ use Rattle.system.specs.Terms.{Whole}
 use Rattle.rows.specs.declared.gap.Gap.{Gap}
 use Rattle.rows.specs.gap.Gaps.{countsAt, termIn}
 use Rattle.rows.specs.lengths.Measured.{Measured}
+use Rattle.matching.specs.redexes.Redexes.{bindingWords}
 use Rattle.rewriting.specs.Machine.{Opened, strategyAt, position}
 use Rattle.system.specs.Limits.{areaWords, levels, termWords}
 
@@ -48,8 +49,12 @@ pub record Represents (s : System) (ws : List ℕ) (gap : Gap) (level : ℕ) : T
   pub valid : Valid s (termIn ws gap) (outerIn ws level) (countIn ws level)
   pub levels : length (outerIn ws level) ≡ level
 
+-- the words of a call's frame: the positions of the open levels, outermost first, and behind them the bindings of the match that was found last
+abbrev pub frameWords : ℕ
+frameWords = levels + bindingWords
+
 -- and the positions of its levels
 pub record Tracks (s : System) (ws positions : List ℕ) (gap : Gap) (level : ℕ) : Type 0 where
   pub represents : Represents s ws gap level
-  pub slots : length positions ≡ levels
+  pub slots : length positions ≡ frameWords
   pub positioned : Positioned s (termIn ws gap) (outerIn ws level) positions

@@ -6,7 +6,8 @@ use mathlib.Core.List.{List, [], _∷_, _++_}
 use lib.ListN.{length, drop}
 use Rattle.system.specs.System.{System}
 use Rattle.matching.specs.Matching.{Contraction, contraction}
-use Rattle.matching.specs.redexes.Redexes.{redexOf}
+use Rattle.matching.specs.Bindings.{matchOf}
+use Rattle.matching.specs.redexes.Redexes.{redexOf, Bound}
 use Rattle.system.specs.Limits.{levels}
 use Rattle.machine.specs.declared.advance.State.{State}
 use Rattle.machine.specs.declared.advance.Advanced.{Advanced}
@@ -38,6 +39,7 @@ pub record ReadyAt (s : System) (at : State) (ws : List ℕ) (r : Advanced) (ws�
   pub next : comes s at ws ≡ ready outer begun x
   pub level : r .level ≡ length outer
   pub redex : r .redex ≡ redexOf s (drop (position s (termIn ws (at .gap)) outer 0) (termIn ws (at .gap)))
+  pub bound : Bound (matchOf s (drop (position s (termIn ws (at .gap)) outer 0) (termIn ws (at .gap)))) (drop levels positions′)
   pub contracts : contraction s (drop (position s (termIn ws (at .gap)) outer 0) (termIn ws (at .gap))) ≡ some x
   pub stands : Stands (s .arities) ws′ (at .gap) (termIn ws (at .gap)) (outer ++ begun ∷ [])
   pub holds : Tracks s ws′ positions′ (at .gap) (r .level)

@@ -15,21 +15,26 @@ use Rattle.rows.specs.gap.Gaps.{termIn}
 use Rattle.rows.specs.lengths.Measured.{Measured}
 use Rattle.matching.specs.declared.redexes.Redex.{Redex}
 use Rattle.matching.specs.Matching.{Contraction, contraction}
-use Rattle.matching.specs.redexes.Redexes.{redexOf}
+use Rattle.matching.specs.Bindings.{matchOf}
+use Rattle.matching.specs.redexes.Redexes.{redexOf, bindingWords, Bound}
 use Rattle.reducts.specs.declared.putting.Reduced.{Reduced}
-use Rattle.reducts.specs.declared.putting.Reduced.the-variants.{Done, TooLong}
 use Rattle.reducts.specs.declared.putting.Subterm.{Subterm}
+use Rattle.machine.specs.declared.rewrites.Site.{Site}
 use Rattle.rewriting.specs.Rewriting.{Active}
-use Rattle.reducts.specs.putting.Replaced.{Placed}
+use Rattle.reducts.specs.putting.Replaced.{Done, TooLong, Placed}
 use Rattle.system.specs.Limits.{areaWords, termWords}
+
+-- the subterm at a site
+abbrev pub subtermOf : Site → Subterm
+subtermOf site = record { level = site .level; at = site .at; width = site .width }
 
 -- x is the first rule that matches at the subterm, and its reduct
 abbrev pub Contracts : List ℕ → List ℕ → Gap → Subterm → Contraction → Type 0
 Contracts book ws gap u x = contraction (systemOf book) (drop (u .at) (termIn ws gap)) ≡ some x
 
 -- the rows hold a whole term with true lengths; u is the subterm at an active position, with no more levels around it than words before it,
--- and m the match that was found there. What the third row holds does not matter
-pub record Reducible (book index ws : List ℕ) (gap : Gap) (u : Subterm) (m : Redex) : Type 0 where
+-- m the match that was found there, and bs its bindings. What the third row holds does not matter
+pub record Reducible (book index ws : List ℕ) (gap : Gap) (u : Subterm) (m : Redex) (bs : List ℕ) : Type 0 where
   pub shape : Shape
   pub accepted : Accepted book shape
   pub indexed : Indexed book shape index
@@ -39,6 +44,8 @@ pub record Reducible (book index ws : List ℕ) (gap : Gap) (u : Subterm) (m : R
   pub active : Active (systemOf book) (termIn ws gap) (u .at)
   pub around : u .level ≤ u .at
   pub match : m ≡ redexOf (systemOf book) (drop (u .at) (termIn ws gap))
+  pub bound : Bound (matchOf (systemOf book) (drop (u .at) (termIn ws gap))) bs
+  pub many : length bs ≡ bindingWords
   pub wide : u .width ≡ span (systemOf book .arities) (drop (u .at) (termIn ws gap)) 1
   pub x : Contraction
   pub contracts : Contracts book ws gap u x

@@ -5,7 +5,7 @@ use mathlib.Core.Option.{some}
 use mathlib.Core.List.{List, [], _∷_, _++_}
 use lib.ListN.{length, getD, drop}
 use Rattle.system.specs.declared.Shape.{Shape}
-use Rattle.system.specs.Limits.{areaWords, termWords}
+use Rattle.system.specs.Limits.{areaWords, levels, termWords}
 use Rattle.system.specs.Signature.{replace}
 use Rattle.system.specs.System.{System}
 use Rattle.system.specs.Book.{systemOf, Accepted}
@@ -14,9 +14,10 @@ use Rattle.rows.specs.declared.gap.Gap.{Gap}
 use Rattle.rows.specs.gap.Gaps.{termIn}
 use Rattle.matching.specs.declared.redexes.Redex.{Redex}
 use Rattle.matching.specs.Matching.{Contraction, contraction}
-use Rattle.matching.specs.redexes.Redexes.{redexOf}
+use Rattle.matching.specs.Bindings.{matchOf}
+use Rattle.matching.specs.redexes.Redexes.{redexOf, Bound}
 use Rattle.reducts.specs.declared.putting.Reduced.{Reduced}
-use Rattle.reducts.specs.declared.putting.Reduced.the-variants.{Done, TooLong}
+use Rattle.reducts.specs.putting.Replaced.{Done, TooLong}
 use Rattle.machine.specs.declared.advance.State.{State}
 use Rattle.machine.specs.advance.Area.{outerIn, Stands, Tracks}
 
@@ -34,6 +35,7 @@ pub record Steppable (book index ws positions : List ℕ) (state : State) (m : R
   pub indexed : Indexed book shape index
   pub tracks : Tracks (systemOf book) ws positions (state .gap) (state .level)
   pub match : m ≡ redexOf (systemOf book) (subtermHere ws positions state)
+  pub bound : Bound (matchOf (systemOf book) (subtermHere ws positions state)) (drop levels positions)
   pub x : Contraction
   pub contracts : contraction (systemOf book) (subtermHere ws positions state) ≡ some x
 
