@@ -9,7 +9,7 @@ use lib.Seq.{take-all, take-suc, length-take-le, append-snoc}
 use Rattle.system.specs.declared.Shape.{Shape}
 use Rattle.system.specs.System.{System}
 use Rattle.matching.specs.declared.redexes.Redex.{Redex}
-use Rattle.matching.specs.declared.FirstRule.the-variants.{Nothing}
+use Rattle.matching.specs.rules.Searches.{unnumbered}
 use Rattle.system.specs.Book.{systemOf, Accepted}
 use Rattle.matching.specs.redexes.Redexes.{redexOf}
 use Rattle.machine.specs.declared.advance.State.{State}
@@ -30,7 +30,7 @@ use Rattle.system.proofs.layout.entries.Asks.{stood}
 use Rattle.machine.proofs.advance.Skipping.{Skips, Skipped, skipped-start, skipped-again, skipped-more, skipped-open, skipped-left}
 use Rattle.machine.proofs.advance.Measure.{remaining, less-end, less-entry, less-argument}
 use Rattle.machine.proofs.advance.Advances.{advance-pop, advance-pass, advance-open}
-use Rattle.machine.proofs.advance.Areas.{held-outer, held-count}
+use Rattle.machine.proofs.advance.Areas.{held-outer, held-count, SamePositions, tracks-frame}
 use Rattle.machine.proofs.advance.Bounds.{Bounds, bounds}
 use Rattle.machine.proofs.advance.Transitions.{Entered, entered-by}
 use Rattle.machine.proofs.advance.Trying.{tried-none}
@@ -73,11 +73,14 @@ pub record Round : Type 0 where
   pub event : Event
   pub ws′ : List ℕ
   pub positions′ : List ℕ
+  -- the frame then, whose bindings the rules that were tried may have changed
+  pub frame : List ℕ
+  pub framed : SamePositions positions′ frame
   pub performed : Performed (systemOf book) (record { gap = state .gap; level = level; since = sinceAt floor since level }) ws positions event ws′ positions′
 
 -- it goes on: the same is kept, with fewer transitions left
 pub record Goes (τ : Round) (level floor since : ℕ) : Type 0 where
-  pub on : Advancing (systemOf (τ .book)) (τ .state) (τ .ws₀) (τ .ws′) (τ .positions′) level floor since
+  pub on : Advancing (systemOf (τ .book)) (τ .state) (τ .ws₀) (τ .ws′) (τ .frame) level floor since
   pub less : remainingIn (systemOf (τ .book)) (τ .ws′) (τ .state .gap) level < remainingIn (systemOf (τ .book)) (τ .ws) (τ .state .gap) (τ .level)
 
 module _ (τ : Round) where
@@ -163,7 +166,7 @@ module _ (τ : Round) where
         let counts′ : outerIn ws′ level′ ++ countIn ws′ level′ ∷ [] ≡ outer′ ++ c′ ∷ [] = (λ j. outer-is j ++ count-is j ∷ []) in
         record {
           on = record {
-            held = h;
+            held = tracks-frame h (τ .framed);
             term = term′ ∙ τ .kept .term;
             same = (λ j. advance s 64 (counts′ j) (term′ j) 0) ∙ sym e ∙ τ .kept .same;
             skipped = rw (term′, outer-is, count-is) w;
@@ -275,7 +278,7 @@ module _ (τ : Round) where
         λ j. drop (position s (et j) (eo j) 0) (et j)
 
     -- none matches
-    pub goes-rules : (r : Redex) → r ≡ redexOf s (drop p (termIn ws′ gap)) → r .rule ≡ Nothing → Goes τ level floor since
+    pub goes-rules : (r : Redex) → r ≡ redexOf s (drop p (termIn ws′ gap)) → r .number ≡ unnumbered → Goes τ level floor since
     goes-rules r is q =
         let x = told Rules e in
         let no = tried-none (τ .book) (τ .shape) (τ .accepted) ws′ positions′ gap level tries-held r is q in

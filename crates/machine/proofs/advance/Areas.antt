@@ -6,14 +6,14 @@ use mathlib.Core.Path.{_≡_, refl, sym, ap, _∙_, subst}
 use mathlib.Core.List.{List, [], _∷_, _++_}
 use lib.ListN.{length, getD, take, drop, set, length-append, length-drop, length-set}
 use lib.Seq.{take-take, take-set-le, take-suc-set, take-suc, take-append-seam, drop-set-add, getD-take, getD-drop, getD-at}
-use Rattle.system.specs.Limits.{areaWords, termWords}
+use Rattle.system.specs.Limits.{areaWords, levels, termWords}
 use Rattle.system.specs.Signature.{Signature}
 use Rattle.system.specs.System.{System}
 use Rattle.rows.specs.declared.gap.Gap.{Gap}
 use Rattle.rows.specs.gap.Gaps.{countsAt, termIn}
 use Rattle.rows.specs.lengths.Measured.{Measured}
 use Rattle.rows.proofs.lengths.Measures.{measured-counts, term-counts}
-use Rattle.machine.specs.advance.Area.{outerIn, countIn, Stands, Valid, Positioned, Represents, Tracks}
+use Rattle.machine.specs.advance.Area.{outerIn, countIn, Stands, Valid, Positioned, Represents, frameWords, Tracks}
 
 -- the words behind the rows
 third : (ws : List ℕ) → length ws ≡ areaWords → length (drop countsAt ws) ≡ termWords
@@ -85,7 +85,7 @@ module _ {s : System} {ws : List ℕ} {gap : Gap} {t : List ℕ} (outer : List �
         levels = ap length (held-outer outer c is levels) ∙ levels;
       }
 
-  pub holds : (positions : List ℕ) → length positions ≡ 64 → Positioned s t outer positions → Tracks s ws positions gap level
+  pub holds : (positions : List ℕ) → length positions ≡ frameWords → Positioned s t outer positions → Tracks s ws positions gap level
   holds positions slots at = record {
     represents = represents;
     slots = slots;
@@ -105,3 +105,22 @@ stands-state {s} {ws} {gap} {level} h =
       counts = ap (λ y. take y (drop countsAt ws)) n ∙ take-suc (drop countsAt ws) level 0 (let y = third ws (h .total) in omega (arith, h .levels))
           ∙ ap (λ y. outerIn ws level ++ y ∷ []) (getD-drop countsAt ws level 0);
     }
+
+-- ---- a frame whose bindings may have changed: the positions stay
+
+pub record SamePositions (frame frame′ : List ℕ) : Type 0 where
+  pub size : length frame′ ≡ length frame
+  pub front : take levels frame′ ≡ take levels frame
+
+pub same-positions : (frame : List ℕ) → SamePositions frame frame
+same-positions frame = record { size = refl; front = refl }
+
+pub tracks-frame : {s : System} {ws frame : List ℕ} {gap : Gap} {level : ℕ} {frame′ : List ℕ} → Tracks s ws frame gap level → SamePositions frame frame′ →
+    Tracks s ws frame′ gap level
+tracks-frame {s} {ws} {frame} {gap} {level} {frame′} h e = record {
+  represents = h .represents;
+  slots = e .size ∙ h .slots;
+  positioned = λ k l.
+      let m : k < levels = (let z = h .represents .valid .room in omega arith) in
+      sym (getD-take levels frame′ k 0 m) ∙ ap (λ y. getD y k 0) (e .front) ∙ getD-take levels frame k 0 m ∙ h .positioned k l;
+}

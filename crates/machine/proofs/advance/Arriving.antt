@@ -6,10 +6,12 @@ use mathlib.Core.List.{List, [], _∷_, _++_}
 use lib.ListN.{length, getD, drop, length-append}
 use Rattle.system.specs.System.{System}
 use Rattle.matching.specs.declared.redexes.Redex.{Redex}
-use Rattle.matching.specs.declared.FirstRule.the-variants.{Nothing}
+use Rattle.matching.specs.rules.Searches.{unnumbered}
 use Rattle.system.specs.Book.{systemOf}
 use Rattle.matching.specs.Matching.{contraction}
-use Rattle.matching.specs.redexes.Redexes.{redexOf}
+use Rattle.matching.specs.Bindings.{matchOf}
+use Rattle.matching.specs.redexes.Redexes.{redexOf, Bound}
+use Rattle.system.specs.Limits as limits
 use Rattle.machine.specs.declared.advance.Advanced.{Advanced}
 use Rattle.machine.specs.declared.advance.Event.the-variants.{End, Rules, TooDeep}
 use Rattle.machine.specs.declared.advance.Stop.the-variants.{Final, Deep, Ready}
@@ -19,8 +21,9 @@ use Rattle.rows.specs.gap.Gaps.{termIn}
 use Rattle.machine.specs.advance.Area.{outerIn, countIn, Stands, Valid}
 use Rattle.machine.specs.advance.Transition as to
 use Rattle.machine.specs.advance.Arrivals.{Arrives, Advances}
+use Rattle.machine.proofs.advance.Areas.{tracks-frame}
 use Rattle.machine.proofs.advance.Advances.{advance-end, advance-pop, advance-fire, advance-too-deep}
-use Rattle.machine.proofs.advance.Trying.{tried-match, tried-some}
+use Rattle.machine.proofs.advance.Trying.{tried-match, tried-bound, tried-some}
 use Rattle.machine.proofs.advance.Advancing.{Round, told, stands, holds-there, tries-is, tries-held, same-subterm}
 
 module _ (τ : Round) where
@@ -40,7 +43,7 @@ module _ (τ : Round) where
   c = countIn (τ .ws) (τ .level)
 
   abbrev Came : Advanced → Type 0
-  Came r = Advances s (τ .state) (τ .ws₀) r (τ .ws′) (τ .positions′)
+  Came r = Advances s (τ .state) (τ .ws₀) r (τ .ws′) (τ .frame)
 
   valid : Valid s t outer c
   valid = τ .kept .held .represents .valid
@@ -53,7 +56,7 @@ module _ (τ : Round) where
   arrives-end e h r stop =
       let x = told τ End e in
       let none-around : outer ≡ [] = ap (λ y. outerIn (τ .ws) y) h in
-      subst (λ y. Arrives y s (τ .state) (τ .ws₀) r (τ .ws′) (τ .positions′)) (sym stop) (record {
+      subst (λ y. Arrives y s (τ .state) (τ .ws₀) r (τ .ws′) (τ .frame)) (sym stop) (record {
         next = sym (τ .kept .same) ∙ advance-pop s t 64 0 outer c (valid .room) (x .0) ∙ ap (λ y. advance s 64 y t 0) none-around ∙ advance-end s t 64 0;
         stands = subst₂ (Stands (s .arities) (τ .ws′) gap) (τ .kept .term) none-around (stands τ (to.end outer) (x .1));
       })
@@ -64,7 +67,7 @@ module _ (τ : Round) where
       let x = told τ TooDeep e in
       let l : length (outer ++ c ∷ []) ≡ suc (r .level) = rw (length-append outer (c ∷ [])) (omega (arith, levels)) in
       let g = valid .room in
-      subst (λ y. Arrives y s (τ .state) (τ .ws₀) r (τ .ws′) (τ .positions′)) (sym stop) (record {
+      subst (λ y. Arrives y s (τ .state) (τ .ws₀) r (τ .ws′) (τ .frame)) (sym stop) (record {
         next = sym (τ .kept .same) ∙ advance-too-deep s t 64 0 outer c (valid .room) (x .1) (x .0) (x .2) (omega arith);
         represents = holds-there τ to.tooDeep (x .4) (r .level) l .represents;
       })
@@ -76,12 +79,14 @@ module _ (τ : Round) where
         ≡ drop (position s (termIn (τ .ws₀) gap) outer 0) (termIn (τ .ws₀) gap)
     subterm-is = same-subterm τ e ∙ (λ j. drop (position s (τ .kept .term j) outer 0) (τ .kept .term j))
 
-    pub arrives-ready : (m .rule ≡ Nothing → ⊥) → (r : Advanced) → r ≡ record { stop = Ready; level = τ .level; redex = m } → Came r
-    arrives-ready q r made =
+    pub arrives-ready : (m .number ≡ unnumbered → ⊥) → Bound (matchOf s (drop (getD (τ .positions′) (τ .level) 0) (termIn (τ .ws′) gap))) (drop limits.levels (τ .frame)) →
+        (r : Advanced) → r ≡ record { stop = Ready; level = τ .level; redex = m } → Came r
+    arrives-ready q binds r made =
         let x = told τ Rules e in
         let held = tries-held τ e in
         let found = tried-match (τ .book) (τ .shape) (τ .accepted) (τ .ws′) (τ .positions′) gap (τ .level) held m is in
         let some = tried-some (τ .book) (τ .shape) (τ .accepted) (τ .ws′) (τ .positions′) gap (τ .level) held m is q in
+        let bound = tried-bound (τ .book) (τ .shape) (τ .accepted) (τ .ws′) (τ .positions′) gap (τ .level) held m is (drop limits.levels (τ .frame)) binds in
         let here = ap (contraction s) (sym (same-subterm τ e)) ∙ some .1 in
         subst Came (sym made) (record {
           outer = outer;
@@ -90,7 +95,8 @@ module _ (τ : Round) where
           next = sym (τ .kept .same) ∙ advance-fire s t 64 0 outer c (valid .room) (x .0) (some .0) (x .1) here;
           level = sym levels;
           redex = found ∙ ap (redexOf s) subterm-is;
+          bound = subst (λ y. Bound (matchOf s y) (drop limits.levels (τ .frame))) subterm-is bound;
           contracts = ap (contraction s) (sym subterm-is) ∙ some .1;
           stands = subst (λ y. Stands (s .arities) (τ .ws′) gap y (outer ++ suc c ∷ [])) (τ .kept .term) (tries-is τ e);
-          holds = held;
+          holds = tracks-frame held (τ .framed);
         })

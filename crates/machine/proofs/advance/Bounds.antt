@@ -14,12 +14,12 @@ use Rattle.rewriting.specs.Machine.{position}
 use Rattle.rows.specs.declared.gap.Gap.{Gap}
 use Rattle.rows.specs.gap.Gaps.{termIn, wordsIn, Gapped}
 use Rattle.rows.proofs.gap.Closed.{closed-length}
-use Rattle.machine.specs.advance.Area.{outerIn, countIn, Valid, Tracks}
+use Rattle.machine.specs.advance.Area.{outerIn, countIn, Valid, frameWords, Tracks}
 use Rattle.machine.proofs.advance.States.{valid-within}
 
 pub record Bounds (ws positions : List ℕ) (gap : Gap) (level : ℕ) : Type 0 where
   pub total : length ws ≡ areaWords
-  pub slots : length positions ≡ 64
+  pub slots : length positions ≡ frameWords
   pub gapped : Gapped ws gap
   pub shallow : level < 64
   pub within : getD positions level 0 < wordsIn gap

@@ -1,6 +1,6 @@
 -- Trying the rules at the innermost level: what the first rule that matches the subterm at its position tells.
 use Prim.Native.Nat.{ℕ}
-use mathlib.Core.Path.{_≡_, sym, ap, _∙_}
+use mathlib.Core.Path.{_≡_, ap, _∙_, subst}
 use mathlib.Core.Option.{none, some}
 use mathlib.Core.List.{List}
 use lib.ListN.{getD, drop}
@@ -10,9 +10,10 @@ use Rattle.system.specs.Book.{systemOf, Accepted}
 use Rattle.rows.specs.declared.gap.Gap.{Gap}
 use Rattle.rows.specs.gap.Gaps.{termIn}
 use Rattle.matching.specs.declared.redexes.Redex.{Redex}
-use Rattle.matching.specs.declared.FirstRule.the-variants.{Nothing}
+use Rattle.matching.specs.rules.Searches.{unnumbered}
 use Rattle.matching.specs.Matching.{Contraction, contraction}
-use Rattle.matching.specs.redexes.Redexes.{redexOf}
+use Rattle.matching.specs.Bindings.{matchOf}
+use Rattle.matching.specs.redexes.Redexes.{redexOf, Bound}
 use Rattle.matching.proofs.redexes.Found.{redex-none, redex-some}
 use Rattle.rewriting.specs.Machine.{position}
 use Rattle.machine.specs.advance.Area.{outerIn, Tracks}
@@ -33,12 +34,15 @@ module _ (b : List ℕ) (sh : Shape) (acc : Accepted b sh) (ws positions : List 
   front = ap (λ y. drop y (termIn ws gap)) (spot b sh acc ws positions gap level v)
 
   module _ (m : Redex) (is : m ≡ redexOf s (drop p (termIn ws gap))) where
+    pub tried-bound : (bs : List ℕ) → Bound (matchOf s (drop p (termIn ws gap))) bs → Bound (matchOf s subterm) bs
+    tried-bound bs h = subst (λ y. Bound (matchOf s y) bs) front h
+
     pub tried-match : m ≡ redexOf s subterm
     tried-match = is ∙ ap (redexOf s) front
 
-    pub tried-none : m .rule ≡ Nothing → contraction s subterm ≡ none
+    pub tried-none : m .number ≡ unnumbered → contraction s subterm ≡ none
     tried-none q = redex-none b sh acc subterm m tried-match q
 
     -- one matches, listed or built in
-    pub tried-some : (m .rule ≡ Nothing → ⊥) → (x : Contraction) × (contraction s subterm ≡ some x)
+    pub tried-some : (m .number ≡ unnumbered → ⊥) → (x : Contraction) × (contraction s subterm ≡ some x)
     tried-some f = redex-some b sh acc subterm m tried-match f

@@ -22,13 +22,13 @@ use Rattle.matching.proofs.Matched.{instance-nil, instance-symbol}
 use Rattle.matching.proofs.Reducts.{match-word, match-value}
 use Rattle.reducts.specs.declared.putting.Reduced.{Reduced}
 use Rattle.reducts.specs.declared.putting.Subterm.{Subterm}
-use Rattle.reducts.specs.declared.writing.Stretches.{Stretches}
+use Rattle.reducts.specs.writing.Reduct.{Stretches, stretchesIn}
 use Rattle.reducts.specs.sides.Sides.{Sided}
 use Rattle.reducts.specs.putting.Replaced.{filling, Puttable, spliced, Placed, Put, fits, exceeds}
 use Rattle.machine.specs.rewrites.Rewritten.{Contracts, Reducible, rewritten, Rewrites, done, long}
-use Rattle.machine.proofs.rewrites.Redexes.{stretchesOf, measured, words, small, ends, starts-many, lengths-many, found}
+use Rattle.machine.proofs.rewrites.Redexes.{measured, words, small, ends, starts-many, lengths-many, found}
 
-module _ {book index ws : List ℕ} {gap : Gap} {u : Subterm} {m : Redex} (asked : Reducible book index ws gap u m) where
+module _ {book index ws : List ℕ} {gap : Gap} {u : Subterm} {m : Redex} {bs : List ℕ} (asked : Reducible book index ws gap u m bs) where
   abbrev s : System
   s = systemOf book
 
@@ -47,10 +47,7 @@ module _ {book index ws : List ℕ} {gap : Gap} {u : Subterm} {m : Redex} (asked
       (subst (λ y. Placed (signatureOf book) ws t y (u .at) (u .level) gap′ ws′) z h))
   put-rewrites side width c is r ws′ (exceeds l q h) x e = long (subst (λ y. termWords < length y) (is x e) l) q h
 
-  module _ {k w : ℕ} (f : m .rule ≡ Computed k w) where
-    F : found asked .rule ≡ Computed k w
-    F = ap (λ y. y .rule) (sym (asked .match)) ∙ f
-
+  module _ {k w : ℕ} (F : found asked .rule ≡ Computed k w) where
     low : w < variable
     low = match-value book (asked .shape) (asked .accepted) (drop (u .at) t) (found asked) refl F
 
@@ -68,7 +65,7 @@ module _ {book index ws : List ℕ} {gap : Gap} {u : Subterm} {m : Redex} (asked
         go e q first = omega (arith, low)
         go e q (later h) = member-nil h
 
-    pub word-puttable : Puttable (signatureOf book) (w ∷ []) ws gap u (stretchesOf m)
+    pub word-puttable : Puttable (signatureOf book) (w ∷ []) ws gap u (stretchesIn bs)
     word-puttable = record {
       total = asked .total;
       measured = measured asked;
@@ -80,10 +77,10 @@ module _ {book index ws : List ℕ} {gap : Gap} {u : Subterm} {m : Redex} (asked
       filled = λ v h. absurd (no-variable v h);
     }
 
-    pub word-rewritten : (x : Contraction) → Contracts book ws gap u x → spliced (w ∷ []) t u (stretchesOf m) ≡ rewritten s ws gap u x
+    pub word-rewritten : (x : Contraction) → Contracts book ws gap u x → spliced (w ∷ []) t u (stretchesIn bs) ≡ rewritten s ws gap u x
     unfolding replace
     word-rewritten x c =
-        let σ = filling t u (stretchesOf m) in
+        let σ = filling t u (stretchesIn bs) in
         let e : instance σ (w ∷ []) ≡ w ∷ [] = instance-symbol σ w [] low ∙ ap (λ r. w ∷ r) (instance-nil σ) in
         let y = match-word book (asked .shape) (asked .accepted) (drop (u .at) t) (found asked) refl F in
         let z : record { number = k; reduct = w ∷ [] } ≡ x = cc y in

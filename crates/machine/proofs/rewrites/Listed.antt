@@ -28,12 +28,14 @@ use Rattle.matching.proofs.Words.{instance-append}
 use Rattle.matching.proofs.Splits.{match-whole, match-contracts, match-inside, match-law, match-known, match-split, match-fits, split-redex, split-front, split-length}
 use Rattle.reducts.specs.declared.putting.Subterm.{Subterm}
 use Rattle.reducts.specs.sides.Sides.{Sided}
+use Rattle.reducts.specs.writing.Reduct.{stretchesIn}
 use Rattle.reducts.specs.putting.Replaced.{filling, Filled, Puttable, spliced}
 use Rattle.machine.specs.rewrites.Rewritten.{Contracts, Reducible, rewritten}
-use Rattle.machine.proofs.rewrites.Redexes.{stretchesOf, measured, redex-here, redex-parted, words, small, width-here, ends, redex-behind, found, found-here}
+use Rattle.machine.proofs.rewrites.Redexes.{measured, redex-here, redex-parted, words, small, width-here, ends, redex-behind, found, found-here}
 use Rattle.machine.proofs.rewrites.Redexes.{starts-are, lengths-are, starts-many, lengths-many, filling-is}
 
-module _ {book index ws : List ℕ} {gap : Gap} {u : Subterm} {m : Redex} (asked : Reducible book index ws gap u m) {k rhs size : ℕ} (f : m .rule ≡ First k rhs size) where
+module _ {book index ws : List ℕ} {gap : Gap} {u : Subterm} {m : Redex} {bs : List ℕ} (asked : Reducible book index ws gap u m bs)
+    {k rhs size : ℕ} (F : found asked .rule ≡ First k rhs size) where
   abbrev s : System
   s = systemOf book
 
@@ -57,9 +59,6 @@ module _ {book index ws : List ℕ} {gap : Gap} {u : Subterm} {m : Redex} (asked
 
   abbrev M : Match
   M = found asked
-
-  F : M .rule ≡ First k rhs size
-  F = ap (λ y. y .rule) (sym (asked .match)) ∙ f
 
   whole : Whole g here
   whole = redex-here asked .whole
@@ -91,14 +90,14 @@ module _ {book index ws : List ℕ} {gap : Gap} {u : Subterm} {m : Redex} (asked
     side = take j right
 
     abbrev kept : ℕ
-    kept = reductLength (m .lengths) (drop j right)
+    kept = reductLength (stretchesIn bs .lengths) (drop j right)
 
     -- the words that are replaced
     abbrev front : Subterm
     front = record { level = u .level; at = u .at; width = u .width - kept }
 
     kept-is : kept ≡ reductLength (M .lengths) (drop i left)
-    kept-is = (λ x. reductLength (lengths-are asked x) (sym alike x))
+    kept-is = (λ x. reductLength (lengths-are asked F x) (sym alike x))
 
     pub front-width : u .width ≡ reductLength (M .lengths) (take i left) + kept
     front-width =
@@ -113,21 +112,21 @@ module _ {book index ws : List ℕ} {gap : Gap} {u : Subterm} {m : Redex} (asked
         match-known book (asked .shape) (asked .accepted) behind whole M (found-here asked) F v
         (subst (Member (variable + v)) (take-append-drop j right) (member-front (drop j right) h))
 
-    pub side-filled : (v : ℕ) → Member (variable + v) side → Filled (signatureOf book) t front (stretchesOf m) v
+    pub side-filled : (v : ℕ) → Member (variable + v) side → Filled (signatureOf book) t front (stretchesIn bs) v
     side-filled v h =
         let l = side-member v h in
         let fits = match-fits book (asked .shape) (asked .accepted) behind whole M (found-here asked) F v in
         let split = match-split book (asked .shape) (asked .accepted) behind whole M (found-here asked) F i v in
-        let es = ap (λ y. getD y v 0) (starts-are asked) in
-        let el = ap (λ y. getD y v 0) (lengths-are asked) in
+        let es = ap (λ y. getD y v 0) (starts-are asked F) in
+        let el = ap (λ y. getD y v 0) (lengths-are asked F) in
         record {
-          whole = subst (λ y. Whole y (filling t front (stretchesOf m) v)) (signature book (asked .shape) (asked .accepted))
-              (subst (Whole g) (sym (filling-is asked v)) (match-whole book (asked .shape) (asked .accepted) behind whole M (found-here asked) F v l));
+          whole = subst (λ y. Whole y (filling t front (stretchesIn bs) v)) (signature book (asked .shape) (asked .accepted))
+              (subst (Whole g) (sym (filling-is asked F v)) (match-whole book (asked .shape) (asked .accepted) behind whole M (found-here asked) F v l));
           within = omega (arith, fits, es, el, width-here asked, ends asked);
           parted = rw (es, el, front-is) split;
         }
 
-    pub side-puttable : Sided side → Puttable (signatureOf book) side ws gap front (stretchesOf m)
+    pub side-puttable : Sided side → Puttable (signatureOf book) side ws gap front (stretchesIn bs)
     side-puttable sided = record {
       total = asked .total;
       measured = measured asked;
@@ -140,10 +139,10 @@ module _ {book index ws : List ℕ} {gap : Gap} {u : Subterm} {m : Redex} (asked
     }
 
     -- the term then is the rewrite
-    reduct-is : instance σ right ≡ instance (filling t u (stretchesOf m)) side ++ instance σ (drop i left)
+    reduct-is : instance σ right ≡ instance (filling t u (stretchesIn bs)) side ++ instance σ (drop i left)
     reduct-is =
         ap (instance σ) (sym (take-append-drop j right)) ∙ instance-append σ side (drop j right)
-        ∙ (λ x. instance-cong σ (filling t u (stretchesOf m)) side (λ w n h e. sym (filling-is asked n)) x ++ instance σ (sym alike x))
+        ∙ (λ x. instance-cong σ (filling t u (stretchesIn bs)) side (λ w n h e. sym (filling-is asked F n)) x ++ instance σ (sym alike x))
 
     rest-is : instance σ (drop i left) ++ behind ≡ drop (u .at + (u .width - kept)) t
     rest-is =
@@ -153,11 +152,11 @@ module _ {book index ws : List ℕ} {gap : Gap} {u : Subterm} {m : Redex} (asked
         sym (sym (drop-drop w (u .at) t) ∙ ap (drop w) (redex-parted asked ∙ ap (λ y. y ++ behind) h ∙ append-assoc (instance σ (take i left)) (instance σ (drop i left)) behind)
         ∙ drop-at (instance σ (take i left)) (instance σ (drop i left) ++ behind) w n)
 
-    pub side-rewritten : (x : Contraction) → Contracts book ws gap u x → spliced side t front (stretchesOf m) ≡ rewritten s ws gap u x
+    pub side-rewritten : (x : Contraction) → Contracts book ws gap u x → spliced side t front (stretchesIn bs) ≡ rewritten s ws gap u x
     unfolding replace
     side-rewritten x c =
         let z : record { number = k; reduct = instance σ right } ≡ x = cc (listed-contracts) in
-        let v = instance (filling t u (stretchesOf m)) side in
+        let v = instance (filling t u (stretchesIn bs)) side in
         append-assoc (take (u .at) t) v (drop (u .at + (u .width - kept)) t)
         ∙ ap (λ y. take (u .at) t ++ (v ++ y)) (sym rest-is)
         ∙ ap (λ y. take (u .at) t ++ y) (sym (append-assoc v (instance σ (drop i left)) behind) ∙ ap (λ y. y ++ behind) (sym reduct-is))

@@ -5,7 +5,7 @@ use mathlib.Core.Path.{_≡_, refl, sym, ap, _∙_, subst}
 use mathlib.Core.Option.{some}
 use mathlib.Core.List.{List, [], _++_}
 use lib.ListN.{length, getD, take, drop, length-append, length-drop}
-use lib.Seq.{drop-drop, drop-at}
+use lib.Seq.{drop-drop, drop-at, take-at, length-take-le}
 use Rattle.system.specs.Signature.{Signature, Symbol, span}
 use Rattle.system.specs.Limits.{termWords, variables}
 use Rattle.system.specs.Answers.{signatureOf}
@@ -20,23 +20,20 @@ use Rattle.rows.specs.lengths.Measured.{Measured}
 use Rattle.rows.proofs.gap.Closed.{closed-length}
 use Rattle.matching.specs.declared.Match.{Match}
 use Rattle.matching.specs.declared.redexes.Redex.{Redex}
-use Rattle.matching.specs.declared.FirstRule.the-variants.{Nothing}
+use Rattle.matching.specs.declared.FirstRule.the-variants.{First}
+use Rattle.matching.specs.rules.Searches.{unnumbered}
 use Rattle.matching.specs.Matching.{Contraction}
 use Rattle.matching.specs.Bindings.{matchOf, value, bindingsOf}
 use Rattle.matching.proofs.Reducts.{match-within}
 use Rattle.matching.proofs.redexes.Found.{redex-none}
 use Rattle.reducts.specs.declared.putting.Subterm.{Subterm}
-use Rattle.reducts.specs.declared.writing.Stretches.{Stretches}
+use Rattle.reducts.specs.writing.Reduct.{stretchesIn}
 use Rattle.reducts.specs.putting.Replaced.{filling}
 use Rattle.rewriting.proofs.Actives.{At, at-parted, active-whole}
 use Rattle.rewriting.proofs.Done.{whole-within}
 use Rattle.machine.specs.rewrites.Rewritten.{Contracts, Reducible}
 
--- the stretches of a match
-abbrev pub stretchesOf : Redex → Stretches
-stretchesOf m = record { starts = m .starts; lengths = m .lengths }
-
-module _ {book index ws : List ℕ} {gap : Gap} {u : Subterm} {m : Redex} (asked : Reducible book index ws gap u m) where
+module _ {book index ws : List ℕ} {gap : Gap} {u : Subterm} {m : Redex} {bs : List ℕ} (asked : Reducible book index ws gap u m bs) where
   abbrev s : System
   s = systemOf book
 
@@ -99,27 +96,33 @@ module _ {book index ws : List ℕ} {gap : Gap} {u : Subterm} {m : Redex} (asked
   pub found-here : found ≡ matchOf s (redex-here .here ++ redex-here .behind)
   found-here = ap (matchOf s) redex-parted
 
-  pub none-found : m .rule ≡ Nothing → ⊥
-  none-found f =
+  pub some-found : m .number ≡ unnumbered → ⊥
+  some-found f =
       let e = redex-none book (asked .shape) (asked .accepted) (drop p t) m (asked .match) f in
       let z : _≡_ {A = ℕ} 0 1 = cc (asked .contracts) in
       omega arith
 
-  pub starts-are : m .starts ≡ found .starts
-  starts-are = ap (λ y. y .starts) (asked .match)
+  pub starts-many : length (stretchesIn bs .starts) ≡ variables
+  starts-many = length-take-le variables bs (omega (arith, asked .many))
 
-  pub lengths-are : m .lengths ≡ found .lengths
-  lengths-are = ap (λ y. y .lengths) (asked .match)
+  pub lengths-many : length (stretchesIn bs .lengths) ≡ variables
+  lengths-many = length-drop variables bs ∙ omega (arith, asked .many)
 
-  pub starts-many : length (m .starts) ≡ variables
-  starts-many = ap length starts-are ∙ match-within book (asked .shape) (asked .accepted) (drop p t) found refl .size-starts
+  -- ---- the bindings of a listed rule
 
-  pub lengths-many : length (m .lengths) ≡ variables
-  lengths-many = ap length lengths-are ∙ match-within book (asked .shape) (asked .accepted) (drop p t) found refl .size-lengths
+  module _ {k rhs size : ℕ} (f : found .rule ≡ First k rhs size) where
+    starts-size : length (found .starts) ≡ variables
+    starts-size = match-within book (asked .shape) (asked .accepted) (drop p t) found refl .size-starts
 
-  -- what a variable stands for, in the term and in the redex
-  pub filling-is : (v : ℕ) → filling t u (stretchesOf m) v ≡ value (redex-here .here ++ redex-here .behind) (bindingsOf found) v
-  unfolding value
-  filling-is v =
-      (λ i. take (getD (lengths-are i) v 0) (drop (p + getD (starts-are i) v 0) t))
-      ∙ ap (take (getD (found .lengths) v 0)) (sym (drop-drop (getD (found .starts) v 0) p t) ∙ ap (drop (getD (found .starts) v 0)) redex-parted)
+    pub starts-are : stretchesIn bs .starts ≡ found .starts
+    starts-are = ap (take variables) (asked .bound k rhs size f) ∙ take-at (found .starts) (found .lengths) variables starts-size
+
+    pub lengths-are : stretchesIn bs .lengths ≡ found .lengths
+    lengths-are = ap (drop variables) (asked .bound k rhs size f) ∙ drop-at (found .starts) (found .lengths) variables starts-size
+
+    -- what a variable stands for, in the term and in the redex
+    pub filling-is : (v : ℕ) → filling t u (stretchesIn bs) v ≡ value (redex-here .here ++ redex-here .behind) (bindingsOf found) v
+    unfolding value
+    filling-is v =
+        (λ i. take (getD (lengths-are i) v 0) (drop (p + getD (starts-are i) v 0) t))
+        ∙ ap (take (getD (found .lengths) v 0)) (sym (drop-drop (getD (found .starts) v 0) p t) ∙ ap (drop (getD (found .starts) v 0)) redex-parted)

@@ -21,9 +21,10 @@ use Rattle.matching.specs.rules.Searches.{reductLength}
 use Rattle.reducts.specs.declared.putting.Reduced.{Reduced}
 use Rattle.reducts.specs.declared.putting.Subterm.{Subterm}
 use Rattle.reducts.specs.sides.Sides.{Sided}
+use Rattle.reducts.specs.writing.Reduct.{stretchesIn}
 use Rattle.reducts.specs.putting.Replaced.{Puttable, Put}
 use Rattle.machine.specs.rewrites.Rewritten.{Reducible, Rewrites}
-use Rattle.machine.proofs.rewrites.Redexes.{stretchesOf}
+use Rattle.machine.proofs.rewrites.Redexes.{found}
 use Rattle.machine.proofs.rewrites.Listed.{right-sided, front-width, side-puttable, side-rewritten}
 use Rattle.machine.proofs.rewrites.Built.{put-rewrites}
 
@@ -46,7 +47,8 @@ slice-end ws xs a n j e h =
     let y : j + (n - j) ≡ n = omega arith in
     ap (λ y. take y (drop (a + j) ws)) z ∙ ap (take (n - j)) (sym (drop-drop j a ws)) ∙ part-slice j (n - j) (drop a ws) ∙ ap (λ y. drop j (take y (drop a ws))) y ∙ ap (drop j) e
 
-module _ {book index ws : List ℕ} {gap : Gap} {u : Subterm} {m : Redex} (asked : Reducible book index ws gap u m) {k rhs size : ℕ} (f : m .rule ≡ First k rhs size)
+module _ {book index ws : List ℕ} {gap : Gap} {u : Subterm} {m : Redex} {bs : List ℕ} (asked : Reducible book index ws gap u m bs)
+    {k rhs size : ℕ} (f : found asked .rule ≡ First k rhs size)
     (r : RuleSpan) (at : SidesAt book k r) (n : ℕ) where
   abbrev s : System
   s = systemOf book
@@ -107,9 +109,9 @@ module _ {book index ws : List ℕ} {gap : Gap} {u : Subterm} {m : Redex} (asked
     side-sided = right-sided asked f (take j right) (let z = length-take-le j right (omega arith) in omega arith)
         (λ x h. subst (Member (getD (take j right) x 0)) (take-append-drop j right) (member-front (drop j right) (member-getD (take j right) x h)))
 
-    module _ (kept : ℕ) (counted : kept ≡ reductLength (m .lengths) (slice mid (r .rhs + r .size) book)) where
-      counts : kept ≡ reductLength (m .lengths) (drop j right)
-      counts = counted ∙ ap (reductLength (m .lengths)) kept-is
+    module _ (kept : ℕ) (counted : kept ≡ reductLength (stretchesIn bs .lengths) (slice mid (r .rhs + r .size) book)) where
+      counts : kept ≡ reductLength (stretchesIn bs .lengths) (drop j right)
+      counts = counted ∙ ap (reductLength (stretchesIn bs .lengths)) kept-is
 
       pub kept-fits : kept ≤ u .width
       kept-fits = omega (arith, counts, front-width asked f i j alike′)
@@ -117,15 +119,15 @@ module _ {book index ws : List ℕ} {gap : Gap} {u : Subterm} {m : Redex} (asked
       abbrev front : ℕ → Subterm
       front x = record { level = u .level; at = u .at; width = u .width - x }
 
-      pub listed-puttable : Puttable (signatureOf book) (slice (r .rhs) mid book) ws gap (front kept) (stretchesOf m)
+      pub listed-puttable : Puttable (signatureOf book) (slice (r .rhs) mid book) ws gap (front kept) (stretchesIn bs)
       listed-puttable =
-          subst (λ y. Puttable (signatureOf book) y ws gap (front kept) (stretchesOf m)) (sym side-is)
-          (subst (λ y. Puttable (signatureOf book) (take j right) ws gap (front y) (stretchesOf m)) (sym counts) (side-puttable asked f i j alike′ side-sided))
+          subst (λ y. Puttable (signatureOf book) y ws gap (front kept) (stretchesIn bs)) (sym side-is)
+          (subst (λ y. Puttable (signatureOf book) (take j right) ws gap (front y) (stretchesIn bs)) (sym counts) (side-puttable asked f i j alike′ side-sided))
 
-      pub listed-rewrites : (q : Reduced) (ws′ : List ℕ) → Put (signatureOf book) (slice (r .rhs) mid book) ws gap (front kept) (stretchesOf m) q ws′ →
+      pub listed-rewrites : (q : Reduced) (ws′ : List ℕ) → Put (signatureOf book) (slice (r .rhs) mid book) ws gap (front kept) (stretchesIn bs) q ws′ →
           Rewrites book ws gap u q ws′
       listed-rewrites q ws′ h =
-          let x = reductLength (m .lengths) (drop j right) in
-          put-rewrites asked (take j right) (u .width - x) (stretchesOf m) (side-rewritten asked f i j alike′) q ws′
-          (subst (λ y. Put (signatureOf book) (take j right) ws gap (front y) (stretchesOf m) q ws′) counts
-          (subst (λ y. Put (signatureOf book) y ws gap (front kept) (stretchesOf m) q ws′) side-is h))
+          let x = reductLength (stretchesIn bs .lengths) (drop j right) in
+          put-rewrites asked (take j right) (u .width - x) (stretchesIn bs) (side-rewritten asked f i j alike′) q ws′
+          (subst (λ y. Put (signatureOf book) (take j right) ws gap (front y) (stretchesIn bs) q ws′) counts
+          (subst (λ y. Put (signatureOf book) y ws gap (front kept) (stretchesIn bs) q ws′) side-is h))

@@ -18,8 +18,7 @@ use Rattle.rows.proofs.lengths.Measures.{words-length}
 use Rattle.matching.specs.declared.redexes.Redex.{Redex}
 use Rattle.matching.specs.Matching.{Contraction, contraction}
 use Rattle.reducts.specs.declared.putting.Reduced.{Reduced}
-use Rattle.reducts.specs.declared.putting.Reduced.the-variants.{Done}
-use Rattle.reducts.specs.putting.Replaced.{Placed}
+use Rattle.reducts.specs.putting.Replaced.{Done, Placed}
 use Rattle.rewriting.proofs.Contractions.{first-there, active-within}
 use Rattle.rewriting.proofs.Ways.{way-active}
 use Rattle.machine.specs.declared.advance.State.{State}

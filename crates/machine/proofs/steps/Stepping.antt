@@ -3,10 +3,11 @@
 use Prim.Native.Nat.{ℕ, _≤_, _<_}
 use native.Mathlib.Omega.{arith}
 use mathlib.Core.Path.{_≡_, refl, sym, _∙_, subst, subst₂}
+use mathlib.Core.Bool.{true, false}
 use mathlib.Core.List.{List}
-use lib.ListN.{length, getD, take, drop}
+use lib.ListN.{length, getD, take, drop, length-drop}
 use lib.Seq.{ext-getD, getD-take, length-take-le}
-use Rattle.system.specs.Limits.{areaWords, termWords}
+use Rattle.system.specs.Limits.{areaWords, levels, termWords}
 use Rattle.system.specs.Signature.{Signature, span}
 use Rattle.system.specs.System.{System}
 use Rattle.system.specs.Terms.{WellFormed}
@@ -18,9 +19,8 @@ use Rattle.rows.proofs.lengths.Measures.{measured-length}
 use Rattle.matching.specs.declared.redexes.Redex.{Redex}
 use Rattle.matching.specs.Matching.{Contraction}
 use Rattle.reducts.specs.declared.putting.Reduced.{Reduced}
-use Rattle.reducts.specs.declared.putting.Reduced.the-variants.{Done, TooLong}
 use Rattle.reducts.specs.declared.putting.Subterm.{Subterm}
-use Rattle.reducts.specs.putting.Replaced.{Placed}
+use Rattle.reducts.specs.putting.Replaced.{Done, TooLong, Placed}
 use Rattle.rewriting.specs.Lengths.{above, Way}
 use Rattle.rewriting.proofs.Aboves.{above-position, above-length}
 use Rattle.rewriting.proofs.Ways.{way-active, way-room}
@@ -35,9 +35,12 @@ use Rattle.machine.proofs.advance.Bounds.{Bounds, bounds, spot}
 -- ---- what a rewrite left, by its answer
 
 abbrev pub Left : System → List ℕ → Gap → Subterm → Contraction → List ℕ → Reduced → Type 0
-Left s ws gap u x ws₁ (Done gap′) =
-    (length (rewritten s ws gap u x) ≤ termWords) × Placed (s .arities) ws (termIn ws gap) (rewritten s ws gap u x) (u .at) (u .level) gap′ ws₁
-Left s ws gap u x ws₁ TooLong = (termWords < length (rewritten s ws gap u x)) × (length ws₁ ≡ areaWords)
+Left s ws gap u x ws₁ r =
+    elim (r .long) [
+      | false ↦ (length (rewritten s ws gap u x) ≤ termWords)
+          × Placed (s .arities) ws (termIn ws gap) (rewritten s ws gap u x) (u .at) (u .level) (r .gap) ws₁
+      | true ↦ (termWords < length (rewritten s ws gap u x)) × (length ws₁ ≡ areaWords)
+    ]
 
 pub left : {s : System} {ws : List ℕ} {gap : Gap} {u : Subterm} {x : Contraction} {r : Reduced} {ws₁ : List ℕ} → Rewritten s ws gap u x r ws₁ → Left s ws gap u x ws₁ r
 left {s} {ws} {gap} {u} {x} {ws₁} (done few gap′ q placed) = subst (Left s ws gap u x ws₁) (sym q) (few, placed)
@@ -101,7 +104,7 @@ module _ {book index ws positions : List ℕ} {state : State} {m : Redex} (v : S
     pub step-wide : width ≡ span g (drop p t) 1
     step-wide = read ∙ measured-length (v .tracks .represents .measured) p
 
-    pub step-reducible : Reducible book index ws gap u m
+    pub step-reducible : Reducible book index ws gap u m (drop levels positions)
     step-reducible = record {
       shape = v .shape;
       accepted = v .accepted;
@@ -112,6 +115,8 @@ module _ {book index ws positions : List ℕ} {state : State} {m : Redex} (v : S
       active = way-active step-way;
       around = omega (arith, way-length, way-room step-way);
       match = v .match;
+      bound = v .bound;
+      many = (let b = step-bounds in length-drop levels positions ∙ omega (arith, b .slots));
       wide = step-wide;
       x = v .x;
       contracts = v .contracts;
