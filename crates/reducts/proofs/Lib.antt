@@ -1,2 +1,4 @@
 -- Lists that end alike
 pub mod Ends
+-- What the words of the bindings tell
+pub mod Bindings

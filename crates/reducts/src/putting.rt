@@ -1,15 +1,16 @@
 // A reduct put in the place of words of the term.
 ghost use mathlib.Core.Path.{_≡_};
 ghost use Rattle.system.specs.Answers.{signatureOf};
+ghost use Rattle.reducts.specs.sides.Sides.{stretchesIn};
 ghost use Rattle.reducts.specs.putting.Replaced.{Removable, Aside, Puttable, Put};
 use crate::sides::reduct_length;
 use crate::writing::Source;
-use crate::writing::Stretches;
 use crate::writing::write_reduct;
 use buffers::move_words;
 use rows::gap::Gap;
 use rows::gap::move_gap;
 use rows::lengths::COUNTS;
+use system::limits::TERM_WORDS;
 
 // Words of the term that are to be replaced: how many levels stand around them, the position of the first, and how many they are.
 pub struct Subterm {
@@ -18,10 +19,10 @@ pub struct Subterm {
     pub width: usize,
 }
 
-// What a rewrite came to: it is done, and the gap is there now; or the term would have more than 4,096 words.
-pub enum Reduced {
-    Done(Gap),
-    TooLong,
+// What a rewrite came to: whether the term would have more than 4,096 words; where the gap is now, and if it would, one that leaves no word.
+pub struct Reduced {
+    pub long: bool,
+    pub gap: Gap,
 }
 
 // Where the words of the redex are to be read, if k words come in the place of those of u, which stand before the gap. Where these would be
@@ -52,26 +53,35 @@ fn set_aside(area: &mut [u16], gap: Gap, u: Subterm, k: usize) -> Source
 }
 
 // Puts the reduct of a side, its variables filled with these stretches, in the place of the words of u. Where the term would be too long it is
-// given up.
+// given up. Word v of the bindings is where the stretch of variable v starts, word 16 + v how many words it has.
 pub fn put_reduct(
     book: &[u16],
     side: &[u16],
     area: &mut [u16],
     gap: Gap,
     u: Subterm,
-    c: Stretches,
+    bindings: &[u16],
 ) -> Reduced
-    requires { ⌜ Puttable (signatureOf (now book)) (now side) (now area) gap u c ⌝ }
-    ensures { λ r. ⌜ Put (signatureOf (now (book .entry))) (now (side .entry)) (now (area .entry)) gap u c r (now (area .exit)) ⌝ }
+    requires { ⌜ Puttable (signatureOf (now book)) (now side) (now area) gap u (stretchesIn (now bindings)) ⌝ }
+    ensures { λ r. ⌜ Put (signatureOf (now (book .entry))) (now (side .entry)) (now (area .entry)) gap u (stretchesIn (now (bindings .entry))) r
+        (now (area .exit)) ⌝ }
 {
     let front = u.at;
-    let lengths = c.lengths;
-    let k = reduct_length(side, lengths);
+    let k = reduct_length(side, bindings);
     let g = move_gap(area, gap, front + u.width);
     if g.back < front + k {
-        return Reduced::TooLong;
+        return Reduced {
+            long: true,
+            gap: Gap {
+                front: 0,
+                back: TERM_WORDS,
+            },
+        };
     }
     let source = set_aside(area, g, u, k);
-    let back = write_reduct(book, side, area, g.back, c, source);
-    Reduced::Done(Gap { front, back })
+    let back = write_reduct(book, side, area, g.back, bindings, source);
+    Reduced {
+        long: false,
+        gap: Gap { front, back },
+    }
 }

@@ -2,16 +2,18 @@
 ghost use mathlib.Core.Path.{_≡_};
 ghost use Prim.Native.Nat.{_-_, _≤_};
 ghost use lib.ListN.{length, drop};
+ghost use Rattle.system.specs.Limits.{variables};
 ghost use Rattle.matching.specs.rules.Searches.{reductLength};
-ghost use Rattle.reducts.specs.sides.Sides.{Sided};
+ghost use Rattle.reducts.specs.sides.Sides.{bindingWords, Sided};
 use system::limits::VARIABLE;
 use system::limits::VARIABLES;
 use system::words::wide;
 
-// How many words the reduct has: the side's, with the variables' terms of these lengths in their places.
-pub fn reduct_length(side: &[u16], lengths: [u16; VARIABLES]) -> usize
-    requires { ⌜ Sided (now side) ⌝ }
-    ensures { λ r. ⌜ r ≡ reductLength lengths (now (side .entry)) ⌝ }
+// How many words the reduct has: the side's, with the variables' terms in their places, of which that of variable v has as many words as word
+// 16 + v of the bindings tells.
+pub fn reduct_length(side: &[u16], bindings: &[u16]) -> usize
+    requires { ⌜ Sided (now side) × (length (now bindings) ≡ bindingWords) ⌝ }
+    ensures { λ r. ⌜ r ≡ reductLength (drop variables (now (bindings .entry))) (now (side .entry)) ⌝ }
 {
     let mut total = 0;
     let mut j = 0;
@@ -21,7 +23,7 @@ pub fn reduct_length(side: &[u16], lengths: [u16; VARIABLES]) -> usize
         if w < VARIABLE {
             total += 1;
         } else {
-            total += wide(lengths[w - VARIABLE]);
+            total += wide(bindings[VARIABLES + (w - VARIABLE)]);
         }
     }
     total

@@ -4,6 +4,7 @@ ghost use Prim.Native.Nat.{_≤_};
 ghost use Rattle.buffers.specs.moves.Parts.{part};
 ghost use Rattle.system.specs.Answers.{signatureOf};
 ghost use Rattle.rows.specs.lengths.Written.{Written};
+ghost use Rattle.reducts.specs.sides.Sides.{stretchesIn};
 ghost use Rattle.reducts.specs.writing.Reduct.{stretchAt, Stretchable, Writable, reduct};
 use rows::lengths::copy;
 use rows::lengths::push;
@@ -11,12 +12,6 @@ use rows::lengths::push_all;
 use system::limits::VARIABLE;
 use system::limits::VARIABLES;
 use system::words::wide;
-
-// What the variables of a right side stand for: stretches of the redex, by the first word and the number of words of each.
-pub struct Stretches {
-    pub starts: [u16; VARIABLES],
-    pub lengths: [u16; VARIABLES],
-}
 
 // Where the words of the redex stand in the area: those before word `end` from `base` on; word i from there on at `later` and i. They are
 // crowded if the reduct has no room beside them: then the first ones stand behind the counts, without their lengths.
@@ -56,21 +51,20 @@ fn put_stretch(
     copy(area, back, from, n)
 }
 
-// Writes the reduct before the words from `back` on: the words of the side, each variable filled with its stretch.
+// Writes the reduct before the words from `back` on: the words of the side, each variable filled with its stretch. That of variable v starts at
+// the word of the redex that word v of the bindings tells, and has as many words as word 16 + v tells.
 pub fn write_reduct(
     book: &[u16],
     side: &[u16],
     area: &mut [u16],
     back: usize,
-    c: Stretches,
+    bindings: &[u16],
     source: Source,
 ) -> usize
-    requires { ⌜ Writable (signatureOf (now book)) (now side) (now area) back c source ⌝ }
+    requires { ⌜ Writable (signatureOf (now book)) (now side) (now area) back (stretchesIn (now bindings)) source ⌝ }
     ensures { λ r. ⌜ Written (signatureOf (now (book .entry))) (now (area .entry)) back (now (area .exit)) r
-        (reduct (now (side .entry)) c source (now (area .entry))) ⌝ }
+        (reduct (now (side .entry)) (stretchesIn (now (bindings .entry))) source (now (area .entry))) ⌝ }
 {
-    let starts = c.starts;
-    let lengths = c.lengths;
     let crowded = source.crowded;
     let mut to = back;
     let mut j = side.len();
@@ -81,8 +75,9 @@ pub fn write_reduct(
         if v < VARIABLE {
             to = push(book, area, to, w);
         } else {
-            let from = stretch_at(source, wide(starts[v - VARIABLE]));
-            to = put_stretch(book, area, to, from, wide(lengths[v - VARIABLE]), crowded);
+            let from = stretch_at(source, wide(bindings[v - VARIABLE]));
+            let n = wide(bindings[VARIABLES + (v - VARIABLE)]);
+            to = put_stretch(book, area, to, from, n, crowded);
         }
     }
     to

@@ -17,11 +17,10 @@ use Rattle.rows.proofs.gap.Closed.{closed-front, closed-length}
 use Rattle.rows.proofs.lengths.Measures.{row-behind, term-behind, measured-moved, word-row-same, length-row-same}
 use Rattle.matching.specs.rules.Searches.{reductLength}
 use Rattle.reducts.specs.declared.writing.Source.{Source}
-use Rattle.reducts.specs.declared.writing.Stretches.{Stretches}
+use Rattle.reducts.specs.sides.Sides.{Stretches}
 use Rattle.reducts.specs.declared.putting.Subterm.{Subterm}
-use Rattle.reducts.specs.declared.putting.Reduced.the-variants.{Done, TooLong}
 use Rattle.reducts.specs.writing.Reduct.{reduct}
-use Rattle.reducts.specs.putting.Replaced.{filling, Filled, Puttable, spliced, Removable, Placed, Put, fits, exceeds}
+use Rattle.reducts.specs.putting.Replaced.{filling, Filled, Puttable, spliced, Removable, Placed, Done, TooLong, Put, fits, exceeds}
 use Rattle.reducts.proofs.putting.Writables.{Ready, reduct-counted}
 
 -- ---- the gap moved behind the words of u

@@ -21,7 +21,7 @@ use Rattle.rows.specs.lengths.Written.{Apart}
 use Rattle.rows.proofs.gap.Rows.{part-take}
 use Rattle.rows.proofs.gap.Closed.{closed-length}
 use Rattle.reducts.specs.declared.writing.Source.{Source}
-use Rattle.reducts.specs.declared.writing.Stretches.{Stretches}
+use Rattle.reducts.specs.sides.Sides.{Stretches}
 use Rattle.reducts.specs.declared.putting.Subterm.{Subterm}
 use Rattle.reducts.specs.writing.Reduct.{stretchAt, stretch, Unwritten}
 use Rattle.reducts.specs.putting.Replaced.{gapSize, filling, Filled, Puttable}

@@ -19,7 +19,7 @@ use Rattle.rows.proofs.lengths.Measures.{measured-behind, measured-counts}
 use Rattle.matching.specs.rules.Searches.{reductLength}
 use Rattle.matching.proofs.Matched.{instance-cong}
 use Rattle.reducts.specs.declared.writing.Source.{Source}
-use Rattle.reducts.specs.declared.writing.Stretches.{Stretches}
+use Rattle.reducts.specs.sides.Sides.{Stretches}
 use Rattle.reducts.specs.declared.putting.Subterm.{Subterm}
 use Rattle.reducts.specs.writing.Reduct.{stretch, reduct, Writable}
 use Rattle.reducts.specs.putting.Replaced.{gapSize, filling, Puttable, Aside}

@@ -17,7 +17,7 @@ use Rattle.matching.specs.rules.Searches.{reductLength}
 use Rattle.matching.proofs.Matched.{instance-nil, instance-symbol, instance-variable}
 use Rattle.matching.proofs.Reducts.{length-done, length-symbol, length-variable}
 use Rattle.matching.proofs.Placed.{reduct-append}
-use Rattle.reducts.specs.declared.writing.Stretches.{Stretches}
+use Rattle.reducts.specs.sides.Sides.{Stretches}
 use Rattle.reducts.specs.declared.writing.Source.{Source}
 use Rattle.reducts.specs.writing.Reduct.{stretchAt, stretch, reduct, Stretchable, Stays, Writable}
 use Rattle.reducts.proofs.writing.Kept.{stays-words, stays-stretchable, stays-length}

@@ -17,11 +17,9 @@ use Rattle.rows.specs.gap.Gaps.{countsAt, lengthRow, termIn, wordsIn, behind, L
 use Rattle.rows.specs.lengths.Spans.{spans}
 use Rattle.rows.specs.lengths.Measured.{Measured}
 use Rattle.reducts.specs.declared.putting.Reduced.{Reduced}
-use Rattle.reducts.specs.declared.putting.Reduced.the-variants.{Done, TooLong}
 use Rattle.reducts.specs.declared.writing.Source.{Source}
-use Rattle.reducts.specs.declared.writing.Stretches.{Stretches}
 use Rattle.reducts.specs.declared.putting.Subterm.{Subterm}
-use Rattle.reducts.specs.sides.Sides.{Sided}
+use Rattle.reducts.specs.sides.Sides.{Sided, Stretches}
 
 -- ---- the words set aside
 
@@ -85,6 +83,13 @@ pub record Placed (g : Signature) (ws t t′ : List ℕ) (at level : ℕ) (gap�
   pub later : Measured g ws′ (behind (gap′ .back))
   pub before : take at (lengthRow ws′) ≡ take at (spans g t)
   pub outer : take level (drop countsAt ws′) ≡ take level (drop countsAt ws)
+
+-- what is answered: done, with the gap there; or given up, with a gap that leaves no word
+abbrev pub Done : Gap → Reduced
+Done gap = record { long = false; gap = gap }
+
+abbrev pub TooLong : Reduced
+TooLong = record { long = true; gap = behind termWords }
 
 pub data Put (g : Signature) (side ws : List ℕ) (gap : Gap) (u : Subterm) (c : Stretches) (r : Reduced) (ws′ : List ℕ) : Type 0 where
   fits : length (spliced side (termIn ws gap) u c) ≤ termWords → (gap′ : Gap) → r ≡ Done gap′ →

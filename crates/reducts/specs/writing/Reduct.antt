@@ -16,9 +16,8 @@ use Rattle.rows.specs.lengths.Spans.{spans}
 use Rattle.rows.specs.lengths.Measured.{Measured}
 use Rattle.rows.specs.lengths.Written.{Apart, Copyable}
 use Rattle.matching.specs.rules.Searches.{reductLength}
-use Rattle.reducts.specs.declared.writing.Stretches.{Stretches}
 use Rattle.reducts.specs.declared.writing.Source.{Source}
-use Rattle.reducts.specs.sides.Sides.{Sided}
+use Rattle.reducts.specs.sides.Sides.{Sided, Stretches}
 
 -- where word i of the redex stands
 unfoldable pub stretchAt : Source → ℕ → ℕ

@@ -1,6 +1,7 @@
 -- `putting::put_reduct` meets its contract: the gap is brought behind the words of u, and the reduct written before what follows them.
 use native.Mathlib.Omega.{arith}
 use borrow.Author.Needs.{needs}
+use Rattle.reducts.proofs.Bindings.{binding-words}
 use Rattle.reducts.proofs.putting.Writables.{reduct-bound, ready}
 use Rattle.reducts.proofs.putting.Puts.{moved-puttable, moved-stands, moved-removable, put-long, put-done}
 use Rattle.reducts.proofs.putting.put_reduct.Statement.{statement}
@@ -21,6 +22,11 @@ abbrev chosen : tie.After-set-aside → tie.Else1
 chosen c = c .before .before
 
 -- ---- the needs
+
+reduct-length-requires : tie.Need-reduct-length-requires
+reduct-length-requires c κs =
+    let s = c .before .before .before .before in
+    (s .pre .sided, binding-words (s .args .bindings .now) (s .pre .lengths))
 
 add-if1 : tie.Need-add-if1
 add-if1 c =
@@ -67,4 +73,4 @@ pub put-reduct-spec : {M : Type 1} → statement M
 put-reduct-spec =
     tie.close
     (tie.spec
-    (λ c κs. search needs) (λ c. search needs) (λ c κs. search needs) add-if1 (λ c. search needs) returns set-aside-requires write-reduct-requires (λ c. search needs) returns-2)
+    reduct-length-requires (λ c. search needs) (λ c κs. search needs) add-if1 (λ c. search needs) returns set-aside-requires write-reduct-requires (λ c. search needs) returns-2)

@@ -2,26 +2,27 @@
 use mathlib.Core.Path.{_≡_, ap, _∙_}
 use Prim.Native.Nat.{_-_, _<_}
 use native.Mathlib.Omega.{arith}
-use lib.ListN.{getD}
+use lib.ListN.{length, getD}
 use borrow.Author.Needs.{needs}
-use Rattle.system.specs.Limits.{variable}
+use Rattle.system.specs.Limits.{variable, variables}
 use Rattle.system.specs.Answers.{signatureOf}
+use Rattle.reducts.specs.sides.Sides.{bindingWords, stretchesIn}
 use Rattle.reducts.specs.writing.Reduct.{stretchAt}
+use Rattle.reducts.proofs.Bindings.{binding-words, start-told, length-told}
 use Rattle.reducts.proofs.writing.Turns.{Writing, writing-starts, writing-ends, symbol-room, writes-symbol, variable-known, variable-stretchable, writes-variable}
 use Rattle.reducts.proofs.writing.write_reduct.Statement.{statement}
 use Rattle.reducts.proofs.writing.write_reduct.Tie as tie
 
 abbrev Inv-loop : tie.InvT-loop
-Inv-loop book side area₀ back source starts lengths crowded to₀ j₀ area to j =
-    Writing (signatureOf book) side area₀ back (record { starts = starts; lengths = lengths }) source area to j
+Inv-loop book side area₀ back bindings source crowded to₀ j₀ area to j = Writing (signatureOf book) side area₀ back (stretchesIn bindings) source area to j
 
 abbrev μ-loop : tie.MeasureT-loop
-μ-loop book side area₀ back source starts lengths crowded to₀ j₀ area to j = j
+μ-loop book side area₀ back bindings source crowded to₀ j₀ area to j = j
 
 -- ---- the places of the code that are behind others: the entry, the loop's head, a symbol met, a variable met, its stretch found and put
 
-abbrev start : tie.After-lengths Inv-loop μ-loop → tie.Start Inv-loop μ-loop
-start c = c .before .before .before .before .before
+abbrev start : tie.After-shared-slice-known3 Inv-loop μ-loop → tie.Start Inv-loop μ-loop
+start c = c .before .before .before .before
 
 abbrev entry : tie.At-loop Inv-loop μ-loop → tie.Start Inv-loop μ-loop
 entry c = start (c .before)
@@ -38,7 +39,10 @@ pushed c = c .before .before
 abbrev symbol : tie.After-push Inv-loop μ-loop → tie.Then1 Inv-loop μ-loop
 symbol c = c .before .before
 
-abbrev named : tie.After-put-stretch-arg Inv-loop μ-loop → tie.Else1 Inv-loop μ-loop
+abbrev found : tie.After-wide3 Inv-loop μ-loop → tie.After-stretch-at Inv-loop μ-loop
+found c = c .before .before
+
+abbrev named : tie.After-stretch-at Inv-loop μ-loop → tie.Else1 Inv-loop μ-loop
 named c = c .before .before .before
 
 abbrev put : tie.After-slice-known3 Inv-loop μ-loop → tie.After-put-stretch Inv-loop μ-loop
@@ -69,42 +73,61 @@ loop-again c =
     let h = head (t .before) in
     writes-symbol (entry h .pre) (h .loop .inv) (some (t .before)) (small t) (p .push .ensures)
 
-array-read-wide : tie.Need-array-read-wide Inv-loop μ-loop
-array-read-wide c =
+-- which variable it is, where the word is one
+known : (c : tie.Else1 Inv-loop μ-loop) → c .before .wide .result - variable < variables
+known c =
     let p = c .before in
     let h = head p in
     variable-known (entry h .pre) (h .loop .inv) (some p) (p .wide .result) (p .wide .ensures .0) (c .if1 .left)
 
+whole : (c : tie.Else1 Inv-loop μ-loop) → length (entry (head (c .before)) .args .bindings .now) ≡ bindingWords
+whole c = let s = entry (head (c .before)) in binding-words (s .args .bindings .now) (s .pre .lengths)
+
+shared-slice-read-wide : tie.Need-shared-slice-read-wide Inv-loop μ-loop
+shared-slice-read-wide c = let k = known (c .before) in let n = whole (c .before) in omega arith
+
 stretch-at-requires : tie.Need-stretch-at-requires Inv-loop μ-loop
-stretch-at-requires c κs = let q = entry (head (c .before .before)) .pre in (q .based, q .later, c .wide2 .ensures .1)
+stretch-at-requires c κs = let q = entry (head (c .before .before .before)) .pre in (q .based, q .later, c .wide2 .ensures .1)
 
-array-read-wide-2 : tie.Need-array-read-wide-2 Inv-loop μ-loop
-array-read-wide-2 c = array-read-wide (named c)
+shared-slice-read-wide-2 : tie.Need-shared-slice-read-wide-2 Inv-loop μ-loop
+shared-slice-read-wide-2 c = let k = known (named (c .before)) in let n = whole (named (c .before)) in omega arith
 
--- where the stretch stands
-from-is : (c : tie.After-put-stretch-arg Inv-loop μ-loop) →
+-- where the stretch stands, and how many words it has
+from-is : (c : tie.After-stretch-at Inv-loop μ-loop) →
     let p = named c .before in
     let a = entry (head p) .args in
-    c .before .stretch-at .result ≡ stretchAt (a .source) (getD (a .c .starts) (p .wide .result - variable) 0)
-from-is c = c .before .stretch-at .ensures ∙ ap (stretchAt (entry (head (named c .before)) .args .source)) (c .before .before .wide2 .ensures .0)
+    c .stretch-at .result ≡ stretchAt (a .source) (getD (stretchesIn (a .bindings .now) .starts) (p .wide .result - variable) 0)
+from-is c =
+    let p = named c .before in
+    let a = entry (head p) .args in
+    c .stretch-at .ensures
+    ∙ ap (stretchAt (a .source)) (c .before .wide2 .ensures .0 ∙ start-told (a .bindings .now) (p .wide .result - variable) (known (named c)))
+
+long-is : (c : tie.After-wide3 Inv-loop μ-loop) →
+    let p = named (found c) .before in
+    c .wide3 .result ≡ getD (stretchesIn (entry (head p) .args .bindings .now) .lengths) (p .wide .result - variable) 0
+long-is c =
+    let p = named (found c) .before in
+    c .wide3 .ensures .0 ∙ length-told (entry (head p) .args .bindings .now) (p .wide .result - variable)
 
 put-stretch-requires : tie.Need-put-stretch-requires Inv-loop μ-loop
 put-stretch-requires c κs =
-    let d = named (c .before) in
+    let n = c .before in
+    let d = named (found n) in
     let p = d .before in
     let h = head p in
     variable-stretchable (entry h .pre) (h .loop .inv) (some p) (p .wide .result) (p .wide .ensures .0) (d .if1 .left)
-    (from-is (c .before)) (c .wide3 .ensures .0)
+    (from-is (found n)) (long-is n)
 
 loop-again-2 : tie.Need-loop-again-2 Inv-loop μ-loop
 loop-again-2 c =
     let u = put c in
-    let w = u .before in
-    let d = named (w .before) in
+    let n = u .before .before in
+    let d = named (found n) in
     let p = d .before in
     let h = head p in
     writes-variable (entry h .pre) (h .loop .inv) (some p) (p .wide .result) (p .wide .ensures .0) (d .if1 .left)
-    (from-is (w .before)) (w .wide3 .ensures .0) (u .put-stretch .ensures)
+    (from-is (found n)) (long-is n) (u .put-stretch .ensures)
 
 same-length : tie.Need-same-length Inv-loop μ-loop
 same-length c = c .before .loop .inv .written .total
@@ -117,5 +140,5 @@ write-reduct-spec =
     tie.close
     (tie.spec
     Inv-loop μ-loop loop-holds (λ c. search needs) (λ c. search needs) shared-slice-read-w (λ c κs. search needs) push-requires (λ c. search needs)
-    loop-again (λ c. search needs) array-read-wide (λ c κs. search needs) stretch-at-requires (λ c. search needs) array-read-wide-2
-    (λ c κs. search needs) put-stretch-requires (λ c. search needs) loop-again-2 same-length returns)
+    loop-again (λ c. search needs) shared-slice-read-wide (λ c κs. search needs) stretch-at-requires (λ c. search needs) (λ c. search needs)
+    shared-slice-read-wide-2 (λ c κs. search needs) put-stretch-requires (λ c. search needs) loop-again-2 same-length returns)
