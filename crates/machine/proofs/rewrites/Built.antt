@@ -22,7 +22,7 @@ use Rattle.matching.proofs.Matched.{instance-nil, instance-symbol}
 use Rattle.matching.proofs.Reducts.{match-word, match-value}
 use Rattle.reducts.specs.declared.putting.Reduced.{Reduced}
 use Rattle.reducts.specs.declared.putting.Subterm.{Subterm}
-use Rattle.reducts.specs.writing.Reduct.{Stretches, stretchesIn}
+use Rattle.reducts.specs.sides.Sides.{Stretches, stretchesIn}
 use Rattle.reducts.specs.sides.Sides.{Sided}
 use Rattle.reducts.specs.putting.Replaced.{filling, Puttable, spliced, Placed, Put, fits, exceeds}
 use Rattle.machine.specs.rewrites.Rewritten.{Contracts, Reducible, rewritten, Rewrites, done, long}

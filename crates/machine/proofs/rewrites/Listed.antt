@@ -27,8 +27,7 @@ use Rattle.matching.proofs.Matched.{instance-cong}
 use Rattle.matching.proofs.Words.{instance-append}
 use Rattle.matching.proofs.Splits.{match-whole, match-contracts, match-inside, match-law, match-known, match-split, match-fits, split-redex, split-front, split-length}
 use Rattle.reducts.specs.declared.putting.Subterm.{Subterm}
-use Rattle.reducts.specs.sides.Sides.{Sided}
-use Rattle.reducts.specs.writing.Reduct.{stretchesIn}
+use Rattle.reducts.specs.sides.Sides.{Sided, stretchesIn}
 use Rattle.reducts.specs.putting.Replaced.{filling, Filled, Puttable, spliced}
 use Rattle.machine.specs.rewrites.Rewritten.{Contracts, Reducible, rewritten}
 use Rattle.machine.proofs.rewrites.Redexes.{measured, redex-here, redex-parted, words, small, width-here, ends, redex-behind, found, found-here}

@@ -27,7 +27,7 @@ use Rattle.matching.specs.Bindings.{matchOf, value, bindingsOf}
 use Rattle.matching.proofs.Reducts.{match-within}
 use Rattle.matching.proofs.redexes.Found.{redex-none}
 use Rattle.reducts.specs.declared.putting.Subterm.{Subterm}
-use Rattle.reducts.specs.writing.Reduct.{stretchesIn}
+use Rattle.reducts.specs.sides.Sides.{stretchesIn}
 use Rattle.reducts.specs.putting.Replaced.{filling}
 use Rattle.rewriting.proofs.Actives.{At, at-parted, active-whole}
 use Rattle.rewriting.proofs.Done.{whole-within}

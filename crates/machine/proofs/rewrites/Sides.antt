@@ -20,8 +20,7 @@ use Rattle.matching.specs.declared.FirstRule.the-variants.{First}
 use Rattle.matching.specs.rules.Searches.{reductLength}
 use Rattle.reducts.specs.declared.putting.Reduced.{Reduced}
 use Rattle.reducts.specs.declared.putting.Subterm.{Subterm}
-use Rattle.reducts.specs.sides.Sides.{Sided}
-use Rattle.reducts.specs.writing.Reduct.{stretchesIn}
+use Rattle.reducts.specs.sides.Sides.{Sided, stretchesIn}
 use Rattle.reducts.specs.putting.Replaced.{Puttable, Put}
 use Rattle.machine.specs.rewrites.Rewritten.{Reducible, Rewrites}
 use Rattle.machine.proofs.rewrites.Redexes.{found}
