@@ -60,7 +60,7 @@ module _ (b : List ℕ) (sh : Shape) (acc : Accepted b sh) where
         go (Computed k w) e = absurd (found .listed k w e)
 
     -- which it is, by what was found
-    not-computed : {n rhs size : ℕ} (o : Option Computation) → computedRule o ≡ First n rhs size → ⊥
+    pub not-computed : {n rhs size : ℕ} (o : Option Computation) → computedRule o ≡ First n rhs size → ⊥
     not-computed none e = let z : _≡_ {A = ℕ} 0 1 = cc in omega arith
     not-computed (some c) e = let z : _≡_ {A = ℕ} 0 1 = cc in omega arith
 

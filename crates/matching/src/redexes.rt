@@ -1,8 +1,9 @@
 // The first rule that matches a subterm of a term in the rows (02, F-5): a variable's stretch is one read, and only the rules that start with
 // the subterm's symbol are tried.
 ghost use mathlib.Core.Path.{_≡_};
-ghost use Prim.Native.Nat.{_<_};
-ghost use lib.ListN.{getD, drop};
+ghost use Prim.Native.Nat.{_+_, _≤_, _<_};
+ghost use lib.ListN.{length, getD, drop, set};
+ghost use Rattle.system.specs.Limits.{variables, termWords};
 ghost use Rattle.system.specs.Signature.{Signature};
 ghost use Rattle.system.specs.Answers.{signatureOf};
 ghost use Rattle.system.specs.Book.{systemOf, Accepted};
@@ -10,10 +11,12 @@ ghost use Rattle.system.specs.layout.Index.{Indexed};
 ghost use Rattle.rows.specs.gap.Gaps.{wordsIn, termIn, Gapped};
 ghost use Rattle.rows.specs.lengths.Measured.{Measured};
 ghost use Rattle.matching.specs.Matching.{computed};
-ghost use Rattle.matching.specs.Bindings.{noBindings, consumed, computedRule};
-ghost use Rattle.matching.specs.redexes.Redexes.{redexOf};
+ghost use Rattle.matching.specs.Bindings.{consumed, computedRule, matchOf};
+ghost use Rattle.matching.specs.redexes.Redexes.{bindingWords, redexFor, redexOf, Bound};
 use crate::FirstRule;
 use crate::operators::computed;
+use crate::rules::UNNUMBERED;
+use buffers::clear;
 use rows::gap::Gap;
 use rows::gap::length_at;
 use rows::gap::word_at;
@@ -28,11 +31,19 @@ use system::limits::VARIABLE;
 use system::limits::VARIABLES;
 use system::words::wide;
 
-// What was found, and for each variable where its stretch of the subterm starts and how many words it has; 0 and 0 of the others.
+// How many words hold the bindings of a match: where the stretches of the variables start, and how many words they have.
+pub const BINDINGS: usize = 2 * VARIABLES;
+
+// A subterm of the term in the rows: where the gap is, and its position.
+pub struct Spot {
+    pub gap: Gap,
+    pub at: usize,
+}
+
+// What was found: the rule's number, and one that no rule has where none matches; and the word that a built-in rule puts there, 0 of others.
 pub struct Redex {
-    pub rule: FirstRule,
-    pub starts: [u16; VARIABLES],
-    pub lengths: [u16; VARIABLES],
+    pub number: usize,
+    pub word: u16,
 }
 
 // How many words of the term, from word q on, a word of a left side takes; 0 where the words are unequal.
@@ -75,42 +86,61 @@ fn computed_at(area: &[u16], gap: Gap, head: u16, p: usize) -> FirstRule
     )
 }
 
-// A match without variables.
-fn unbound(rule: FirstRule) -> Redex
-    ensures { λ r. ⌜ r ≡ record { rule = rule; starts = noBindings .starts; lengths = noBindings .lengths } ⌝ }
+// What was found, without the place of a right side.
+fn redex_for(found: FirstRule) -> Redex
+    ensures { λ r. ⌜ r ≡ redexFor found ⌝ }
 {
-    Redex {
-        rule,
-        starts: [0; VARIABLES],
-        lengths: [0; VARIABLES],
+    match found {
+        FirstRule::Nothing => Redex {
+            number: UNNUMBERED,
+            word: 0,
+        },
+        FirstRule::First {
+            number,
+            rhs: _,
+            size: _,
+        } => Redex { number, word: 0 },
+        FirstRule::Computed { number, word } => Redex { number, word },
     }
 }
 
-// The first rule that matches the subterm at word p of the term. Only the rules in the list of its first word are tried: a rule that starts
-// with another symbol does not match.
+// Notes that the stretch of variable v has n words of the subterm, from word `start` on.
+fn bind(bindings: &mut [u16], v: usize, start: usize, n: usize)
+    requires { ⌜ (v < variables) × (length (now bindings) ≡ bindingWords) × (start ≤ termWords) × (n ≤ termWords) ⌝ }
+    ensures { λ _. ⌜ now (bindings .exit) ≡ set (set (now (bindings .entry)) v start) (variables + v) n ⌝ }
+{
+    bindings[v] = start as u16;
+    bindings[VARIABLES + v] = n as u16;
+}
+
+// The first rule that matches the subterm there; where it is one that the book lists, its bindings are written. Only the rules in the list of
+// the subterm's first word are tried: a rule that starts with another symbol does not match.
 pub fn first_redex(
     book: &[u16],
     shape: Shape,
     index: &[u16],
     area: &[u16],
-    gap: Gap,
-    p: usize,
+    spot: Spot,
+    bindings: &mut [u16],
 ) -> Redex
-    requires { ⌜ Accepted (now book) shape × Indexed (now book) shape (now index) × Measured (signatureOf (now book)) (now area) gap
-        × (p < wordsIn gap) ⌝ }
-    ensures { λ r. ⌜ r ≡ redexOf (systemOf (now (book .entry))) (drop p (termIn (now (area .entry)) gap)) ⌝ }
+    requires { ⌜ Accepted (now book) shape × Indexed (now book) shape (now index) × Measured (signatureOf (now book)) (now area) (spot .gap)
+        × (spot .at < wordsIn (spot .gap)) × (length (now bindings) ≡ bindingWords) ⌝ }
+    ensures found { λ r. ⌜ r ≡ redexOf (systemOf (now (book .entry))) (drop (spot .at) (termIn (now (area .entry)) (spot .gap))) ⌝ }
+    ensures bound { λ _. ⌜ Bound (matchOf (systemOf (now (book .entry))) (drop (spot .at) (termIn (now (area .entry)) (spot .gap))))
+        (now (bindings .exit)) ⌝ }
 {
+    let gap = spot.gap;
+    let p = spot.at;
     let head = word_at(area, gap, p);
     if LITERAL <= wide(head) {
-        return unbound(computed_at(area, gap, head, p));
+        return redex_for(computed_at(area, gap, head, p));
     }
     let mut k = first_of(book, shape, index, head);
     'rules: while k < shape.rules {
         let r = rule_at(book, rule_start(book, shape, index, k));
         let lhs = r.lhs;
         let width = r.width;
-        let mut starts = [0u16; VARIABLES];
-        let mut lengths = [0u16; VARIABLES];
+        clear(bindings, 0, BINDINGS);
         let mut j = 0;
         let mut q = p;
         'words: while j < width {
@@ -122,22 +152,15 @@ pub fn first_redex(
             }
             let v = wide(w);
             if VARIABLE <= v {
-                starts[v - VARIABLE] = (q - p) as u16;
-                lengths[v - VARIABLE] = n as u16;
+                bind(bindings, v - VARIABLE, q - p, n);
             }
             q += n;
             j += 1;
         }
-        let rule = FirstRule::First {
-            number: k,
-            rhs: r.rhs,
-            size: r.size,
-        };
-        return Redex {
-            rule,
-            starts,
-            lengths,
-        };
+        return Redex { number: k, word: 0 };
     }
-    unbound(FirstRule::Nothing)
+    Redex {
+        number: UNNUMBERED,
+        word: 0,
+    }
 }

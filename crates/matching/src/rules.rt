@@ -18,7 +18,7 @@ use system::words::span;
 use system::words::wide;
 
 // No rule's number, and no word's.
-const UNNUMBERED: usize = 65536;
+pub const UNNUMBERED: usize = 65536;
 
 // How many words at the front of ws a word of a left side takes; 0 where the words are unequal.
 fn consumed(book: &[u16], l: u16, ws: &[u16]) -> usize

@@ -2,12 +2,14 @@
 use Prim.Native.Nat.{ℕ, _+_, _-_, _≤_, _<_}
 use native.Mathlib.Omega.{arith}
 use mathlib.Core.Path.{_≡_, refl, sym, ap, _∙_, subst}
-use mathlib.Core.List.{List}
-use lib.ListN.{length, getD, drop, set, length-drop}
-use lib.Seq.{drop-drop}
+use mathlib.Core.List.{List, _++_, append-nil}
+use lib.ListN.{length, getD, take, drop, set, length-drop, length-set, take-append-drop, drop-of-length-le}
+use lib.Seq.{drop-drop, sets-eq, take-set-le, take-set-lt, drop-set-add, drop-set-lt}
+use Rattle.buffers.specs.Words.{over, zeros}
+use Rattle.buffers.proofs.Pads.{length-zeros}
 use Rattle.system.specs.declared.Shape.{Shape}
 use Rattle.system.specs.declared.layout.rules.RuleSpan.{RuleSpan}
-use Rattle.system.specs.Limits.{variable}
+use Rattle.system.specs.Limits.{variable, variables}
 use Rattle.system.specs.BuiltIns.{literal}
 use Rattle.system.specs.Answers.{signatureOf}
 use Rattle.system.specs.Book.{systemOf, Accepted}
@@ -19,29 +21,66 @@ use Rattle.matching.specs.declared.redexes.Redex.{Redex}
 use Rattle.matching.specs.declared.FirstRule.{FirstRule}
 use Rattle.matching.specs.declared.FirstRule.the-variants.{Nothing, First}
 use Rattle.matching.specs.Matching.{computed}
-use Rattle.matching.specs.Bindings.{noBindings, consumed, computedRule}
-use Rattle.matching.specs.redexes.Redexes.{redexOf}
-use Rattle.matching.proofs.Sources.{match-low, match-words}
+use Rattle.matching.specs.Bindings.{Bindings, noBindings, consumed, computedRule, matchOf}
+use Rattle.matching.specs.rules.Searches.{unnumbered}
+use Rattle.matching.specs.redexes.Redexes.{bindingWords, redexFor, redexOf, Bound}
+use Rattle.matching.proofs.Sources.{not-computed, match-low, match-words}
 use Rattle.matching.proofs.rules.Searches.{Walked, walk-starts, walk-ends, walk-stops, walk-fits, symbol-matched, variable-matched}
 use Rattle.matching.proofs.rules.Lists.{Fails, Along, along-ends, along-here}
 
+-- ---- the words that hold the bindings: in their first half where the stretches start, in the other how many words these have
+
+module _ (bs : List ℕ) where
+  all-clear : length bs ≡ bindingWords → over bs 0 (zeros bindingWords) ≡ zeros bindingWords
+  all-clear e =
+      let n = length-zeros bindingWords in
+      sets-eq (zeros bindingWords) bs 0 (omega arith)
+      ∙ ap (λ l. zeros bindingWords ++ l) (drop-of-length-le bs {i = 0 + length (zeros bindingWords)} (omega arith))
+      ∙ append-nil (zeros bindingWords)
+
+  module _ (v start n : ℕ) where
+    bound-starts : v < variables → take variables (set (set bs v start) (variables + v) n) ≡ set (take variables bs) v start
+    bound-starts h = take-set-le variables (set bs v start) (variables + v) n (omega arith) ∙ take-set-lt variables bs v start h
+
+    bound-lengths : v < variables → drop variables (set (set bs v start) (variables + v) n) ≡ set (drop variables bs) v n
+    bound-lengths h = drop-set-add variables (set bs v start) v n ∙ ap (λ l. set l v n) (drop-set-lt variables bs v start h)
+
+clear-starts : take variables (zeros bindingWords) ≡ noBindings .starts
+unfolding zeros noBindings
+clear-starts = refl
+
+clear-lengths : drop variables (zeros bindingWords) ≡ noBindings .lengths
+unfolding zeros noBindings
+clear-lengths = refl
+
+-- ---- the loops
+
+-- the search has come to rule k
+pub record Searching (b : List ℕ) (sh : Shape) (ws bs : List ℕ) (k : ℕ) : Type 0 where
+  pub sized : length bs ≡ bindingWords
+  pub along : Along b sh ws k
+
 -- the first j words of the left side of rule `of` have taken the words of the term t from p to q
-pub record Trying (b t : List ℕ) (p of width k : ℕ) (starts lengths : List ℕ) (j q : ℕ) : Type 0 where
+pub record Trying (b t : List ℕ) (p of width k : ℕ) (bs : List ℕ) (j q : ℕ) : Type 0 where
   pub same : k ≡ of
   pub onward : p ≤ q
-  pub walked : Walked b (drop p t) of width j (q - p) starts lengths
-
--- a match as it is handed on
-abbrev handed : Match → Redex
-handed m = record { rule = m .rule; starts = m .starts; lengths = m .lengths }
+  pub sized : length bs ≡ bindingWords
+  pub walked : Walked b (drop p t) of width j (q - p) (take variables bs) (drop variables bs)
 
 module _ {b : List ℕ} {sh : Shape} {of at : ℕ} {r : RuleSpan} (turn : Turn b sh of at r) (t : List ℕ) (p : ℕ) where
-  pub try-starts : Trying b t p of (r .width) of (noBindings .starts) (noBindings .lengths) 0 p
-  try-starts =
+  pub try-starts : (bs : List ℕ) {bs′ : List ℕ} → length bs ≡ bindingWords → bs′ ≡ over bs 0 (zeros bindingWords) → Trying b t p of (r .width) of bs′ 0 p
+  try-starts bs e c =
       let z : 0 ≡ p - p = omega arith in
-      record { same = refl; onward = omega arith; walked = subst (λ q. Walked b (drop p t) of (r .width) 0 q (noBindings .starts) (noBindings .lengths)) z (walk-starts turn (drop p t)) }
+      let is = c ∙ all-clear bs e in
+      rw is
+      (record {
+        same = refl;
+        onward = omega arith;
+        sized = length-zeros bindingWords;
+        walked = rw (clear-starts, clear-lengths) (subst (λ q. Walked b (drop p t) of (r .width) 0 q (noBindings .starts) (noBindings .lengths)) z (walk-starts turn (drop p t)));
+      })
 
-  module _ {k j q : ℕ} {s l : List ℕ} (v : Trying b t p of (r .width) k s l j q) (here : j < r .width) {n : ℕ}
+  module _ {k j q : ℕ} {bs : List ℕ} (v : Trying b t p of (r .width) k bs j q) (here : j < r .width) {n : ℕ}
       (taken : n ≡ consumed (signatureOf b) (getD b (r .lhs + j) 0) (drop q t)) where
     took : n ≡ consumed (signatureOf b) (getD b (r .lhs + j) 0) (drop (q - p) (drop p t))
     took =
@@ -62,35 +101,57 @@ module _ {b : List ℕ} {sh : Shape} {of at : ℕ} {r : RuleSpan} (turn : Turn b
           let d = length-drop p t in
           omega arith
 
-      goes : {s′ l′ : List ℕ} → Walked b (drop p t) of (r .width) (j + 1) (q - p + n) s′ l′ → Trying b t p of (r .width) k s′ l′ (j + 1) (q + n)
-      goes {s′} {l′} w =
+      goes : {bs′ : List ℕ} → length bs′ ≡ bindingWords → Walked b (drop p t) of (r .width) (j + 1) (q - p + n) (take variables bs′) (drop variables bs′) →
+          Trying b t p of (r .width) k bs′ (j + 1) (q + n)
+      goes {bs′} e w =
           let o = v .onward in
           let z : q - p + n ≡ q + n - p = omega arith in
-          record { same = v .same; onward = omega arith; walked = subst (λ q. Walked b (drop p t) of (r .width) (j + 1) q s′ l′) z w }
+          record {
+            same = v .same;
+            onward = omega arith;
+            sized = e;
+            walked = subst (λ q. Walked b (drop p t) of (r .width) (j + 1) q (take variables bs′) (drop variables bs′)) z w;
+          }
 
-      module _ {w : ℕ} (is : w ≡ getD b (r .lhs + j) 0) {s′ l′ : List ℕ} where
-        pub try-symbol : w < variable → s′ ≡ s → l′ ≡ l → Trying b t p of (r .width) k s′ l′ (j + 1) (q + n)
-        try-symbol low ds dl = goes (symbol-matched turn (v .walked) here took much is low ds dl)
+      module _ {w : ℕ} (is : w ≡ getD b (r .lhs + j) 0) {bs′ : List ℕ} where
+        pub try-symbol : w < variable → bs′ ≡ bs → Trying b t p of (r .width) k bs′ (j + 1) (q + n)
+        try-symbol low d =
+            goes (ap length d ∙ v .sized) (symbol-matched turn (v .walked) here took much is low (ap (take variables) d) (ap (drop variables) d))
 
-        pub try-variable : variable ≤ w → s′ ≡ set s (w - variable) (q - p) → l′ ≡ set l (w - variable) n → Trying b t p of (r .width) k s′ l′ (j + 1) (q + n)
-        try-variable high ds dl = goes (variable-matched turn (v .walked) here took much is high ds dl)
+        pub try-variable : variable ≤ w → w - variable < variables → bs′ ≡ set (set bs (w - variable) (q - p)) (variables + (w - variable)) n →
+            Trying b t p of (r .width) k bs′ (j + 1) (q + n)
+        try-variable high known d =
+            goes
+            (ap length d ∙ length-set (set bs (w - variable) (q - p)) (variables + (w - variable)) n ∙ length-set bs (w - variable) (q - p) ∙ v .sized)
+            (variable-matched turn (v .walked) here took much is high
+            (ap (take variables) d ∙ bound-starts bs (w - variable) (q - p) n known)
+            (ap (drop variables) d ∙ bound-lengths bs (w - variable) (q - p) n known))
 
--- ---- what is found
+-- ---- what is found, and what is bound then
 
-module _ {b : List ℕ} {sh : Shape} (acc : Accepted b sh) (t : List ℕ) (p : ℕ) where
+abbrev handed : Match → Redex
+handed m = redexFor (m .rule)
+
+abbrev pub Tells : List ℕ → List ℕ → Redex → List ℕ → Type 0
+Tells b ws x bs = (x ≡ redexOf (systemOf b) ws) × Bound (matchOf (systemOf b) ws) bs
+
+module _ {b : List ℕ} {sh : Shape} (acc : Accepted b sh) (t : List ℕ) (p : ℕ) {bs : List ℕ} where
   -- among the built-in rules
-  pub finds-computed : {f : FirstRule} → f ≡ computedRule (computed (drop p t)) → literal ≤ getD (drop p t) 0 0 →
-      record { rule = f; starts = noBindings .starts; lengths = noBindings .lengths } ≡ redexOf (systemOf b) (drop p t)
-  finds-computed e h = ap handed (match-words b sh acc (drop p t) e h)
+  pub finds-computed : {f : FirstRule} → f ≡ computedRule (computed (drop p t)) → literal ≤ getD (drop p t) 0 0 → Tells b (drop p t) (redexFor f) bs
+  finds-computed e h =
+      let m = match-words b sh acc (drop p t) e h in
+      (ap handed m, λ k rhs size f. absurd (not-computed b sh acc (drop p t) (computed (drop p t)) (sym e ∙ ap (λ y. y .rule) m ∙ f)))
 
   -- among the listed ones: none, or this one
   module _ (low : getD (drop p t) 0 0 < literal) {of : ℕ} (a : Along b sh (drop p t) of) where
-    pub finds-nothing : sh .rules ≤ of → record { rule = Nothing; starts = noBindings .starts; lengths = noBindings .lengths } ≡ redexOf (systemOf b) (drop p t)
-    finds-nothing h = ap handed (sym (along-ends acc (drop p t) a h) ∙ match-low b sh acc (drop p t) low)
+    pub finds-nothing : sh .rules ≤ of → Tells b (drop p t) (record { number = unnumbered; word = 0 }) bs
+    finds-nothing h =
+        let m = sym (along-ends acc (drop p t) a h) ∙ match-low b sh acc (drop p t) low in
+        (ap handed m, λ k rhs size f. absurd (let n = ap (λ y. y .rule) m in let z : _≡_ {A = ℕ} 0 1 = cc in omega arith))
 
     pub finds-rule : {at : ℕ} {r : RuleSpan} (turn : Turn b sh of at r) → RulesAt b of at → r ≡ ruleSpan b at →
-        {k j q : ℕ} {s l : List ℕ} → Trying b t p of (r .width) k s l j q → r .width ≤ j →
-        record { rule = First k (r .rhs) (r .size); starts = s; lengths = l } ≡ redexOf (systemOf b) (drop p t)
-    finds-rule {r} turn rest e {k} {s} {l} v done =
-        rw (v .same)
-        (ap handed (along-here acc (drop p t) a (turn .inside) rest e (record { starts = s; lengths = l }) (walk-ends turn (v .walked) done) ∙ match-low b sh acc (drop p t) low))
+        {k j q : ℕ} → Trying b t p of (r .width) k bs j q → r .width ≤ j → Tells b (drop p t) (record { number = k; word = 0 }) bs
+    finds-rule {r} turn rest e {k} v done =
+        let x : Bindings = record { starts = take variables bs; lengths = drop variables bs } in
+        let m = along-here acc (drop p t) a (turn .inside) rest e x (walk-ends turn (v .walked) done) ∙ match-low b sh acc (drop p t) low in
+        (rw (v .same) (ap handed m), λ _ _ _ _. sym (take-append-drop variables bs) ∙ ap (λ y. y .starts ++ y .lengths) m)

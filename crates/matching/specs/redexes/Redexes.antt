@@ -1,10 +1,31 @@
--- What is handed of a match in the rows.
-use Prim.Native.Nat.{ℕ}
-use mathlib.Core.List.{List}
+-- What is handed of a match in the rows: the rule's number and the word of a built-in rule; and apart from it the stretches of the variables.
+use Prim.Native.Nat.{ℕ, _+_}
+use mathlib.Core.Path.{_≡_}
+use mathlib.Core.List.{List, _++_}
+use Rattle.system.specs.Limits.{variables}
 use Rattle.system.specs.System.{System}
+use Rattle.matching.specs.declared.Match.{Match}
+use Rattle.matching.specs.declared.FirstRule.{FirstRule}
+use Rattle.matching.specs.declared.FirstRule.the-variants.{Nothing, First, Computed}
 use Rattle.matching.specs.declared.redexes.Redex.{Redex}
 use Rattle.matching.specs.Bindings.{matchOf}
+use Rattle.matching.specs.rules.Searches.{unnumbered}
 
--- "the lowest-numbered rule that fits here", at the front of ws, and the stretches of its variables
+-- how many words hold where the stretches of the variables start, and how many words they have
+abbrev pub bindingWords : ℕ
+bindingWords = variables + variables
+
+-- the number of the rule that was found, one that no rule has where none was; and the word that a built-in one puts there
+abbrev pub redexFor : FirstRule → Redex
+redexFor Nothing = record { number = unnumbered; word = 0 }
+redexFor (First k rhs size) = record { number = k; word = 0 }
+redexFor (Computed k w) = record { number = k; word = w }
+
+-- "the lowest-numbered rule that fits here", at the front of ws
 abbrev pub redexOf : System → List ℕ → Redex
-redexOf s ws = record { rule = matchOf s ws .rule; starts = matchOf s ws .starts; lengths = matchOf s ws .lengths }
+redexOf s ws = redexFor (matchOf s ws .rule)
+
+-- where a listed rule was found these words are where the stretches of its variables start, and then how many words they have. Where none was,
+-- they may be anything: nothing is filled
+abbrev pub Bound : Match → List ℕ → Type 0
+Bound m bs = (k rhs size : ℕ) → m .rule ≡ First k rhs size → bs ≡ m .starts ++ m .lengths

@@ -1,11 +1,11 @@
 -- `redexes::first_redex` meets its contract.
 use Prim.Native.Nat.{ℕ, _+_, _-_, _≤_, _<_}
 use native.Mathlib.Omega.{arith}
-use mathlib.Core.Path.{_≡_, ap, _∙_}
+use mathlib.Core.Path.{_≡_, sym, ap, _∙_}
 use mathlib.Core.Logic.{⊎-elim}
 use mathlib.Core.List.{List}
 use lib.ListN.{length, getD, drop}
-use Rattle.system.specs.Limits.{termWords}
+use Rattle.system.specs.Limits.{variable, variables, termWords}
 use Rattle.system.specs.BuiltIns.{literal}
 use Rattle.system.specs.Answers.{signatureOf}
 use Rattle.system.specs.Book.{systemOf}
@@ -13,30 +13,33 @@ use Rattle.system.specs.layout.Index.{bucket, ruleFrom}
 use Rattle.system.proofs.layout.Books.{Turn, turn-of}
 use Rattle.rows.specs.gap.Gaps.{termIn}
 use Rattle.rows.proofs.lengths.Measures.{words-length}
-use Rattle.matching.specs.Bindings.{noBindings, consumed}
+use Rattle.matching.specs.Bindings.{consumed}
 use Rattle.matching.proofs.rules.Lists.{Along, along-starts, along-next}
 use Rattle.matching.proofs.redexes.Taking.{word-from}
-use Rattle.matching.proofs.redexes.Tries.{Trying, try-starts, try-fails, try-fits, try-symbol, try-variable, finds-computed, finds-nothing, finds-rule}
+use Rattle.matching.proofs.redexes.Tries.{Searching, Trying, try-starts, try-fails, try-fits, try-symbol, try-variable, finds-computed, finds-nothing, finds-rule}
 use borrow.Author.Needs.{needs}
 use Rattle.matching.proofs.redexes.first_redex.Statement.{statement}
 use Rattle.matching.proofs.redexes.first_redex.Tie as tie
 
 abbrev Inv-words : tie.InvT-words
-Inv-words book shape index area gap p head k₀ r lhs width starts₀ lengths₀ j₀ q₀ k starts lengths j q = Trying book (termIn area gap) p k₀ width k starts lengths j q
+Inv-words book shape index area bindings₀ gap p head k₀ lhs width j₀ q₀ bindings k j q = Trying book (termIn area gap) p k₀ width k bindings j q
 
 abbrev μ-words : tie.MeasureT-words
-μ-words book shape index area gap p head k₀ r lhs width starts₀ lengths₀ j₀ q₀ k starts lengths j q = width - j
+μ-words book shape index area bindings₀ gap p head k₀ lhs width j₀ q₀ bindings k j q = width - j
 
 abbrev Inv-rules : tie.InvT-rules
-Inv-rules book shape index area gap p head k₀ k = Along book shape (drop p (termIn area gap)) k
+Inv-rules book shape index area bindings₀ gap p head k₀ bindings k = Searching book shape (drop p (termIn area gap)) bindings k
 
 abbrev μ-rules : tie.MeasureT-rules
-μ-rules book shape index area gap p head k₀ k = shape .rules - k
+μ-rules book shape index area bindings₀ gap p head k₀ bindings k = shape .rules - k
 
 -- ---- the places of the code that are behind others: the entry, the head of the rules' loop, the rule read, the word met
 
+abbrev told : tie.After-gap Inv-words μ-words Inv-rules μ-rules → tie.Start Inv-words μ-words Inv-rules μ-rules
+told c = c .before .before .before .before .before
+
 abbrev start : tie.After-wide Inv-words μ-words Inv-rules μ-rules → tie.Start Inv-words μ-words Inv-rules μ-rules
-start c = c .before .before .before .before .before
+start c = told (c .before .before)
 
 abbrev entry : tie.At-rules Inv-words μ-words Inv-rules μ-rules → tie.Start Inv-words μ-words Inv-rules μ-rules
 entry c = start (c .before .before .before)
@@ -44,21 +47,24 @@ entry c = start (c .before .before .before)
 abbrev head : tie.After-rule-at Inv-words μ-words Inv-rules μ-rules → tie.At-rules Inv-words μ-words Inv-rules μ-rules
 head c = c .before .before .before .before
 
+abbrev cleared : tie.After-slice-known2 Inv-words μ-words Inv-rules μ-rules → tie.After-rule-at Inv-words μ-words Inv-rules μ-rules
+cleared c = c .before .before .before .before
+
 abbrev met : tie.After-consumed-at Inv-words μ-words Inv-rules μ-rules → tie.In-words Inv-words μ-words Inv-rules μ-rules
 met c = c .before .before
 
 abbrev read : tie.After-consumed-at Inv-words μ-words Inv-rules μ-rules → tie.After-rule-at Inv-words μ-words Inv-rules μ-rules
-read c = met c .before .before
+read c = cleared (met c .before .before)
 
 abbrev term : tie.Start Inv-words μ-words Inv-rules μ-rules → List ℕ
-term s = termIn (s .args .area .now) (s .args .gap)
+term s = termIn (s .args .area .now) (s .args .spot .gap)
 
 -- ---- what is known there: the first word, the rule of this turn, what its word takes, and that it is a word of the term
 
-first : (c : tie.After-wide Inv-words μ-words Inv-rules μ-rules) → c .wide .result ≡ getD (drop (start c .args .p) (term (start c))) 0 0
-first c = let s = start c in c .wide .ensures .0 ∙ word-from (term s) (s .args .p) 0 (s .args .p) (omega arith) (c .before .word-at .ensures)
+first : (c : tie.After-wide Inv-words μ-words Inv-rules μ-rules) → c .wide .result ≡ getD (drop (start c .args .spot .at) (term (start c))) 0 0
+first c = let s = start c in c .wide .ensures .0 ∙ word-from (term s) (s .args .spot .at) 0 (s .args .spot .at) (omega arith) (c .before .word-at .ensures)
 
-low : (c : tie.At-rules Inv-words μ-words Inv-rules μ-rules) → getD (drop (entry c .args .p) (term (entry c))) 0 0 < literal
+low : (c : tie.At-rules Inv-words μ-words Inv-rules μ-rules) → getD (drop (entry c .args .spot .at) (term (entry c))) 0 0 < literal
 low c = let e = c .before .before in let is = first (e .before) in let l = e .if1 .left in omega arith
 
 turn : (c : tie.After-rule-at Inv-words μ-words Inv-rules μ-rules) →
@@ -73,23 +79,23 @@ took : (c : tie.After-consumed-at Inv-words μ-words Inv-rules μ-rules) →
     let b = s .args .book .now in c .consumed-at .result ≡ consumed (signatureOf b) (getD b (r .rule-at .result .lhs + w .j) 0) (drop (w .q) (term s))
 took c = c .consumed-at .ensures _ (entry (head (read c)) .pre .2)
 
-short : (s : tie.Start Inv-words μ-words Inv-rules μ-rules) → (s .args .p ≤ length (term s)) × (length (term s) ≤ termWords)
+short : (s : tie.Start Inv-words μ-words Inv-rules μ-rules) → (s .args .spot .at ≤ length (term s)) × (length (term s) ≤ termWords)
 short s = let m = s .pre .2 .gapped in let n = words-length m in let i = s .pre .3 in let l = m .lies in (omega arith, omega arith)
 
 fits : (c : tie.Else3 Inv-words μ-words Inv-rules μ-rules) →
     let k = c .before in
-    let w = met k .before .words in (entry (head (read k)) .args .p ≤ w .q) × (w .q + k .consumed-at .result ≤ termWords)
+    let w = met k .before .words in (entry (head (read k)) .args .spot .at ≤ w .q) × (w .q + k .consumed-at .result ≤ termWords)
 fits c =
     let k = c .before in
     let w = met k .before .words in
     let s = entry (head (read k)) in
     let y = short s in
-    let x = try-fits (turn (read k)) (term s) (s .args .p) (w .inv) (met k .words-test .taken) (took k) (c .if3 .left) (y .0) in (w .inv .onward, omega arith)
+    let x = try-fits (turn (read k)) (term s) (s .args .spot .at) (w .inv) (met k .words-test .taken) (took k) (c .if3 .left) (y .0) in (w .inv .onward, omega arith)
 
 -- ---- the needs
 
 word-at-requires : tie.Need-word-at-requires Inv-words μ-words Inv-rules μ-rules
-word-at-requires c κs = let p = c .before .before .before .pre in (p .2 .gapped, p .3)
+word-at-requires c κs = let p = told c .pre in (p .2 .gapped, p .3)
 
 computed-at-requires : tie.Need-computed-at-requires Inv-words μ-words Inv-rules μ-rules
 computed-at-requires c κs = let p = start (c .before) .pre in (p .2 .gapped, p .3, c .before .before .word-at .ensures)
@@ -99,7 +105,8 @@ returns c =
     let t = c .before .before in
     let s = start (t .before) in
     let is = first (t .before) in
-    c .unbound .ensures ∙ finds-computed (s .pre .0) (term s) (s .args .p) (c .before .computed-at .ensures) (let h = t .if1 .taken in omega arith)
+    rw (c .redex-for .ensures)
+    (finds-computed (s .pre .0) (term s) (s .args .spot .at) (c .before .computed-at .ensures) (let h = t .if1 .taken in omega arith))
 
 first-of-requires : tie.Need-first-of-requires Inv-words μ-words Inv-rules μ-rules
 first-of-requires c κs = let p = start (c .before) .pre in (p .0, p .1)
@@ -108,8 +115,11 @@ rules-holds : tie.Need-rules-holds Inv-words μ-words Inv-rules μ-rules
 rules-holds c =
     let w = c .before .before in
     let s = start w in
-    along-starts (s .pre .0) (drop (s .args .p) (term s))
-    (c .first-of .ensures .0 ∙ ap (λ w. ruleFrom (systemOf (s .args .book .now)) 0 (bucket w)) (word-from (term s) (s .args .p) 0 (s .args .p) (omega arith) (w .before .word-at .ensures)))
+    let at = word-from (term s) (s .args .spot .at) 0 (s .args .spot .at) (omega arith) (w .before .word-at .ensures) in
+    record {
+      sized = s .pre .4;
+      along = along-starts (s .pre .0) (drop (s .args .spot .at) (term s)) (c .first-of .ensures .0 ∙ ap (λ w. ruleFrom (systemOf (s .args .book .now)) 0 (bucket w)) at);
+    }
 
 rule-start-requires : tie.Need-rule-start-requires Inv-words μ-words Inv-rules μ-rules
 rule-start-requires c κs = let p = entry (c .before .before) .pre in (p .0, p .1, c .if2 .taken)
@@ -117,21 +127,30 @@ rule-start-requires c κs = let p = entry (c .before .before) .pre in (p .0, p .
 rule-at-requires : tie.Need-rule-at-requires Inv-words μ-words Inv-rules μ-rules
 rule-at-requires c κs = c .rule-start .ensures .1
 
+clear-requires : tie.Need-clear-requires Inv-words μ-words Inv-rules μ-rules
+clear-requires c κs = let n = head (c .before) .rules .inv .sized in omega arith
+
 words-holds : tie.Need-words-holds Inv-words μ-words Inv-rules μ-rules
-unfolding noBindings
-words-holds c = let s = entry (head c) in try-starts (turn c) (term s) (s .args .p)
+words-holds c =
+    let r = cleared c in
+    let s = entry (head r) in
+    try-starts (turn r) (term s) (s .args .spot .at) (head r .rules .bindings) (head r .rules .inv .sized) (c .before .before .clear .ensures)
 
 add-w : tie.Need-add-w Inv-words μ-words Inv-rules μ-rules
-add-w c = let w = turn (c .before .before) .here in omega arith
+add-w c = let w = turn (cleared (c .before .before)) .here in omega arith
 
 mul-w : tie.Need-mul-w Inv-words μ-words Inv-rules μ-rules
-mul-w c = let w = turn (c .before .before) .here in omega arith
+mul-w c =
+    let r = cleared (c .before .before) in
+    let w = turn r .here in
+    let g = entry (head r) .good in
+    omega arith
 
 shared-slice-read-w : tie.Need-shared-slice-read-w Inv-words μ-words Inv-rules μ-rules
-shared-slice-read-w c = let w = turn (c .before .before .before) .here in omega arith
+shared-slice-read-w c = let w = turn (cleared (c .before .before .before)) .here in omega arith
 
 consumed-at-requires : tie.Need-consumed-at-requires Inv-words μ-words Inv-rules μ-rules
-consumed-at-requires c κs = entry (head (c .before .before .before)) .pre .2 .gapped
+consumed-at-requires c κs = entry (head (cleared (c .before .before .before))) .pre .2 .gapped
 
 next-of-requires : tie.Need-next-of-requires Inv-words μ-words Inv-rules μ-rules
 next-of-requires c κs =
@@ -156,27 +175,29 @@ rules-again c =
     let h = head r in
     let s = entry h in
     let w = met k .before .words in
-    along-next (s .pre .0) (drop (s .args .p) (term s)) (h .rules .inv) (r .before .before .if2 .taken)
-    (try-fails (turn r) (term s) (s .args .p) (w .inv) (met k .words-test .taken) (took k) (c .before .if3 .taken)) (rw (w .inv .same) at (c .next-of .ensures .0))
+    let fails = try-fails (turn r) (term s) (s .args .spot .at) (w .inv) (met k .words-test .taken) (took k) (c .before .if3 .taken) in
+    record {
+      sized = w .inv .sized;
+      along = along-next (s .pre .0) (drop (s .args .spot .at) (term s)) (h .rules .inv .along) (r .before .before .if2 .taken) fails (rw (w .inv .same) at (c .next-of .ensures .0));
+    }
 
-sub-starts : tie.Need-sub-starts Inv-words μ-words Inv-rules μ-rules
-sub-starts c = fits (c .before .before) .0
+sub-bind : tie.Need-sub-bind Inv-words μ-words Inv-rules μ-rules
+sub-bind c = fits (c .before .before .before) .0
 
-cast-starts : tie.Need-cast-starts Inv-words μ-words Inv-rules μ-rules
-cast-starts c = let f = fits (c .before .before) in omega arith
+known : (c : tie.After-wide2 Inv-words μ-words Inv-rules μ-rules) → c .wide2 .result < variable + variables
+known c =
+    let k = c .before .before in
+    let w = turn (read k) .here in
+    let v = c .wide2 .ensures .0 in
+    omega (arith, w .low (met k .before .words .j) (met k .words-test .taken))
 
-array-write-starts : tie.Need-array-write-starts Inv-words μ-words Inv-rules μ-rules
-array-write-starts c =
-    let k = c .before .before .before in
-    let w = turn (read k) .here in omega (arith, w .low (met k .before .words .j) (met k .words-test .taken))
-
-cast-lengths : tie.Need-cast-lengths Inv-words μ-words Inv-rules μ-rules
-cast-lengths c = let f = fits (c .before .before) in omega arith
-
-array-write-lengths : tie.Need-array-write-lengths Inv-words μ-words Inv-rules μ-rules
-array-write-lengths c =
-    let k = c .before .before .before in
-    let w = turn (read k) .here in omega (arith, w .low (met k .before .words .j) (met k .words-test .taken))
+bind-requires : tie.Need-bind-requires Inv-words μ-words Inv-rules μ-rules
+bind-requires c κs =
+    let w = c .before .before in
+    let f = fits (w .before) in
+    let l = known w in
+    let h = c .before .if4 .taken in
+    (omega arith, met (w .before .before) .before .words .inv .sized, omega arith, omega arith)
 
 add-q : tie.Need-add-q Inv-words μ-words Inv-rules μ-rules
 add-q c = let f = fits (c .before .before) in omega arith
@@ -189,30 +210,39 @@ words-again c =
     let here = met k .words-test .taken in
     let much = c .before .before .if3 .left in
     let v = c .before .wide2 in
+    let l = known (c .before) in
     ⊎-elim
-    (λ e. try-variable (turn (read k)) (term s) (s .args .p) o here (took k) much (v .ensures .0) (e .0 .taken) (e .1) (e .2))
-    (λ e. try-symbol (turn (read k)) (term s) (s .args .p) o here (took k) much (v .ensures .0) (e .0 .left) (e .1) (e .2))
+    (λ e.
+    let h = e .0 .taken in
+    try-variable (turn (read k)) (term s) (s .args .spot .at) o here (took k) much (v .ensures .0) h (omega arith) (e .5 ∙ e .2 .ensures))
+    (λ e. try-symbol (turn (read k)) (term s) (s .args .spot .at) o here (took k) much (v .ensures .0) (e .0 .left) (e .1))
     (c .if4 .came)
+
+same-length : tie.Need-same-length Inv-words μ-words Inv-rules μ-rules
+same-length c = let s = entry (head (cleared (c .before .before))) in c .before .words .inv .sized ∙ sym (s .pre .4)
+
+same-length-2 : tie.Need-same-length-2 Inv-words μ-words Inv-rules μ-rules
+same-length-2 c = let h = c .before .before in h .rules .inv .sized ∙ sym (entry h .pre .4)
 
 returns-2 : tie.Need-returns-2 Inv-words μ-words Inv-rules μ-rules
 returns-2 c =
-    let r = c .before .before in
+    let r = cleared (c .before .before) in
     let h = head r in
     let s = entry h in
-    finds-rule (s .pre .0) (term s) (s .args .p) (low h) (h .rules .inv) (turn r) (r .before .rule-start .ensures .0) (r .rule-at .ensures) (c .before .words .inv) (c .words-test .left)
+    finds-rule (s .pre .0) (term s) (s .args .spot .at) (low h) (h .rules .inv .along) (turn r) (r .before .rule-start .ensures .0) (r .rule-at .ensures)
+    (c .before .words .inv) (c .words-test .left)
 
 returns-3 : tie.Need-returns-3 Inv-words μ-words Inv-rules μ-rules
 returns-3 c =
-    let e = c .before in
-    let h = e .before .before in
+    let h = c .before .before in
     let s = entry h in
-    c .unbound2 .ensures ∙ finds-nothing (s .pre .0) (term s) (s .args .p) (low h) (h .rules .inv) (e .if2 .left)
+    finds-nothing (s .pre .0) (term s) (s .args .spot .at) (low h) (h .rules .inv .along) (c .if2 .left)
 
 pub first-redex-spec : {M : Type 1} → statement M
 first-redex-spec =
     tie.close
     (tie.spec
     Inv-words μ-words Inv-rules μ-rules word-at-requires (λ c κs. search needs) computed-at-requires (λ c κs. search needs) returns
-    first-of-requires rules-holds rule-start-requires rule-at-requires words-holds add-w mul-w shared-slice-read-w consumed-at-requires
-    next-of-requires rules-less rules-again (λ c κs. search needs) sub-starts cast-starts (λ c. search needs) array-write-starts cast-lengths
-    (λ c. search needs) array-write-lengths add-q (λ c. search needs) (λ c. search needs) words-again returns-2 (λ c κs. search needs) returns-3)
+    first-of-requires rules-holds rule-start-requires rule-at-requires clear-requires words-holds add-w mul-w shared-slice-read-w
+    consumed-at-requires next-of-requires rules-less rules-again (λ c κs. search needs) sub-bind bind-requires add-q (λ c. search needs)
+    (λ c. search needs) words-again same-length returns-2 same-length-2 returns-3)
