@@ -26,7 +26,7 @@ use Rattle.system.specs.layout.Entries.{entryOf}
 use Rattle.machine.specs.advance.Transition as to
 use Rattle.machine.specs.advance.Transition.{Transition, eventOf, countsAfter, countsIn, positionsAfter, next, Performed}
 use Rattle.rewriting.proofs.Laws.{position-snoc}
-use Rattle.machine.proofs.advance.States.{valid-pop, valid-pass, valid-open}
+use Rattle.machine.proofs.advance.States.{valid-within, valid-pop, valid-pass, valid-open}
 use Rattle.system.proofs.layout.entries.Asks.{stood, Asks, asks, asked-end, asked-again, asked-rules, asked-argument}
 use Rattle.machine.proofs.advance.Areas.{stands-set, stands-outer, stands-state, count-set, holds}
 use Rattle.machine.proofs.advance.Bounds.{spot, bounds}
@@ -209,6 +209,12 @@ module _ (τ : Taking) where
       start : q′ ≡ position s t inner 0
       unfolding down argument
       start = rw (hops, add-one p, here-is) (sym (position-snoc s t outer (suc c) 0 ∙ rw entry-is))
+
+      -- it lies in the term, so it fits a word
+      pub argument-fits : q′ ≤ 65535
+      argument-fits =
+          let inside = valid-within s wf t inner 0 (valid-open s wf t outer c valid more i entry-is (omega (arith, levels))) in
+          let small = valid .bounded in omega (arith, start)
 
       abbrev ws₂ : List ℕ
       ws₂ = set ws₁ (countsAt + level + 1) 0

@@ -1,18 +1,22 @@
 -- `machine::take_transition` meets its contract: a law of Performing for each way out.
+use Prim.Native.Nat.{_+_}
 use native.Mathlib.Omega.{arith}
-use lib.ListN.{length-set}
+use mathlib.Core.Path.{_≡_, ap, _∙_}
+use lib.ListN.{getD, drop, length-set}
 use borrow.Author.Needs.{needs}
+use Rattle.system.specs.Signature.{span}
 use Rattle.system.specs.Book.{systemOf}
+use Rattle.rows.specs.gap.Gaps.{termIn}
 use Rattle.machine.proofs.advance.Bounds.{Bounds, bounds}
-use Rattle.machine.proofs.advance.Performing.{Taking, performed-end, performed-repeated, performed-rules, performed-deep, performed-argument}
+use Rattle.machine.proofs.advance.Performing.{Taking, performed-end, performed-repeated, performed-rules, performed-deep, argument-fits, performed-argument}
 use Rattle.machine.proofs.advance.take_transition.Statement.{statement}
 use Rattle.machine.proofs.advance.take_transition.Tie as tie
 
 -- ---- the places of the code
 
 -- the call: the bounds that the state gives
-within : (c : tie.Start) → let a = c .args in Bounds (a .area .now) (a .positions .now) (a .at .gap) (a .at .level)
-within c = let a = c .args in bounds (a .book .now) (a .shape) (c .pre .0) (a .area .now) (a .positions .now) (a .at .gap) (a .at .level) (c .pre .2)
+within : (c : tie.Start) → let a = c .args in Bounds (a .area .now) (a .frame .now) (a .at .gap) (a .at .level)
+within c = let a = c .args in bounds (a .book .now) (a .shape) (c .pre .0) (a .area .now) (a .frame .now) (a .at .gap) (a .at .level) (c .pre .2)
 
 -- where the position is read
 abbrev entry : tie.After-gap → tie.Start
@@ -20,7 +24,11 @@ entry c = c .before .before .before .before .before
 
 -- where the count is read
 abbrev reading : tie.After-slice-known4 → tie.Start
-reading c = entry (c .before .before)
+reading c = entry (c .before .before .before)
+
+-- the innermost level starts there
+start : (c : tie.After-slice-known4) → let a = reading c .args in c .before .wide .result ≡ getD (a .frame .now) (a .at .level) 0
+start c = c .before .wide .ensures .0
 
 -- where the word is read
 abbrev looking : tie.After-word-at → tie.Start
@@ -35,7 +43,7 @@ taking c =
     let x = asked c in
     let a = x .args in
     let w = c .before .before .word-at in
-    let k = c .before .wide in
+    let k = c .before .wide2 in
     let e = c .entry-of in
     record {
       book = a .book .now;
@@ -48,7 +56,7 @@ taking c =
       k = k .result;
       is = k .ensures .0;
       word = w .result;
-      reads = w .ensures;
+      reads = w .ensures ∙ ap (λ y. getD (termIn (a .area .now) (a .at .gap)) y 0) (start (c .before .before .before .before));
       e = e .result;
       answers = e .ensures;
     }
@@ -60,13 +68,31 @@ argument c = c .before .before .before .before
 abbrev hopped : tie.After-hop → tie.Else1
 hopped c = c .before .before
 
+-- where the position was read
+abbrev reached : tie.After-entry-of → tie.After-slice-known4
+reached c = c .before .before .before .before
+
+-- where the argument starts
+hops : (c : tie.After-hop) → let τ = taking (argument (hopped c)) in
+    let e = hopped c .before .before .e in
+    let t = termIn (τ .ws) (τ .at .gap) in
+    let p = getD (τ .positions) (τ .at .level) 0 in
+    c .hop .result ≡ p + 1 + span (systemOf (τ .book) .arities) (drop (p + 1) t) (e .given .0 .0)
+hops c =
+    let x = argument (hopped c) in
+    let τ = taking x in
+    let t = termIn (τ .ws) (τ .at .gap) in
+    let i = hopped c .before .before .e .given .0 .0 in
+    c .hop .ensures (systemOf (τ .book) .arities) (τ .held .represents .measured)
+    ∙ ap (λ y. y + 1 + span (systemOf (τ .book) .arities) (drop (y + 1) t) i) (start (reached x))
+
 -- ---- the needs
 
 add-begun : tie.Need-add-begun
 add-begun c = let b = within (reading c) in omega arith
 
 word-at-requires : tie.Need-word-at-requires
-word-at-requires c κs = let b = within (reading (c .before)) in (b .gapped, b .within)
+word-at-requires c κs = let b = within (reading (c .before)) in (b .gapped, omega (arith, b .within, start (c .before)))
 
 returns : tie.Need-returns
 returns c = performed-end (taking (c .before .before)) (c .enum-told .given .1)
@@ -80,29 +106,35 @@ returns-3 c = performed-rules (taking (c .before .before)) (c .enum-told3 .given
 returns-4 : tie.Need-returns-4
 returns-4 c = let e = c .before .before .e in performed-deep (taking (c .before .before .before .before)) (e .given .0 .0) (e .given .1) (c .if1 .taken)
 
-add-hop : tie.Need-add-hop
-add-hop c = let b = within (asked (argument (c .before))) in omega arith
-
 hop-requires : tie.Need-hop-requires
-hop-requires c κs = let b = within (asked (argument (c .before))) in (b .gapped, omega arith)
+hop-requires c κs =
+    let x = argument (c .before) in
+    let b = within (asked x) in
+    (b .gapped, omega (arith, b .within, start (reached x)))
 
 slice-write-area-4 : tie.Need-slice-write-area-4
 slice-write-area-4 c = let b = within (asked (argument (hopped c))) in rw length-set (omega arith)
+
+cast-frame : tie.Need-cast-frame
+cast-frame c =
+    let x = hopped c in
+    let e = x .before .before .e in
+    let z = argument-fits (taking (argument x)) (e .given .0 .0) (e .given .1) (x .if1 .left) (c .hop .result) (hops c) in omega arith
 
 returns-5 : tie.Need-returns-5
 returns-5 c =
     let x = hopped c in
     let e = x .before .before .e in
     let τ = taking (argument x) in
-    performed-argument τ (e .given .0 .0) (e .given .1) (x .if1 .left) (c .hop .result) (c .hop .ensures (systemOf (τ .book) .arities) (τ .held .represents .measured))
+    performed-argument τ (e .given .0 .0) (e .given .1) (x .if1 .left) (c .hop .result) (hops c)
 
 pub take-transition-spec : {M : Type 1} → statement M
 take-transition-spec =
     tie.close
     (tie.spec
-    (λ c. search needs) (λ c. search needs) (λ c. search needs) (λ c. search needs) (λ c. search needs) add-begun word-at-requires
-    (λ c κs. search needs) (λ c κs. search needs) (λ c. search needs) (λ c. search needs) returns (λ c. search needs) (λ c. search needs)
-    (λ c. search needs) (λ c. search needs) (λ c. search needs) returns-2 (λ c. search needs) (λ c. search needs) (λ c. search needs)
-    (λ c. search needs) (λ c. search needs) returns-3 (λ c. search needs) (λ c. search needs) returns-4 add-hop hop-requires
-    (λ c. search needs) (λ c. search needs) (λ c. search needs) (λ c. search needs) (λ c. search needs) (λ c. search needs)
-    slice-write-area-4 (λ c. search needs) (λ c. search needs) (λ c. search needs) (λ c. search needs) (λ c. search needs) returns-5)
+    (λ c. search needs) (λ c. search needs) (λ c κs. search needs) (λ c. search needs) (λ c. search needs) (λ c. search needs) add-begun word-at-requires
+    (λ c κs. search needs) (λ c κs. search needs) (λ c. search needs) (λ c. search needs) returns (λ c. search needs) (λ c. search needs) (λ c. search needs)
+    (λ c. search needs) (λ c. search needs) returns-2 (λ c. search needs) (λ c. search needs) (λ c. search needs) (λ c. search needs) (λ c. search needs) returns-3
+    (λ c. search needs) (λ c. search needs) returns-4 (λ c. search needs) hop-requires (λ c. search needs) (λ c. search needs) (λ c. search needs)
+    (λ c. search needs) (λ c. search needs) (λ c. search needs) slice-write-area-4 cast-frame (λ c. search needs) (λ c. search needs) (λ c. search needs)
+    (λ c. search needs) (λ c. search needs) returns-5)
