@@ -3,9 +3,9 @@
 use Prim.Native.Nat.{ℕ, suc, _+_, _-_, _≤_, _<_}
 use native.Mathlib.Omega.{arith}
 use mathlib.Core.Path.{_≡_, refl, sym, ap, _∙_, subst}
-use mathlib.Core.List.{List, [], _∷_, _++_}
-use lib.ListN.{length, getD, take, drop, set, length-append, length-drop, length-set}
-use lib.Seq.{take-take, take-set-le, take-suc-set, take-suc, take-append-seam, drop-set-add, getD-take, getD-drop, getD-at}
+use mathlib.Core.List.{List, [], _∷_, _++_, append-nil}
+use lib.ListN.{length, getD, take, drop, set, length-append, length-drop, length-set, drop-of-length-le}
+use lib.Seq.{length-take-le, take-at, drop-at, take-take, take-set-le, take-suc-set, take-suc, take-append-seam, drop-set-add, getD-take, getD-drop, getD-at}
 use Rattle.system.specs.Limits.{areaWords, levels, termWords}
 use Rattle.system.specs.Signature.{Signature}
 use Rattle.system.specs.System.{System}
@@ -13,6 +13,7 @@ use Rattle.rows.specs.declared.gap.Gap.{Gap}
 use Rattle.rows.specs.gap.Gaps.{countsAt, termIn}
 use Rattle.rows.specs.lengths.Measured.{Measured}
 use Rattle.rows.proofs.lengths.Measures.{measured-counts, term-counts}
+use Rattle.matching.specs.redexes.Redexes.{bindingWords}
 use Rattle.machine.specs.advance.Area.{outerIn, countIn, Stands, Valid, Positioned, Represents, frameWords, Tracks}
 
 -- the words behind the rows
@@ -124,3 +125,26 @@ tracks-frame {s} {ws} {frame} {gap} {level} {frame′} h e = record {
       let m : k < levels = (let z = h .represents .valid .room in omega arith) in
       sym (getD-take levels frame′ k 0 m) ∙ ap (λ y. getD y k 0) (e .front) ∙ getD-take levels frame k 0 m ∙ h .positioned k l;
 }
+
+-- other bindings behind the positions
+module _ (frame bs : List ℕ) (slots : length frame ≡ frameWords) (many : length bs ≡ bindingWords) where
+  abbrev pub rebound : List ℕ
+  rebound = take levels frame ++ (bs ++ drop (frameWords - levels) (drop levels frame))
+
+  front-size : length (take levels frame) ≡ levels
+  front-size = length-take-le levels frame (omega arith)
+
+  nothing-behind : drop (frameWords - levels) (drop levels frame) ≡ []
+  nothing-behind = drop-of-length-le (drop levels frame) {i = frameWords - levels} (let z = length-drop levels frame in omega arith)
+
+  is : rebound ≡ take levels frame ++ bs
+  is = ap (λ y. take levels frame ++ y) (ap (λ y. bs ++ y) nothing-behind ∙ append-nil bs)
+
+  pub rebound-positions : SamePositions frame rebound
+  rebound-positions = record {
+    size = ap length is ∙ length-append (take levels frame) bs ∙ omega (arith, front-size);
+    front = ap (take levels) is ∙ take-at (take levels frame) bs levels front-size;
+  }
+
+  pub rebound-bindings : drop levels rebound ≡ bs
+  rebound-bindings = ap (drop levels) is ∙ drop-at (take levels frame) bs levels front-size

@@ -1,37 +1,42 @@
 -- The places of `machine::advance`: its loop's invariant and measure, and at each place what the generated record there tells, in our terms.
 -- The invariant: the area holds a state of the same term from which the machine comes to the same place, and the entries that were followed
 -- lead to no rewrite. The measure: the transitions that are left.
-use Prim.Native.Nat.{_-_, _<_}
+use Prim.Native.Nat.{ℕ, _-_, _<_}
 use native.Mathlib.Omega.{arith}
-use mathlib.Core.Path.{_≡_, _∙_, subst}
-use mathlib.Core.Logic.{inl, inr}
-use mathlib.Core.List.{[], _∷_}
-use lib.ListN.{length}
-use types.Run.{OneOf}
-use denote.Enum.Declared.{tagOf}
-use Rattle.system.specs.Limits.{areaWords}
+use mathlib.Core.Path.{_≡_, sym, ap, _∙_, subst}
+use mathlib.Core.List.{List}
+use lib.ListN.{length, getD, take, drop, length-drop}
+use lib.Seq.{length-take-le}
+use Rattle.system.specs.Limits.{areaWords, levels}
+use Rattle.rows.specs.gap.Gaps.{termIn}
+use Rattle.matching.specs.Bindings.{matchOf}
+use Rattle.matching.specs.rules.Searches.{unnumbered}
+use Rattle.matching.specs.redexes.Redexes.{bindingWords, redexOf, Bound}
+use Rattle.machine.specs.declared.advance.Advanced.{Advanced}
+use Rattle.machine.specs.declared.advance.Stop.the-variants.{Ready}
+use Rattle.machine.specs.advance.Area.{frameWords}
+use Rattle.machine.specs.advance.Arrivals.{Advances}
 use Rattle.system.specs.Book.{systemOf}
-use Rattle.matching.specs.declared.FirstRule.{FirstRule}
-use Rattle.matching.proofs.FirstRule.{the-type}
-use Rattle.matching.specs.declared.FirstRule.the-variants.{Nothing}
 use Rattle.machine.specs.advance.Transition.{Performed}
+use Rattle.machine.proofs.advance.Areas.{same-positions, rebound, rebound-positions, rebound-bindings}
+use Rattle.machine.proofs.advance.Arriving.{arrives-ready}
 use Rattle.machine.proofs.advance.Bounds.{Bounds, bounds}
 use Rattle.machine.proofs.advance.Advancing.{remainingIn, Advancing, Round, Goes, round-bounds, goes-left, goes-down, goes-rules, rules-bounds}
 use Rattle.machine.proofs.advance.advance.Tie as tie
 
 abbrev pub Inv-loop : tie.InvT-loop
-Inv-loop book shape index area₀ positions₀ gap level₀ floor₀ since₀ area positions level floor since =
-    Advancing (systemOf book) (record { gap = gap; level = level₀ }) area₀ area positions level floor since ×
-    (length area ≡ length area₀) × (length positions ≡ length positions₀)
+Inv-loop book shape index area₀ frame₀ gap level₀ floor₀ since₀ area frame level floor since =
+    Advancing (systemOf book) (record { gap = gap; level = level₀ }) area₀ area frame level floor since ×
+    (length area ≡ length area₀) × (length frame ≡ length frame₀)
 
 abbrev pub μ-loop : tie.MeasureT-loop
-μ-loop book shape index area₀ positions₀ gap level₀ floor₀ since₀ area positions level floor since = remainingIn (systemOf book) area gap level
+μ-loop book shape index area₀ frame₀ gap level₀ floor₀ since₀ area frame level floor since = remainingIn (systemOf book) area gap level
 
 -- ---- the places of the code
 
 -- the call
-pub within : (c : tie.Start Inv-loop μ-loop) → let a = c .args in Bounds (a .area .now) (a .positions .now) (a .state .gap) (a .state .level)
-within c = let a = c .args in bounds (a .book .now) (a .shape) (c .pre .0) (a .area .now) (a .positions .now) (a .state .gap) (a .state .level) (c .pre .2)
+pub within : (c : tie.Start Inv-loop μ-loop) → let a = c .args in Bounds (a .area .now) (a .frame .now) (a .state .gap) (a .state .level)
+within c = let a = c .args in bounds (a .book .now) (a .shape) (c .pre .0) (a .area .now) (a .frame .now) (a .state .gap) (a .state .level) (c .pre .2)
 
 -- where the first count is read
 abbrev pub reading : tie.After-gap Inv-loop μ-loop → tie.Start Inv-loop μ-loop
@@ -59,7 +64,7 @@ round c =
       state = a .state;
       ws₀ = a .area .now;
       ws = l .area;
-      positions = l .positions;
+      positions = l .frame;
       level = l .level;
       floor = l .floor;
       since = l .since;
@@ -67,7 +72,9 @@ round c =
       event = k .result;
       ws′ = k .last .1 .1 .1 .0;
       positions′ = k .last .1 .1 .1 .1 .0;
-      performed = subst (λ y. Performed (systemOf (a .book .now)) y (l .area) (l .positions) (k .result) (k .last .1 .1 .1 .0) (k .last .1 .1 .1 .1 .0))
+      frame = k .last .1 .1 .1 .1 .0;
+      framed = same-positions (k .last .1 .1 .1 .1 .0);
+      performed = subst (λ y. Performed (systemOf (a .book .now)) y (l .area) (l .frame) (k .result) (k .last .1 .1 .1 .0) (k .last .1 .1 .1 .1 .0))
           (g .at-level .ensures) (k .ensures);
     }
 
@@ -75,8 +82,12 @@ round c =
 pub same-area : (c : tie.After-slice-known5 Inv-loop μ-loop) → length (round c .ws′) ≡ length (round c .ws₀)
 same-area c = taken c .take-transition .kept .1 .1 .1 .0 ∙ taken c .before .before .before .before .loop .inv .1
 
-pub same-positions : (c : tie.After-slice-known5 Inv-loop μ-loop) → length (round c .positions′) ≡ length (entered (taken c .before .before .before .before) .args .positions .now)
-same-positions c = taken c .take-transition .kept .1 .1 .1 .1 .0 ∙ taken c .before .before .before .before .loop .inv .2
+pub same-frame : (c : tie.After-slice-known5 Inv-loop μ-loop) → length (round c .positions′) ≡ length (entered (taken c .before .before .before .before) .args .frame .now)
+same-frame c = taken c .take-transition .kept .1 .1 .1 .1 .0 ∙ taken c .before .before .before .before .loop .inv .2
+
+-- the bindings' part of a frame
+pub slice-size : (frame : List ℕ) → length frame ≡ frameWords → length (take (frameWords - levels) (drop levels frame)) ≡ bindingWords
+slice-size frame e = length-take-le (frameWords - levels) (drop levels frame) (let z = length-drop levels frame in omega arith)
 
 -- where the rules are tried
 pub trying : (c : tie.After-enum-told2 Inv-loop μ-loop) → let τ = round (c .before .before) in Bounds (τ .ws′) (τ .positions′) (τ .state .gap) (τ .level)
@@ -84,38 +95,76 @@ trying c = rules-bounds (round (c .before .before)) (c .enum-told2 .given .1)
 
 -- and the first rule is known
 abbrev pub tried : tie.After-first-redex Inv-loop μ-loop → tie.After-enum-told2 Inv-loop μ-loop
-tried c = c .before .before .before
+tried c = c .before .before .before .before .before
 
-pub none-matches : (c : tie.After-first-redex Inv-loop μ-loop) → c .first-redex .result .rule ≡ Nothing →
-    let τ = round (tried c .before .before) in Goes τ (τ .level) (τ .floor) (τ .since)
-none-matches c q =
-    let k = c .first-redex in
-    goes-rules (round (tried c .before .before)) (tried c .enum-told2 .given .1) (k .result) (k .ensures) q
+-- the bindings that the search left
+abbrev pub left-bindings : tie.After-first-redex Inv-loop μ-loop → List ℕ
+left-bindings c = c .first-redex .last .1 .1 .1 .1 .1 .0
 
--- one matches, whichever of the two kinds it is
-pub some-rule : (f : FirstRule) → OneOf (1 ∷ 2 ∷ []) (tagOf the-type f) → f ≡ Nothing → ⊥
-some-rule f k q = go (subst (λ y. OneOf (1 ∷ 2 ∷ []) (tagOf the-type y)) q k)
-  where
-    go : OneOf (1 ∷ 2 ∷ []) 0 → ⊥
-    go (inl e) = omega arith
-    go (inr e) = omega arith
+pub many : (c : tie.After-first-redex Inv-loop μ-loop) → length (left-bindings c) ≡ bindingWords
+many c = let w = trying (tried c) in c .first-redex .kept .1 .1 .1 .1 .1 .0 ∙ slice-size (round (tried c .before .before) .positions′) (w .slots)
+
+-- the round with the frame then
+abbrev pub retried : tie.After-first-redex Inv-loop μ-loop → Round
+retried c =
+    let τ = round (tried c .before .before) in
+    record {
+      book = τ .book;
+      shape = τ .shape;
+      accepted = τ .accepted;
+      state = τ .state;
+      ws₀ = τ .ws₀;
+      ws = τ .ws;
+      positions = τ .positions;
+      level = τ .level;
+      floor = τ .floor;
+      since = τ .since;
+      kept = τ .kept;
+      event = τ .event;
+      ws′ = τ .ws′;
+      positions′ = τ .positions′;
+      frame = rebound (τ .positions′) (left-bindings c) (trying (tried c) .slots) (many c);
+      framed = rebound-positions (τ .positions′) (left-bindings c) (trying (tried c) .slots) (many c);
+      performed = τ .performed;
+    }
+
+-- the subterm that was looked at is that of the innermost level
+found-there : (c : tie.After-first-redex Inv-loop μ-loop) → let τ = retried c in
+    c .first-redex .result ≡ redexOf (systemOf (τ .book)) (drop (getD (τ .positions′) (τ .level) 0) (termIn (τ .ws′) (τ .state .gap)))
+found-there c =
+    let τ = retried c in
+    c .first-redex .ensures .0 ∙ ap (λ y. redexOf (systemOf (τ .book)) (drop y (termIn (τ .ws′) (τ .state .gap)))) (c .before .before .before .wide2 .ensures .0)
+
+pub none-matches : (c : tie.After-first-redex Inv-loop μ-loop) → c .first-redex .result .number ≡ unnumbered → let τ = retried c in Goes τ (τ .level) (τ .floor) (τ .since)
+none-matches c q = goes-rules (retried c) (tried c .enum-told2 .given .1) (c .first-redex .result) (found-there c) q
+
+pub one-matches : (c : tie.After-first-redex Inv-loop μ-loop) → (c .first-redex .result .number ≡ unnumbered → ⊥) → let τ = retried c in
+    (r : Advanced) → r ≡ record { stop = Ready; level = τ .level; redex = c .first-redex .result } → Advances (systemOf (τ .book)) (τ .state) (τ .ws₀) r (τ .ws′) (τ .frame)
+one-matches c q r is =
+    let τ = retried c in
+    let w = trying (tried c) in
+    let s = systemOf (τ .book) in
+    let t = termIn (τ .ws′) (τ .state .gap) in
+    let b = subst (λ y. Bound (matchOf s (drop y t)) (left-bindings c)) (c .before .before .before .wide2 .ensures .0) (c .first-redex .ensures .1) in
+    arrives-ready τ (tried c .enum-told2 .given .1) (c .first-redex .result) (found-there c) q
+    (subst (Bound (matchOf s (drop (getD (τ .positions′) (τ .level) 0) t))) (sym (rebound-bindings (τ .positions′) (left-bindings c) (w .slots) (many c))) b) r is
 
 -- where a level is left that is not the outermost one
-abbrev pub left : tie.Else1 Inv-loop μ-loop → tie.After-slice-known5 Inv-loop μ-loop
+abbrev pub left : tie.Else2 Inv-loop μ-loop → tie.After-slice-known5 Inv-loop μ-loop
 left c = c .before .before .before
 
-pub some-around : (c : tie.Else1 Inv-loop μ-loop) → 0 < round (left c) .level
-some-around c = let h = c .if1 .left in omega arith
+pub some-around : (c : tie.Else2 Inv-loop μ-loop) → 0 < round (left c) .level
+some-around c = let h = c .if2 .left in omega arith
 
-pub left-bounds : (c : tie.Else1 Inv-loop μ-loop) → (round (left c) .level < 64) × (length (round (left c) .ws′) ≡ areaWords)
+pub left-bounds : (c : tie.Else2 Inv-loop μ-loop) → (round (left c) .level < 64) × (length (round (left c) .ws′) ≡ areaWords)
 left-bounds c = let w = round-bounds (round (left c)) in (w .shallow, taken (left c) .take-transition .kept .1 .1 .1 .0 ∙ w .total)
 
-pub left-down : (c : tie.After-wide2 Inv-loop μ-loop) → let τ = round (left (c .before .before .before)) in Goes τ (τ .level - 1) (τ .level - 1) (c .wide2 .result)
+pub left-down : (c : tie.After-wide3 Inv-loop μ-loop) → let τ = round (left (c .before .before .before)) in Goes τ (τ .level - 1) (τ .level - 1) (c .wide3 .result)
 left-down c =
     let x = c .before .before .before in
-    goes-down (round (left x)) (x .before .enum-told5 .given .1) (some-around x) (c .wide2 .result) (c .wide2 .ensures .0)
+    goes-down (round (left x)) (x .before .enum-told4 .given .1) (some-around x) (c .wide3 .result) (c .wide3 .ensures .0)
 
-pub left-inner : (c : tie.Else2 Inv-loop μ-loop) → let τ = round (left (c .before)) in Goes τ (τ .level - 1) (τ .floor) (τ .since)
+pub left-inner : (c : tie.Else3 Inv-loop μ-loop) → let τ = round (left (c .before)) in Goes τ (τ .level - 1) (τ .floor) (τ .since)
 left-inner c =
     let x = c .before in
-    goes-left (round (left x)) (x .before .enum-told5 .given .1) (some-around x) (let h = c .if2 .left in omega arith)
+    goes-left (round (left x)) (x .before .enum-told4 .given .1) (some-around x) (let h = c .if3 .left in omega arith)
