@@ -1,7 +1,7 @@
 -- A rewrite that is done in a step of the machine: the lengths on the way may be raised, and what stands in the area then.
 use Prim.Native.Nat.{ℕ, _+_, _-_, _≤_}
 use native.Mathlib.Omega.{arith}
-use mathlib.Core.Path.{_≡_, refl, sym, ap, _∙_, subst}
+use mathlib.Core.Path.{_≡_, sym, ap, _∙_, subst}
 use mathlib.Core.Option.{some}
 use mathlib.Core.List.{List}
 use lib.ListN.{length, getD, take, drop, set, length-drop}
@@ -111,7 +111,7 @@ module _ (ρ : Rewrote) where
 
     -- raised, and no entry of the innermost level is begun
     pub step-done : {ws₂ : List ℕ} → Raised (ρ .ws₁) way (ρ .width) size ws₂ →
-        Steps (ρ .book) (ρ .ws) (ρ .positions) (ρ .state) (Done (ρ .gap)) (set ws₂ (countsAt + level) 0)
+        Steps (ρ .book) (ρ .ws) (ρ .positions) (ρ .state) (ρ .r) (set ws₂ (countsAt + level) 0)
     step-done {ws₂} raised x f =
         let y = placed x f in
         let h = step-valid v .whole in
@@ -124,4 +124,4 @@ module _ (ρ : Rewrote) where
           term = raised-term s (step-formed v) h (step-way v) (x .reduct) y wide (long-as x f) hv raised;
           counts = ap (λ n. take n (drop countsAt ws₂)) (step-levels v) ∙ ap (take level) (raised .counts) ∙ y .outer;
         } in
-        to.done (few x f) (ρ .gap) refl (stands-set outer level 0 (step-levels v) (omega arith) stands)
+        to.done (few x f) (ρ .gap) (ρ .is) (stands-set outer level 0 (step-levels v) (omega arith) stands)

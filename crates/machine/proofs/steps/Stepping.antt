@@ -3,7 +3,7 @@
 use Prim.Native.Nat.{ℕ, _≤_, _<_}
 use native.Mathlib.Omega.{arith}
 use mathlib.Core.Path.{_≡_, refl, sym, _∙_, subst, subst₂}
-use mathlib.Core.Bool.{true, false}
+use mathlib.Core.Bool.{Bool, true, false}
 use mathlib.Core.List.{List}
 use lib.ListN.{length, getD, take, drop, length-drop}
 use lib.Seq.{ext-getD, getD-take, length-take-le}
@@ -34,17 +34,20 @@ use Rattle.machine.proofs.advance.Bounds.{Bounds, bounds, spot}
 
 -- ---- what a rewrite left, by its answer
 
-abbrev pub Left : System → List ℕ → Gap → Subterm → Contraction → List ℕ → Reduced → Type 0
-Left s ws gap u x ws₁ r =
-    elim (r .long) [
+abbrev LeftAs : System → List ℕ → Gap → Subterm → Contraction → List ℕ → Reduced → Bool → Type 0
+LeftAs s ws gap u x ws₁ r given-up =
+    elim given-up [
       | false ↦ (length (rewritten s ws gap u x) ≤ termWords)
           × Placed (s .arities) ws (termIn ws gap) (rewritten s ws gap u x) (u .at) (u .level) (r .gap) ws₁
-      | true ↦ (termWords < length (rewritten s ws gap u x)) × (length ws₁ ≡ areaWords)
+      | true ↦ (termWords < length (rewritten s ws gap u x)) × (r ≡ TooLong) × (length ws₁ ≡ areaWords)
     ]
+
+abbrev pub Left : System → List ℕ → Gap → Subterm → Contraction → List ℕ → Reduced → Type 0
+Left s ws gap u x ws₁ r = LeftAs s ws gap u x ws₁ r (r .long)
 
 pub left : {s : System} {ws : List ℕ} {gap : Gap} {u : Subterm} {x : Contraction} {r : Reduced} {ws₁ : List ℕ} → Rewritten s ws gap u x r ws₁ → Left s ws gap u x ws₁ r
 left {s} {ws} {gap} {u} {x} {ws₁} (done few gap′ q placed) = subst (Left s ws gap u x ws₁) (sym q) (few, placed)
-left {s} {ws} {gap} {u} {x} {ws₁} (long many q total) = subst (Left s ws gap u x ws₁) (sym q) (many, total)
+left {s} {ws} {gap} {u} {x} {ws₁} (long many q total) = subst (Left s ws gap u x ws₁) (sym q) (many, refl, total)
 
 -- ---- the step
 
@@ -123,5 +126,5 @@ module _ {book index ws positions : List ℕ} {state : State} {m : Redex} (v : S
     }
 
     -- the term would have too many words
-    pub step-long : {r : Reduced} {ws₁ : List ℕ} → Rewrites book ws gap u r ws₁ → r ≡ TooLong → Steps book ws positions state TooLong ws₁
-    step-long {ws₁} rewrites q x f = let y = subst (Left s ws gap u x ws₁) q (left (rewrites x f)) in to.long (y .0) refl (y .1)
+    pub step-long : {r : Reduced} {ws₁ : List ℕ} → Rewrites book ws gap u r ws₁ → r .long ≡ true → Steps book ws positions state r ws₁
+    step-long {r} {ws₁} rewrites q x f = let y = subst (LeftAs s ws gap u x ws₁ r) q (left (rewrites x f)) in to.long (y .0) (y .1) (y .2)
