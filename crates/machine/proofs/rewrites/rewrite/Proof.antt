@@ -1,82 +1,94 @@
 -- `rewrites::rewrite` meets its contract: the right side is that of a listed rule, or the word of a built-in one.
-use Prim.Native.Nat.{_+_, _≤_, _<_}
+use Prim.Native.Nat.{ℕ, _≤_, _<_}
 use native.Mathlib.Omega.{arith}
-use mathlib.Core.Path.{subst, sym}
-use lib.ListN.{length}
+use mathlib.Core.Path.{_≡_, subst, sym}
+use lib.ListN.{drop}
 use borrow.Author.Needs.{needs}
 use Rattle.system.specs.layout.Accepted.{RulesAt}
-use Rattle.system.specs.layout.Index.{ruleStarts}
 use Rattle.system.proofs.layout.Books.{SidesAt, sides-at, room, rule-count}
 use Rattle.system.proofs.layout.Sizes.{book-short}
-use Rattle.system.proofs.layout.index.Noting.{rules-few}
-use Rattle.machine.proofs.rewrites.Redexes.{none-found}
+use Rattle.rows.specs.gap.Gaps.{termIn}
+use Rattle.matching.specs.declared.FirstRule.the-variants.{First, Computed}
+use Rattle.matching.proofs.redexes.Found.{redex-listed, redex-built}
+use Rattle.machine.proofs.rewrites.Redexes.{found, some-found}
 use Rattle.machine.proofs.rewrites.Listed.{listed-inside}
 use Rattle.machine.proofs.rewrites.Built.{word-puttable, word-rewritten, put-rewrites}
 use Rattle.machine.proofs.rewrites.Sides.{kept-sided, kept-fits, listed-puttable, listed-rewrites}
 use Rattle.machine.proofs.rewrites.rewrite.Statement.{statement}
 use Rattle.machine.proofs.rewrites.rewrite.Tie as tie
 
--- ---- the places of the code that are behind others: the entry, where a listed rule is found, its sides, what they share; a built-in one
+-- ---- the places of the code that are behind others: the entry, where a listed rule is known, its sides, what they share; a built-in one
 
-abbrev entry : tie.After-lengths → tie.Start
-entry c = c .before .before .before .before .before
+abbrev opened : tie.After-gap → tie.Start
+opened c = c .before .before .before .before .before
 
-abbrev listed : tie.After-found → tie.Start
-listed c = entry (c .before .before)
+abbrev entry : tie.After-struct-known → tie.Start
+entry c = opened (c .before)
 
-abbrev built : tie.After-found2 → tie.Start
-built c = entry (c .before .before)
+abbrev listed : tie.Else1 → tie.Start
+listed c = entry (c .before)
 
-abbrev read : tie.After-rule-at → tie.After-found
+abbrev built : tie.Then1 → tie.Start
+built c = entry (c .before)
+
+abbrev read : tie.After-rule-at → tie.Else1
 read c = c .before .before .before .before
 
-abbrev spanned : tie.After-struct-known2 → tie.After-rule-at
+abbrev spanned : tie.After-struct-known4 → tie.After-rule-at
 spanned c = c .before .before
 
-abbrev shared : tie.After-shared-end → tie.After-struct-known2
+abbrev shared : tie.After-shared-end → tie.After-struct-known4
 shared c = c .before .before .before
 
 abbrev kept : tie.After-reduct-length → tie.After-shared-end
 kept c = c .before .before
 
-abbrev put : tie.After-put-reduct → tie.After-reduct-length
-put c = c .before .before .before .before
+abbrev put : tie.After-put-reduct2 → tie.After-reduct-length
+put c = c .before .before .before
 
--- the rule is one of the book's, and the index has its word
-inside : (c : tie.After-found) → c .found .given .0 .0 < listed c .pre .shape .rules
+-- a listed rule was found, whose number is that of the match
+rule-is : (c : tie.Else1) → let e = listed c in (rhs : ℕ) × (size : ℕ) × (found (e .pre) .rule ≡ First (e .args .m .number) rhs size)
+rule-is c =
+    let e = listed c in
+    let a = e .args in
+    redex-listed (a .book .now) (e .pre .shape) (e .pre .accepted) (drop (a .site .at) (termIn (a .area .now) (a .site .gap))) (a .m) (e .pre .match) (omega (arith, c .if1 .left))
+
+inside : (c : tie.Else1) → listed c .args .m .number < listed c .pre .shape .rules
 inside c =
     let e = listed c in
-    let h = listed-inside (e .pre) (c .found .given .1) in
+    let h = listed-inside (e .pre) (rule-is c .2) in
     omega (arith, rule-count (e .args .book .now) (e .pre .shape) (e .pre .accepted))
 
-slots : (c : tie.After-found) → ruleStarts + c .found .given .0 .0 < length (listed c .args .index .now)
-slots c =
-    let e = listed c in
-    omega (arith, inside c, rules-few (e .pre .accepted), e .pre .indexed .slots)
+-- a built-in one
+word-is : (c : tie.Then1) → let e = built c in found (e .pre) .rule ≡ Computed (e .args .m .number) (e .args .m .word)
+word-is c =
+    let e = built c in
+    let a = e .args in
+    redex-built (a .book .now) (e .pre .shape) (e .pre .accepted) (drop (a .site .at) (termIn (a .area .now) (a .site .gap))) (a .m) (e .pre .match) (c .if1 .taken) (some-found (e .pre))
 
-stands : (c : tie.After-wide) → let f = c .before .before .before in RulesAt (listed f .args .book .now) (f .found .given .0 .0) (c .wide .result)
+stands : (c : tie.After-wide) → let f = c .before .before .before in RulesAt (listed f .args .book .now) (listed f .args .m .number) (c .wide .result)
 stands c =
     let f = c .before .before .before in
     let e = listed f in
-    subst (RulesAt (e .args .book .now) (f .found .given .0 .0)) (sym (c .wide .ensures .0)) (e .pre .indexed .rules (f .found .given .0 .0) (inside f))
+    subst (RulesAt (e .args .book .now) (e .args .m .number)) (sym (c .wide .ensures .0)) (e .pre .indexed .rules (e .args .m .number) (inside f))
 
 -- where its sides stand
-sides : (c : tie.After-rule-at) → let f = read c in SidesAt (listed f .args .book .now) (f .found .given .0 .0) (c .rule-at .result)
+sides : (c : tie.After-rule-at) → let f = read c in SidesAt (listed f .args .book .now) (listed f .args .m .number) (c .rule-at .result)
 sides c = let f = read c in sides-at (listed f .pre .accepted) (inside f) (stands (c .before)) (c .rule-at .ensures)
 
--- ---- the needs
+-- ---- the needs: a built-in rule
+
+put-reduct-requires : tie.Need-put-reduct-requires
+put-reduct-requires c κs = let f = c .before .before in word-puttable (built f .pre) (word-is f)
 
 returns : tie.Need-returns
-returns c = absurd (none-found (entry (c .before .before) .pre) (c .enum-told .given .1))
+returns c =
+    let k = c .before .before in
+    let f = k .before .before .before in
+    let e = built f in
+    put-rewrites (e .pre) _ (e .args .site .width) _ (word-rewritten (e .pre) (word-is f)) _ _ (k .put-reduct .ensures)
 
-add-wide : tie.Need-add-wide
-add-wide c = omega (arith, slots (c .before))
-
-mul-wide : tie.Need-mul-wide
-mul-wide c = omega (arith, slots (c .before))
-
-shared-slice-read-wide : tie.Need-shared-slice-read-wide
-shared-slice-read-wide c = slots (c .before .before)
+-- ---- a listed one
 
 rule-at-requires : tie.Need-rule-at-requires
 rule-at-requires c κs = let f = c .before .before .before in room (listed f .pre .accepted) (inside f) (stands c)
@@ -111,37 +123,37 @@ reduct-length-requires c κs =
     let r = spanned (shared d) in
     let f = read r in
     let e = d .shared-end in
-    kept-sided (listed f .pre) (f .found .given .1) (r .rule-at .result) (sides r) (e .result) (e .ensures .1) (e .ensures .2)
+    (kept-sided (listed f .pre) (rule-is f .2) (r .rule-at .result) (sides r) (e .result) (e .ensures .1) (e .ensures .2), listed f .pre .many)
 
 -- what stays is no more than the redex
-fits : (c : tie.After-reduct-length) → let f = read (spanned (shared (kept c))) in c .reduct-length .result ≤ listed f .args .u .width
+fits : (c : tie.After-reduct-length) → let f = read (spanned (shared (kept c))) in c .reduct-length .result ≤ listed f .args .site .width
 fits c =
     let d = kept c in
     let r = spanned (shared d) in
     let f = read r in
     let e = d .shared-end in
-    kept-fits (listed f .pre) (f .found .given .1) (r .rule-at .result) (sides r) (e .result) (e .ensures .1) (e .ensures .2) (c .reduct-length .result) (c .reduct-length .ensures)
+    kept-fits (listed f .pre) (rule-is f .2) (r .rule-at .result) (sides r) (e .result) (e .ensures .1) (e .ensures .2) (c .reduct-length .result) (c .reduct-length .ensures)
 
 sub-put-reduct : tie.Need-sub-put-reduct
-sub-put-reduct c = omega (arith, fits (c .before))
+sub-put-reduct c = omega (arith, fits c)
 
 mul-put-reduct : tie.Need-mul-put-reduct
 mul-put-reduct c =
-    let r = spanned (shared (kept (c .before))) in
+    let r = spanned (shared (kept c)) in
     let e = listed (read r) in
     omega (arith, sides r .right-fits, book-short (e .args .book .now) (e .pre .shape) (e .pre .accepted))
 
 part-put-reduct-end : tie.Need-part-put-reduct-end
-part-put-reduct-end c = let w = sides (spanned (shared (kept (c .before)))) in omega (arith, w .right-fits)
+part-put-reduct-end c = let w = sides (spanned (shared (kept c))) in omega (arith, w .right-fits)
 
-put-reduct-requires : tie.Need-put-reduct-requires
-put-reduct-requires c κs =
-    let l = c .before .before .before in
+put-reduct-requires-2 : tie.Need-put-reduct-requires-2
+put-reduct-requires-2 c κs =
+    let l = c .before .before in
     let d = kept l in
     let r = spanned (shared d) in
     let f = read r in
     let e = d .shared-end in
-    listed-puttable (listed f .pre) (f .found .given .1) (r .rule-at .result) (sides r) (e .result) (e .ensures .1) (e .ensures .2) (l .reduct-length .result) (l .reduct-length .ensures)
+    listed-puttable (listed f .pre) (rule-is f .2) (r .rule-at .result) (sides r) (e .result) (e .ensures .1) (e .ensures .2) (l .reduct-length .result) (l .reduct-length .ensures)
 
 returns-2 : tie.Need-returns-2
 returns-2 c =
@@ -151,25 +163,15 @@ returns-2 c =
     let r = spanned (shared d) in
     let f = read r in
     let e = d .shared-end in
-    listed-rewrites (listed f .pre) (f .found .given .1) (r .rule-at .result) (sides r) (e .result) (e .ensures .1) (e .ensures .2) (l .reduct-length .result) (l .reduct-length .ensures)
-    _ _ (p .put-reduct .ensures)
-
-put-reduct-requires-2 : tie.Need-put-reduct-requires-2
-put-reduct-requires-2 c κs = let f = c .before .before .before in word-puttable (built f .pre) (f .found2 .given .1)
-
-returns-3 : tie.Need-returns-3
-returns-3 c =
-    let k = c .before .before in
-    let f = k .before .before .before .before in
-    let e = built f in
-    put-rewrites (e .pre) _ (e .args .u .width) _ (word-rewritten (e .pre) (f .found2 .given .1)) _ _ (k .put-reduct2 .ensures)
+    listed-rewrites (listed f .pre) (rule-is f .2) (r .rule-at .result) (sides r) (e .result) (e .ensures .1) (e .ensures .2) (l .reduct-length .result) (l .reduct-length .ensures)
+    _ _ (p .put-reduct2 .ensures)
 
 pub rewrite-spec : {M : Type 1} → statement M
 rewrite-spec =
     tie.close
     (tie.spec
-    (λ c. search needs) returns (λ c. search needs) add-wide mul-wide shared-slice-read-wide (λ c κs. search needs) rule-at-requires add-past add-end
-    mul-shared-end (λ c. search needs) (λ c. search needs) part-shared-end-end mul-shared-end-2 (λ c. search needs) (λ c. search needs) part-shared-end-end-2
-    (λ c κs. search needs) (λ c. search needs) mul-reduct-length (λ c. search needs) (λ c. search needs) part-reduct-length-end reduct-length-requires
-    sub-put-reduct mul-put-reduct (λ c. search needs) (λ c. search needs) part-put-reduct-end put-reduct-requires (λ c. search needs) returns-2
-    (λ c. search needs) (λ c. search needs) put-reduct-requires-2 (λ c. search needs) returns-3)
+    (λ c. search needs) put-reduct-requires (λ c. search needs) returns (λ c. search needs) (λ c. search needs) (λ c. search needs) (λ c κs. search needs)
+    rule-at-requires add-past add-end mul-shared-end (λ c. search needs) (λ c. search needs) part-shared-end-end mul-shared-end-2 (λ c. search needs)
+    (λ c. search needs) part-shared-end-end-2 (λ c κs. search needs) (λ c. search needs) mul-reduct-length (λ c. search needs) (λ c. search needs)
+    part-reduct-length-end reduct-length-requires sub-put-reduct mul-put-reduct (λ c. search needs) (λ c. search needs) part-put-reduct-end
+    put-reduct-requires-2 (λ c. search needs) returns-2)
