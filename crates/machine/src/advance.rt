@@ -154,14 +154,7 @@ pub fn advance(
             Event::Rules => {
                 let at = wide(frame[level]);
                 let spot = Spot { gap, at };
-                let redex = first_redex(
-                    book,
-                    shape,
-                    index,
-                    area,
-                    spot,
-                    &mut frame[LEVELS..FRAME],
-                );
+                let redex = first_redex(book, shape, index, area, spot, &mut frame[LEVELS..]);
                 if redex.number != UNNUMBERED {
                     return ready(level, redex);
                 }

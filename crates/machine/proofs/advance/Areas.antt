@@ -129,13 +129,13 @@ tracks-frame {s} {ws} {frame} {gap} {level} {frame′} h e = record {
 -- other bindings behind the positions
 module _ (frame bs : List ℕ) (slots : length frame ≡ frameWords) (many : length bs ≡ bindingWords) where
   abbrev pub rebound : List ℕ
-  rebound = take levels frame ++ (bs ++ drop (frameWords - levels) (drop levels frame))
+  rebound = take levels frame ++ (bs ++ drop (length frame - levels) (drop levels frame))
 
   front-size : length (take levels frame) ≡ levels
   front-size = length-take-le levels frame (omega arith)
 
-  nothing-behind : drop (frameWords - levels) (drop levels frame) ≡ []
-  nothing-behind = drop-of-length-le (drop levels frame) {i = frameWords - levels} (let z = length-drop levels frame in omega arith)
+  nothing-behind : drop (length frame - levels) (drop levels frame) ≡ []
+  nothing-behind = drop-of-length-le (drop levels frame) {i = length frame - levels} (let z = length-drop levels frame in omega arith)
 
   is : rebound ≡ take levels frame ++ bs
   is = ap (λ y. take levels frame ++ y) (ap (λ y. bs ++ y) nothing-behind ∙ append-nil bs)

@@ -86,8 +86,8 @@ pub same-frame : (c : tie.After-slice-known5 Inv-loop μ-loop) → length (round
 same-frame c = taken c .take-transition .kept .1 .1 .1 .1 .0 ∙ taken c .before .before .before .before .loop .inv .2
 
 -- the bindings' part of a frame
-pub slice-size : (frame : List ℕ) → length frame ≡ frameWords → length (take (frameWords - levels) (drop levels frame)) ≡ bindingWords
-slice-size frame e = length-take-le (frameWords - levels) (drop levels frame) (let z = length-drop levels frame in omega arith)
+pub slice-size : (frame : List ℕ) → length frame ≡ frameWords → length (take (length frame - levels) (drop levels frame)) ≡ bindingWords
+slice-size frame e = length-take-le (length frame - levels) (drop levels frame) (let z = length-drop levels frame in omega arith) ∙ omega arith
 
 -- where the rules are tried
 pub trying : (c : tie.After-enum-told2 Inv-loop μ-loop) → let τ = round (c .before .before) in Bounds (τ .ws′) (τ .positions′) (τ .state .gap) (τ .level)
