@@ -11,23 +11,22 @@ ghost use Rattle.evaluation.specs.run.RunResult.{Runnable, Ran};
 use crate::recording::Bounds;
 use crate::recording::limit_met;
 use crate::recording::put_pair;
+use machine::advance::FRAME;
 use machine::advance::State;
 use machine::advance::Stop;
 use machine::advance::advance;
 use machine::steps::step;
-use matching::rules::rule_number;
-use reducts::putting::Reduced;
 use rows::gap::Gap;
 use rows::lengths::COUNTS;
 use rows::lengths::lay;
 use system::Shape;
 use system::layout::index::INDEX;
 use system::layout::index::build_index;
-use system::limits::LEVELS;
 use system::limits::TERM_WORDS;
 use system::numbers::NESTED;
 use system::numbers::OVERLONG;
 use system::numbers::TAKEN;
+use system::words::wide;
 
 // How a run ended: 0, 11, 12, 13 or 16; the gap around which the term stands, on 0, and otherwise one that leaves no word; and the steps taken.
 pub struct RunResult {
@@ -70,14 +69,14 @@ pub fn run(
 {
     let mut index = [0u16; INDEX];
     build_index(book, shape, &mut index);
-    let mut positions = [0usize; LEVELS];
+    let mut frame = [0u16; FRAME];
     let mut gap = lay(book, area, term);
     area[COUNTS] = 0;
     let mut level = 0;
     let mut steps: u32 = 0;
     loop {
         let from = State { gap, level };
-        let a = advance(book, shape, &index, area, &mut positions, from);
+        let a = advance(book, shape, &index, area, &mut frame, from);
         let stop = a.stop;
         match stop {
             Stop::Final => {
@@ -93,15 +92,14 @@ pub fn run(
                     return stopped(met, steps);
                 }
                 let m = a.redex;
-                let found = m.rule;
-                let at = positions[level];
+                let at = wide(frame[level]);
                 let here = State { gap, level };
-                let r = step(book, &index, area, &positions, here, m);
-                let Reduced::Done(g) = r else {
+                let r = step(book, &index, area, &frame, here, m);
+                if r.long {
                     return stopped(OVERLONG, steps);
-                };
-                put_pair(record, bounds, steps, at, rule_number(found));
-                gap = g;
+                }
+                put_pair(record, bounds, steps, at, m.number);
+                gap = r.gap;
                 steps += 1;
             }
         }

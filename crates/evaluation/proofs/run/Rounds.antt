@@ -155,6 +155,7 @@ module _ (k : Round) where
               indexed = k .indexed;
               tracks = h .holds;
               match = rw (ep, et, eo) (h .redex);
+              bound = rw (ep, et, eo) (h .bound);
               x = h .x;
               contracts = rw (ep, et, eo) (h .contracts);
             };

@@ -4,7 +4,7 @@ use native.Mathlib.Omega.{arith}
 use mathlib.Core.Path.{_≡_, refl, sym, _∙_}
 use mathlib.Core.List.{List, [], _∷_, _++_}
 use lib.ListN.{length, getD, take, set}
-use Rattle.system.specs.Limits.{termWords, areaWords, levels}
+use Rattle.system.specs.Limits.{termWords, areaWords}
 use Rattle.system.specs.Signature.{replace}
 use Rattle.system.specs.System.{System}
 use Rattle.system.specs.Terms.{Whole, WellFormed}
@@ -14,7 +14,7 @@ use Rattle.rows.specs.lengths.Written.{Laid}
 use Rattle.rewriting.specs.Trace.{Trace}
 use Rattle.rewriting.specs.Evaluation.{Limits, evaluation}
 use Rattle.rewriting.specs.Machine.{position, down, Opened, base}
-use Rattle.machine.specs.advance.Area.{outerIn, countIn, Stands, Valid, Positioned, Tracks}
+use Rattle.machine.specs.advance.Area.{outerIn, countIn, Stands, Valid, Positioned, frameWords, Tracks}
 use Rattle.rewriting.proofs.Laws.{position-le}
 use Rattle.rewriting.proofs.OpenLevels.{opened-replace}
 use Rattle.rewriting.proofs.MachineTheorem.{remains, remains-start}
@@ -72,7 +72,7 @@ pub record Made (s : System) (ws positions : List ℕ) (gap : Gap) (level : ℕ)
   pub valid : Valid s t outer c
   pub around : length outer ≡ level
   pub stands : Stands (s .arities) ws gap t (outer ++ c ∷ [])
-  pub slots : length positions ≡ levels
+  pub slots : length positions ≡ frameWords
   pub positioned : Positioned s t outer positions
 
 pub running-made : {s : System} {ws positions : List ℕ} {gap : Gap} {level : ℕ} (m : Made s ws positions gap level) (a : Asked) (h : Trace) (steps : ℕ) (words : List ℕ) →
@@ -94,7 +94,7 @@ running-made {s} {ws} {positions} {gap} {level} m a h steps words afford counted
 
 -- the start: the term is laid, and no entry of it is begun
 pub running-start : (s : System) → WellFormed s → (a : Asked) (ws positions : List ℕ) (gap : Gap) → Whole (s .arities) (a .term) → length (a .term) ≤ termWords →
-    Laid (s .arities) (a .term) areaWords ws gap → length positions ≡ levels → getD positions 0 0 ≡ 0 →
+    Laid (s .arities) (a .term) areaWords ws gap → length positions ≡ frameWords → getD positions 0 0 ≡ 0 →
     Running s a (set ws countsAt 0) positions (a .lent) gap 0 0
 unfolding position
 running-start s wf a ws positions gap h b l slots z =

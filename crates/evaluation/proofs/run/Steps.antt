@@ -2,7 +2,7 @@
 use Prim.Native.Nat.{ℕ, _+_, _-_, _≤_, _<_}
 use native.Mathlib.Omega.{arith}
 use mathlib.Core.Path.{_≡_, sym, ap, _∙_}
-use mathlib.Core.Bool.{true}
+use mathlib.Core.Bool.{Bool, true, false}
 use mathlib.Core.List.{List, [], _∷_, _++_}
 use lib.ListN.{length}
 use Rattle.system.specs.System.{System}
@@ -11,12 +11,10 @@ use Rattle.system.specs.Limits.{termWords, levels}
 use Rattle.system.specs.Numbers.{Limit, spent, overlong, full, limitNumber}
 use Rattle.system.proofs.Rules.{rule-bound}
 use Rattle.matching.specs.Matching.{Contraction}
-use Rattle.matching.specs.rules.Searches.{ruleNumber}
 use Rattle.matching.proofs.redexes.Found.{redex-number}
 use Rattle.rows.specs.declared.gap.Gap.{Gap}
 use Rattle.rows.specs.gap.Gaps.{termIn}
 use Rattle.reducts.specs.declared.putting.Reduced.{Reduced}
-use Rattle.reducts.specs.declared.putting.Reduced.the-variants.{Done, TooLong}
 use Rattle.rewriting.specs.Trace.{Pair}
 use Rattle.rewriting.specs.Evaluation.{hasRoom}
 use Rattle.rewriting.specs.Rewriting.{root}
@@ -26,7 +24,7 @@ use Rattle.rewriting.proofs.Contractions.{first-there}
 use Rattle.rewriting.proofs.OpenLevels.{opened-active}
 use Rattle.machine.specs.advance.Area.{outerIn, countIn, Stands, Valid, Tracks}
 use Rattle.machine.specs.steps.Stepped.{here, subtermHere, stepped, Stepped, done, long, Steps}
-use Rattle.machine.proofs.advance.States.{valid-fire, valid-within}
+use Rattle.machine.proofs.advance.States.{valid-fire}
 use Rattle.machine.proofs.advance.Bounds.{spot}
 use Rattle.evaluation.specs.recording.Kept.{met, paired}
 use Rattle.evaluation.proofs.Records.{kept-next}
@@ -34,11 +32,11 @@ use Rattle.evaluation.proofs.Limiting.{Meets, spends, fills, leaves, me
 use Rattle.evaluation.proofs.run.Running.{limits, Running, Made, running-made, positions-kept}
 use Rattle.evaluation.proofs.run.Rounds.{Round, asks, Stops, there, counts, now, Before, formed}
 
--- and after `step`, with its pair told
-abbrev pub Goes : Round → List ℕ → Reduced → Type 0
-Goes k ws TooLong = Stops k overlong
-Goes k ws (Done gap) =
-    (words : List ℕ) → words ≡ paired (k .bounds .recorded) (k .words) (k .steps) (here (k .positions′) (there k)) (ruleNumber (k .a .redex .rule)) →
+-- and after `step`, by whether the term would be too long: it is stopped, or goes on with its pair told
+abbrev pub Goes : Round → List ℕ → Gap → Bool → Type 0
+Goes k ws gap true = Stops k overlong
+Goes k ws gap false =
+    (words : List ℕ) → words ≡ paired (k .bounds .recorded) (k .words) (k .steps) (here (k .positions′) (there k)) (k .a .redex .number) →
     Running (systemOf (k .book)) (asks k) ws (k .positions′) words gap (k .a .level) (k .steps + 1)
 
 module _ (k : Round) (b : Before k) where
@@ -91,15 +89,12 @@ module _ (k : Round) (b : Before k) where
 
   -- ---- after `step`
 
-  -- the position and the rule's number fit a word of the record
-  pub at-fits : p ≤ 65535
-  at-fits = let e = valid-within s (formed k) t′ outer c valid in let w = valid .bounded in omega (arith, place)
-
-  found-number : ruleNumber (k .a .redex .rule) ≡ x .number
+  -- the number that was found is the rule's, and fits a word of the record
+  found-number : k .a .redex .number ≡ x .number
   found-number =
       redex-number (k .book) (k .shape) (k .asked .accepted) (subtermHere (k .ws′) (k .positions′) (there k)) (k .a .redex) (b .steppable .match) x (b .steppable .contracts)
 
-  pub number-fits : ruleNumber (k .a .redex .rule) ≤ 65535
+  pub number-fits : k .a .redex .number ≤ 65535
   number-fits =
       let f = first-there s (formed k) (valid .whole) (opened-active s t′ root (valid .opened)) x (rw (← place) (b .steppable .contracts)) in
       omega (arith, found-number, rule-bound s (formed k) (f .known))
@@ -129,7 +124,8 @@ module _ (k : Round) (b : Before k) where
       go m e (fills h f) = absurd (omega arith)
       go m e (leaves h f) = (h, f)
 
-  pub goes : met (limits (asks k)) (k .steps) ≡ 0 → (r : Reduced) (ws : List ℕ) → Steps (k .book) (k .ws′) (k .positions′) (there k) r ws → Goes k ws r
+  pub goes : met (limits (asks k)) (k .steps) ≡ 0 → (r : Reduced) (ws : List ℕ) → Steps (k .book) (k .ws′) (k .positions′) (there k) r ws →
+      Goes k ws (r .gap) (r .long)
   goes free r ws h = go (h x (b .steppable .contracts))
     where
       steps : length (now k .trace) ≡ k .steps
@@ -141,7 +137,7 @@ module _ (k : Round) (b : Before k) where
       roomy : hasRoom (limits (asks k) .room) (length (now k .trace)) ≡ true
       roomy = rw steps (room-left free .1)
 
-      go : Stepped s (k .ws′) (k .positions′) (there k) x r ws → Goes k ws r
+      go : Stepped s (k .ws′) (k .positions′) (there k) x r ws → Goes k ws (r .gap) (r .long)
       go (long f q w) =
           rw q (sym (b .same) ∙ iterate-long s (limits (asks k)) rounds (counts k) (now k) outer (b .begun) x (b .next) l roomy (rw place at f))
       go (done f gap q w) =

@@ -12,25 +12,24 @@ use Rattle.system.specs.Numbers.{overlong, nested}
 use Rattle.system.proofs.layout.Books.{well, signature}
 use Rattle.rows.specs.gap.Gaps.{behind}
 use Rattle.rows.specs.lengths.Written.{Laid}
-use Rattle.machine.specs.steps.Stepped.{here}
 use Rattle.evaluation.specs.recording.Kept.{limitsOf, met, paired}
 use Rattle.evaluation.proofs.Records.{kept-length}
 use Rattle.evaluation.proofs.Limiting.{pair-fits}
 use Rattle.evaluation.proofs.run.Running.{limits, Running, running-start}
-use Rattle.evaluation.proofs.run.Rounds.{Round, asks, Stops, Before, Comes, comes, there, ends-stopped}
-use Rattle.evaluation.proofs.run.Steps.{Goes, goes, before-room, stops-met, room-left, at-fits, number-fits}
+use Rattle.evaluation.proofs.run.Rounds.{Round, asks, Stops, Before, Comes, comes, ends-stopped}
+use Rattle.evaluation.proofs.run.Steps.{Goes, goes, before-room, stops-met, room-left, number-fits}
 use Rattle.evaluation.proofs.run.run.Statement.{statement}
 use Rattle.evaluation.proofs.run.run.Tie as tie
 
 abbrev Inv-loop : tie.InvT-loop
-Inv-loop book shape term bounds area₀ record₀ index positions₀ gap₀ level₀ steps₀ area words positions gap level steps =
-    Running (systemOf book) (record { term = term; bounds = bounds; lent = record₀ }) area positions words gap level steps
+Inv-loop book shape term bounds area₀ record₀ index frame₀ gap₀ level₀ steps₀ area words frame gap level steps =
+    Running (systemOf book) (record { term = term; bounds = bounds; lent = record₀ }) area frame words gap level steps
 
 abbrev μ-loop : tie.MeasureT-loop
-μ-loop book shape term bounds area₀ record₀ index positions₀ gap₀ level₀ steps₀ area words positions gap level steps = bounds .limit - steps
+μ-loop book shape term bounds area₀ record₀ index frame₀ gap₀ level₀ steps₀ area words frame gap level steps = bounds .limit - steps
 
 -- ---- the places of the code that are behind others: the call, the index built, the term laid, the entry, the loop's head, `advance`, a rewrite that
--- is next and meets no limit, one that would be too long, one that was made and told
+-- is next and meets no limit, its position noted, one that would be too long, one that was made and told
 
 abbrev call : tie.After-index Inv-loop μ-loop → tie.Start Inv-loop μ-loop
 call c = c .before .before .before .before .before
@@ -47,26 +46,32 @@ entry c = call (built (laid c) .before)
 abbrev head : tie.After-advance Inv-loop μ-loop → tie.At-loop Inv-loop μ-loop
 head c = c .before .before .before .before
 
-abbrev advanced : tie.After-positions2 Inv-loop μ-loop → tie.After-advance Inv-loop μ-loop
+abbrev advanced : tie.After-frame2 Inv-loop μ-loop → tie.After-advance Inv-loop μ-loop
 advanced c = c .before .before .before
 
 abbrev next : tie.Else1 Inv-loop μ-loop → tie.After-enum-told3 Inv-loop μ-loop
 next c = c .before .before
 
+abbrev granted : tie.After-wide Inv-loop μ-loop → tie.Else1 Inv-loop μ-loop
+granted c = c .before .before
+
+abbrev noted : tie.After-step Inv-loop μ-loop → tie.After-wide Inv-loop μ-loop
+noted c = c .before .before .before .before
+
 abbrev allowed : tie.After-step Inv-loop μ-loop → tie.Else1 Inv-loop μ-loop
-allowed c = c .before .before .before .before .before
+allowed c = granted (noted c)
 
-abbrev refused : tie.After-enum-told4 Inv-loop μ-loop → tie.After-step Inv-loop μ-loop
-refused c = c .before .before .before .before
+abbrev refused : tie.Then2 Inv-loop μ-loop → tie.After-step Inv-loop μ-loop
+refused c = c .before .before .before
 
-abbrev made : tie.After-put-pair-arg Inv-loop μ-loop → tie.After-r Inv-loop μ-loop
-made c = c .before .before
+abbrev rewritten : tie.Else2 Inv-loop μ-loop → tie.After-step Inv-loop μ-loop
+rewritten c = c .before .before .before
 
-abbrev rewritten : tie.After-r Inv-loop μ-loop → tie.After-step Inv-loop μ-loop
-rewritten c = c .before .before .before .before
+abbrev told : tie.After-gap Inv-loop μ-loop → tie.After-put-pair Inv-loop μ-loop
+told c = c .before .before .before
 
-abbrev told : tie.After-slice-known6 Inv-loop μ-loop → tie.After-put-pair Inv-loop μ-loop
-told c = c .before .before
+abbrev made : tie.After-gap Inv-loop μ-loop → tie.Else2 Inv-loop μ-loop
+made c = told c .before .before
 
 -- the round, read once
 abbrev round : tie.After-advance Inv-loop μ-loop → Round
@@ -85,7 +90,7 @@ round c =
       bounds = e .args .bounds;
       lent = e .args .«record» .now;
       ws = l .area;
-      positions = l .positions;
+      positions = l .frame;
       gap = l .gap;
       level = l .level;
       steps = l .steps;
@@ -125,14 +130,15 @@ free : (c : tie.Else1 Inv-loop μ-loop) → let k = round (advanced (next c .bef
 free c = sym (asked (c .before)) ∙ c .if1 .left
 
 -- a step was asked for
-stepped : (c : tie.After-step Inv-loop μ-loop) → Goes (round (advanced (next (allowed c) .before .before))) (c .step .last .1 .1 .0) (c .step .result)
+stepped : (c : tie.After-step Inv-loop μ-loop) →
+    Goes (round (advanced (next (allowed c) .before .before))) (c .step .last .1 .1 .0) (c .step .result .gap) (c .step .result .long)
 stepped c = let e = allowed c in goes (round (advanced (next e .before .before))) (before (next e)) (free e) (c .step .result) _ (c .step .ensures)
 
 -- the term would be too long
-longer : (c : tie.After-enum-told4 Inv-loop μ-loop) → Stops (round (advanced (next (allowed (refused c)) .before .before))) overlong
+longer : (c : tie.Then2 Inv-loop μ-loop) → Stops (round (advanced (next (allowed (refused c)) .before .before))) overlong
 longer c =
     let r = refused c in
-    subst (Goes (round (advanced (next (allowed r) .before .before))) (r .step .last .1 .1 .0)) (c .enum-told4 .given .1) (stepped r)
+    subst (Goes (round (advanced (next (allowed r) .before .before))) (r .step .last .1 .1 .0) (r .step .result .gap)) (c .if2 .taken) (stepped r)
 
 -- ---- the needs
 
@@ -206,17 +212,17 @@ returns-3 c =
     let m = stops-met k (before (e .before)) (e .limit-met .result) (c .before .if1 .taken) (asked e) in
     ends-stopped k (m .2) (c .stopped2 .result) _ (c .stopped2 .ensures ∙ (λ i. record { number = m .1 i; gap = behind termWords; steps = k .steps }))
 
-mul-at : tie.Need-mul-at Inv-loop μ-loop
-mul-at c = let b = next (c .before) in omega (arith, before-room (round (advanced (b .before .before))) (before b))
+mul-wide : tie.Need-mul-wide Inv-loop μ-loop
+mul-wide c = let b = next (c .before) in omega (arith, before-room (round (advanced (b .before .before))) (before b))
 
-array-read-at : tie.Need-array-read-at Inv-loop μ-loop
-array-read-at c = let b = next (c .before) in before-room (round (advanced (b .before .before))) (before b)
+array-read-wide : tie.Need-array-read-wide Inv-loop μ-loop
+array-read-wide c = let b = next (c .before) in omega (arith, before-room (round (advanced (b .before .before))) (before b))
 
-abbrev waiting : tie.After-positions3 Inv-loop μ-loop → tie.After-enum-told3 Inv-loop μ-loop
-waiting c = next (c .before .before .before .before)
+abbrev waiting : tie.After-frame3 Inv-loop μ-loop → tie.After-enum-told3 Inv-loop μ-loop
+waiting c = next (granted (c .before .before .before))
 
 slice-aggregate-step : tie.Need-slice-aggregate-step Inv-loop μ-loop
-slice-aggregate-step c = sym (before (next (c .before .before)) .steppable .indexed .slots)
+slice-aggregate-step c = sym (before (next (granted (c .before))) .steppable .indexed .slots)
 
 slice-aggregate-step-2 : tie.Need-slice-aggregate-step-2 Inv-loop μ-loop
 slice-aggregate-step-2 c = sym (before (waiting c) .steppable .tracks .slots)
@@ -239,32 +245,32 @@ returns-4 c =
 
 put-pair-requires : tie.Need-put-pair-requires Inv-loop μ-loop
 put-pair-requires c κs =
-    let e = allowed (rewritten (made (c .before))) in
+    let w = noted (rewritten (c .before)) in
+    let e = granted w in
     let b = next e in
     let a = advanced (b .before .before) in
     let k = round a in
     let f = pair-fits (k .bounds) (length (k .lent)) (k .steps) (room-left k (before b) (free e) .1) in
-    (λ z. omega (arith, f z, same-record (head a)), at-fits k (before b), omega (arith, number-fits k (before b), c .rule-number .ensures))
+    (λ z. omega (arith, f z, same-record (head a)), w .wide .ensures .1, number-fits k (before b))
 
 add-steps : tie.Need-add-steps Inv-loop μ-loop
 add-steps c =
-    let e = allowed (rewritten (made (told c .before .before))) in
+    let e = allowed (rewritten (made c)) in
     omega (arith, e .before .limit-met .ensures .1 (e .if1 .left))
 
 loop-less : tie.Need-loop-less Inv-loop μ-loop
 loop-less c =
-    let e = allowed (rewritten (made (told c .before .before))) in
+    let e = allowed (rewritten (made c)) in
     let b = next e in
     let l = room-left (round (advanced (b .before .before))) (before b) (free e) .0 in omega arith
 
 loop-again : tie.Need-loop-again Inv-loop μ-loop
 loop-again c =
-    let p = told c in
-    let m = made (p .before .before) in
+    let m = made c in
     let r = rewritten m in
     let k = round (advanced (next (allowed r) .before .before)) in
-    subst (Goes k (r .step .last .1 .1 .0)) (m .r .given .1) (stepped r) _
-    (p .put-pair .ensures ∙ ap (paired (k .bounds .recorded) (k .words) (k .steps) (here (k .positions′) (there k))) (p .before .rule-number .ensures))
+    subst (Goes k (r .step .last .1 .1 .0) (r .step .result .gap)) (m .if2 .left) (stepped r) _
+    (told c .put-pair .ensures ∙ ap (λ y. paired (k .bounds .recorded) (k .words) (k .steps) y (k .a .redex .number)) (noted r .wide .ensures .0))
 
 pub run-spec : {M : Type 1} → statement M
 run-spec =
@@ -273,5 +279,5 @@ run-spec =
     Inv-loop μ-loop (λ c. search needs) build-index-requires lay-requires slice-write-area loop-holds slice-aggregate-advance slice-aggregate-advance-2
     advance-requires (λ c. search needs) (λ c κs. search needs) same-length same-length-2 returns (λ c. search needs) (λ c κs. search needs)
     same-length-3 same-length-4 returns-2 (λ c. search needs) (λ c κs. search needs) (λ c κs. search needs) same-length-5 same-length-6 returns-3
-    mul-at array-read-at slice-aggregate-step slice-aggregate-step-2 step-requires (λ c. search needs) (λ c. search needs) (λ c κs. search needs)
-    same-length-7 same-length-8 returns-4 (λ c κs. search needs) put-pair-requires add-steps loop-less loop-again)
+    mul-wide array-read-wide (λ c κs. search needs) slice-aggregate-step slice-aggregate-step-2 step-requires (λ c κs. search needs)
+    same-length-7 same-length-8 returns-4 put-pair-requires add-steps loop-less loop-again)
