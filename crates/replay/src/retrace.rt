@@ -14,11 +14,11 @@ ghost use Rattle.replay.specs.walk.Way.{wayIn, PointsIn};
 ghost use Rattle.replay.specs.retrace.Retraces.{noWords, placeOf, Follows, Retraces};
 use crate::walk::Finger;
 use crate::walk::find;
+use machine::rewrites::Site;
 use machine::rewrites::rewrite;
+use matching::redexes::BINDINGS;
+use matching::redexes::Spot;
 use matching::redexes::first_redex;
-use matching::rules::rule_number;
-use reducts::putting::Reduced;
-use reducts::putting::Subterm;
 use rows::gap::Gap;
 use rows::gap::length_at;
 use rows::gap::words;
@@ -86,19 +86,25 @@ fn follow(
     if at != pair.at {
         return outcome(UNTRUE, gap, level, at);
     }
-    let m = first_redex(book, shape, index, area, gap, at);
-    let found = m.rule;
-    if rule_number(found) != pair.number {
+    let mut bindings = [0u16; BINDINGS];
+    let spot = Spot { gap, at };
+    let m = first_redex(book, shape, index, area, spot, &mut bindings);
+    if m.number != pair.number {
         return outcome(UNTRUE, gap, level, at);
     }
     let width = length_at(area, gap, at);
-    let u = Subterm { level, at, width };
-    let r = rewrite(book, index, area, gap, u, m);
-    let Reduced::Done(g) = r else {
-        return outcome(OVERLONG, gap, level, at);
+    let site = Site {
+        gap,
+        level,
+        at,
+        width,
     };
-    raise_way(area, level, width, words(g) + width - words(gap));
-    outcome(TAKEN, g, level, at)
+    let r = rewrite(book, index, area, site, m, &bindings);
+    if r.long {
+        return outcome(OVERLONG, gap, level, at);
+    }
+    raise_way(area, level, width, words(r.gap) + width - words(gap));
+    outcome(TAKEN, r.gap, level, at)
 }
 
 fn outcome(number: u32, gap: Gap, level: usize, at: usize) -> Followed

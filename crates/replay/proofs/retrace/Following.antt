@@ -2,7 +2,7 @@
 use Prim.Native.Nat.{ℕ, _+_, _-_, _≤_, _<_}
 use native.Mathlib.Omega.{arith}
 use mathlib.Core.Path.{_≡_, refl, sym, ap, _∙_, subst}
-use mathlib.Core.Bool.{true}
+use mathlib.Core.Bool.{true, false}
 use mathlib.Core.Option.{Option, none, some}
 use mathlib.Core.List.{List}
 use lib.ListN.{length, getD, drop}
@@ -19,14 +19,13 @@ use Rattle.rows.specs.declared.gap.Gap.{Gap}
 use Rattle.rows.specs.gap.Gaps.{termIn, lengthsIn, wordsIn, Lies}
 use Rattle.rows.proofs.lengths.Measures.{measured-length}
 use Rattle.reducts.specs.declared.putting.Reduced.{Reduced}
-use Rattle.reducts.specs.declared.putting.Reduced.the-variants.{Done, TooLong}
 use Rattle.reducts.specs.declared.putting.Subterm.{Subterm}
 use Rattle.reducts.specs.putting.Replaced.{Placed}
-use Rattle.matching.specs.declared.FirstRule.the-variants.{Nothing}
 use Rattle.matching.specs.declared.redexes.Redex.{Redex}
 use Rattle.matching.specs.Matching.{Contraction, contraction}
-use Rattle.matching.specs.redexes.Redexes.{redexOf}
-use Rattle.matching.specs.rules.Searches.{ruleNumber}
+use Rattle.matching.specs.Bindings.{matchOf}
+use Rattle.matching.specs.redexes.Redexes.{redexOf, bindingWords, Bound}
+use Rattle.matching.specs.rules.Searches.{unnumbered}
 use Rattle.matching.proofs.redexes.Found.{redex-some, redex-number}
 use Rattle.rewriting.specs.Rewriting.{Active}
 use Rattle.rewriting.proofs.Contractions.{first-there}
@@ -62,6 +61,9 @@ pub record Searched : Type 0 where
   pub here : f .at ≡ p .at
   pub m : Redex
   pub tried : m ≡ redexOf (systemOf book) (drop (f .at) (termIn ws (f .gap)))
+  pub bs : List ℕ
+  pub many : length bs ≡ bindingWords
+  pub bound : Bound (matchOf (systemOf book) (drop (f .at) (termIn ws (f .gap)))) bs
 
 module _ (k : Searched) where
   abbrev s : System
@@ -91,14 +93,17 @@ module _ (k : Searched) where
   match : k .m ≡ redexOf s (drop at t)
   match = k .tried ∙ ap (λ y. redexOf s (drop at y)) (points .term)
 
-  numbered : (x : Contraction) → contraction s (drop at t) ≡ some x → ruleNumber (k .m .rule) ≡ x .number
+  binds : Bound (matchOf s (drop at t)) (k .bs)
+  binds = subst (λ y. Bound (matchOf s (drop at y)) (k .bs)) (points .term) (k .bound)
+
+  numbered : (x : Contraction) → contraction s (drop at t) ≡ some x → k .m .number ≡ x .number
   numbered = redex-number (k .book) (k .shape) (k .accepted) (drop at t) (k .m) match
 
   at-pair : (o : Option Contraction) → contraction s (drop at t) ≡ o → contraction s (drop (p .at) t) ≡ o
   at-pair o e = ap (λ y. contraction s (drop y t)) (sym (k .here)) ∙ e
 
   -- the rule that is found is another one, or none
-  pub other : (ruleNumber (k .m .rule) ≡ p .number → ⊥) → toldBy s t (p .at) (p .number) ≡ none
+  pub other : (k .m .number ≡ p .number → ⊥) → toldBy s t (p .at) (p .number) ≡ none
   other d = go (contraction s (drop at t)) refl
     where
       go : (o : Option Contraction) → contraction s (drop at t) ≡ o → toldBy s t (p .at) (p .number) ≡ none
@@ -106,9 +111,9 @@ module _ (k : Searched) where
       go (some x) e = told-other s t (p .at) (p .number) active (at-pair (some x) e) (λ z. d (numbered x e ∙ z))
 
   -- it is the pair's, which is a word
-  module _ (same : ruleNumber (k .m .rule) ≡ p .number) (word : p .number ≤ 65535) where
-    rule-found : k .m .rule ≡ Nothing → ⊥
-    rule-found e = let z = ap ruleNumber e in omega arith
+  module _ (same : k .m .number ≡ p .number) (word : p .number ≤ 65535) where
+    rule-found : k .m .number ≡ unnumbered → ⊥
+    rule-found e = omega arith
 
     pub contracted : (x : Contraction) × (contraction s (drop at t) ≡ some x)
     contracted = redex-some (k .book) (k .shape) (k .accepted) (drop at t) (k .m) match rule-found
@@ -129,7 +134,7 @@ module _ (k : Searched) where
 -- the rule is the pair's, and the redex has so many words
 pub record Chosen : Type 0 where
   pub at : Searched
-  pub same : ruleNumber (at .m .rule) ≡ at .p .number
+  pub same : at .m .number ≡ at .p .number
   pub word : at .p .number ≤ 65535
   pub width : ℕ
   pub read : width ≡ getD (lengthsIn (at .ws) (at .f .gap)) (at .f .at) 0
@@ -170,8 +175,8 @@ module _ (c : Chosen) where
   wide : c .width ≡ span g (drop (k .f .at) (k .t)) 1
   wide = c .read ∙ measured-length (v .measured) (k .f .at) ∙ ap (λ z. span g (drop (k .f .at) z) 1) (v .term)
 
-  pub reducible : Reducible (k .book) (k .index) (k .ws) (k .f .gap) u (k .m)
-  reducible = points-reducible (k .book) (k .shape) (k .accepted) v (k .index) (k .indexed) (c .width) (k .m) y wide (match k) fires
+  pub reducible : Reducible (k .book) (k .index) (k .ws) (k .f .gap) u (k .m) (k .bs)
+  reducible = points-reducible (k .book) (k .shape) (k .accepted) v (k .index) (k .indexed) (c .width) (k .m) (k .bs) y wide (match k) (binds k) (k .many) fires
 
   -- what the rewrite left
   module _ {r : Reduced} {ws₁ : List ℕ} (rewrites : Rewrites (k .book) (k .ws) (k .f .gap) u r ws₁) where
@@ -182,20 +187,23 @@ module _ (c : Chosen) where
     moved = ap (λ z. replace g z (k .f .at) (y .reduct)) (v .term)
 
     -- the term would have too many words
-    pub exceeds : r ≡ TooLong → (termWords < length next) × (length ws₁ ≡ areaWords)
+    pub exceeds : r .long ≡ true → (termWords < length next) × (length ws₁ ≡ areaWords)
     exceeds q =
-        let z = subst (Left (systemOf (k .book)) (k .ws) (k .f .gap) u y ws₁) q leaves in
-        (subst (λ z. termWords < length z) (moved ∙ here-next) (z .0), z .1)
+        let z = rw q at leaves in
+        (subst (λ z. termWords < length z) (moved ∙ here-next) (z .0), z .2)
 
     -- it is done
-    module _ (gap : Gap) (q : r ≡ Done gap) where
+    module _ (q : r .long ≡ false) where
+      abbrev gap : Gap
+      gap = r .gap
+
       few : length here ≤ termWords
-      few = subst (λ z. length z ≤ termWords) moved (subst (Left (systemOf (k .book)) (k .ws) (k .f .gap) u y ws₁) q leaves .0)
+      few = subst (λ z. length z ≤ termWords) moved ((rw q at leaves) .0)
 
       placed : Placed g (k .ws) (k .t) here (k .f .at) (k .f .level) gap ws₁
       placed =
           subst (λ z. Placed g (k .ws) z (replace g z (k .f .at) (y .reduct)) (k .f .at) (k .f .level) gap ws₁) (v .term)
-          (subst (Left (systemOf (k .book)) (k .ws) (k .f .gap) u y ws₁) q leaves .1)
+          ((rw q at leaves) .1)
 
       pub next-few : length next ≤ termWords
       next-few = subst (λ z. length z ≤ termWords) here-next few

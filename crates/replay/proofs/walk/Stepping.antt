@@ -23,7 +23,8 @@ use Rattle.rows.specs.lengths.Written.{Laid}
 use Rattle.rows.proofs.lengths.Measures.{words-length}
 use Rattle.matching.specs.declared.redexes.Redex.{Redex}
 use Rattle.matching.specs.Matching.{Contraction, contraction}
-use Rattle.matching.specs.redexes.Redexes.{redexOf}
+use Rattle.matching.specs.Bindings.{matchOf}
+use Rattle.matching.specs.redexes.Redexes.{redexOf, bindingWords, Bound}
 use Rattle.reducts.specs.putting.Replaced.{Placed}
 use Rattle.rewriting.specs.Lengths.{Way, top}
 use Rattle.rewriting.specs.Rewriting.{Active}
@@ -97,10 +98,10 @@ module _ (book : List ℕ) (shape : Shape) (accepted : Accepted book shape) {t w
   abbrev s : System
   s = systemOf book
 
-  pub points-reducible : (index : List ℕ) → Indexed book shape index → (width : ℕ) (m : Redex) (x : Contraction) → width ≡ span (s .arities) (drop (f .at) t) 1 →
-      m ≡ redexOf s (drop (f .at) t) → contraction s (drop (f .at) t) ≡ some x →
-      Reducible book index ws (f .gap) (record { level = f .level; at = f .at; width = width }) m
-  points-reducible index indexed width m x wide match contracts =
+  pub points-reducible : (index : List ℕ) → Indexed book shape index → (width : ℕ) (m : Redex) (bs : List ℕ) (x : Contraction) →
+      width ≡ span (s .arities) (drop (f .at) t) 1 → m ≡ redexOf s (drop (f .at) t) → Bound (matchOf s (drop (f .at) t)) bs → length bs ≡ bindingWords →
+      contraction s (drop (f .at) t) ≡ some x → Reducible book index ws (f .gap) (record { level = f .level; at = f .at; width = width }) m bs
+  points-reducible index indexed width m bs x wide match bound many contracts =
       let b = points-bounds s (well book shape accepted) v in
       let e = sym (v .term) in
       record {
@@ -113,6 +114,8 @@ module _ (book : List ℕ) (shape : Shape) (accepted : Accepted book shape) {t w
         active = subst (λ y. Active s y (f .at)) e (way-active (v .way));
         around = b .room;
         match = match ∙ ap (λ y. redexOf s (drop (f .at) y)) e;
+        bound = subst (λ y. Bound (matchOf s (drop (f .at) y)) bs) e bound;
+        many = many;
         wide = wide ∙ ap (λ y. span (s .arities) (drop (f .at) y) 1) e;
         x = x;
         contracts = ap (λ y. contraction s (drop (f .at) y)) (sym e) ∙ contracts;

@@ -1,7 +1,7 @@
 -- `retrace::follow` meets its contract: a law of Following at each place.
 use Prim.Native.Nat.{_+_, _-_}
 use native.Mathlib.Omega.{arith}
-use mathlib.Core.Path.{_≡_, sym, ap, _∙_, subst}
+use mathlib.Core.Path.{_≡_, refl, sym, ap, _∙_, subst}
 use borrow.Author.Needs.{needs}
 use Rattle.system.specs.Book.{systemOf}
 use Rattle.system.proofs.layout.Books.{well, signature}
@@ -23,10 +23,10 @@ abbrev walked : tie.After-struct-known → tie.After-find
 walked c = c .before .before .before .before
 
 abbrev reached : tie.After-first-redex → tie.Else1
-reached c = c .before .before
+reached c = c .before .before .before
 
-abbrev searched : tie.After-struct-known2 → tie.After-first-redex
-searched c = c .before .before
+abbrev searched : tie.After-struct-known3 → tie.After-first-redex
+searched c = c .before .before .before
 
 abbrev measured : tie.After-length-at → tie.Else2
 measured c = c .before .before
@@ -37,13 +37,13 @@ abbrev rewrote : tie.After-slice-known3 → tie.After-rewrite
 rewrote c = c .before .before
 
 abbrev widths : tie.After-rewrite → tie.After-length-at
-widths c = c .before .before
+widths c = c .before .before .before
 
-abbrev done : tie.After-r → tie.After-rewrite
-done c = rewrote (c .before .before)
+abbrev done : tie.Else3 → tie.After-rewrite
+done c = rewrote (c .before)
 
-abbrev counted : tie.After-words → tie.After-r
-counted c = c .before .before .before
+abbrev counted : tie.After-words → tie.Else3
+counted c = c .before .before
 
 abbrev raised : tie.After-slice-known4 → tie.After-raise-way
 raised c = c .before .before
@@ -73,7 +73,10 @@ found c =
       found = d .find .ensures;
       here = b .if1 .left;
       m = c .first-redex .result;
-      tried = c .first-redex .ensures;
+      tried = c .first-redex .ensures .0;
+      bs = c .first-redex .last .1 .1 .1 .1 .1 .0;
+      many = c .first-redex .kept .1 .1 .1 .1 .1 .0;
+      bound = c .first-redex .ensures .1;
     }
 
 -- the rule is the pair's, which is a word; and the width is read
@@ -83,7 +86,7 @@ chosen c =
     let k = searched (q .before) in
     record {
       at = found k;
-      same = sym (q .before .before .rule-number .ensures) ∙ q .if2 .left;
+      same = q .if2 .left;
       word = entry (walked (reached k .before)) .pre .3;
       width = c .length-at .result;
       read = c .length-at .ensures .0;
@@ -105,31 +108,33 @@ returns c =
 
 first-redex-requires : tie.Need-first-redex-requires
 first-redex-requires c κs =
-    let d = walked (c .before .before) in
+    let d = walked (c .before .before .before) in
     let e = entry d in
     let a = e .args in
     let m = subst (λ g. Measured g (d .find .last .1 .1 .1 .0) (d .find .result .gap)) (signature (a .book .now) (a .shape) (e .pre .0)) (d .find .ensures .points .measured) in
-    (e .pre .0, e .pre .1, m, bounds d .within)
+    (e .pre .0, e .pre .1, m, bounds d .within, refl)
 
 same-length-2 : tie.Need-same-length-2
 same-length-2 c = walked (reached (searched (c .before .before)) .before) .find .kept .1 .1 .1 .0
 
 returns-2 : tie.Need-returns-2
 returns-2 c =
-    let n = c .before .before in
-    let k = found (searched n) in
-    wrong (other k (λ z. c .before .if2 .taken (n .before .rule-number .ensures ∙ z))) (ap (λ y. y .number) (c .outcome2 .ensures)) (k .found .points .total)
+    let k = found (searched (c .before .before)) in
+    wrong (other k (c .before .if2 .taken)) (ap (λ y. y .number) (c .outcome2 .ensures)) (k .found .points .total)
 
 -- ---- the rewrite
 
 length-at-requires : tie.Need-length-at-requires
 length-at-requires c κs = let b = bounds (walked (reached (searched (c .before .before)) .before)) in (b .gapped, b .within)
 
+slice-aggregate-rewrite : tie.Need-slice-aggregate-rewrite
+slice-aggregate-rewrite c = sym (chosen (c .before .before) .at .many)
+
 rewrite-requires : tie.Need-rewrite-requires
-rewrite-requires c κs = reducible (chosen (c .before))
+rewrite-requires c κs = reducible (chosen (c .before .before))
 
 abbrev refused : tie.After-outcome3 → tie.After-rewrite
-refused c = rewrote (c .before .before .before)
+refused c = rewrote (c .before .before)
 
 same-length-3 : tie.Need-same-length-3
 same-length-3 c =
@@ -140,20 +145,20 @@ returns-3 : tie.Need-returns-3
 returns-3 c =
     let r = refused c in
     let d = chosen (widths r) in
-    let z = exceeds d (r .rewrite .ensures) (c .before .enum-told .given .1) in
+    let z = exceeds d (r .rewrite .ensures) (c .before .if3 .taken) in
     long _ (told (d .at) (d .same) (d .word)) (z .0) (ap (λ y. y .number) (c .outcome3 .ensures)) (z .1)
 
 -- ---- it is done: the lengths on the way
 
 words-requires : tie.Need-words-requires
-words-requires c κs = let y = c .before .before in let r = done y in placed-lies (chosen (widths r)) (r .rewrite .ensures) (y .r .given .0 .0) (y .r .given .1)
+words-requires c κs = let y = c .before in let r = done y in placed-lies (chosen (widths r)) (r .rewrite .ensures) (y .if3 .left)
 
 add-raise-way : tie.Need-add-raise-way
 add-raise-way c =
     let y = counted c in
     let r = done y in
     let w = widths r in
-    let z = placed-lies (chosen w) (r .rewrite .ensures) (y .r .given .0 .0) (y .r .given .1) in
+    let z = placed-lies (chosen w) (r .rewrite .ensures) (y .if3 .left) in
     omega (arith, w .length-at .ensures .1, c .words .ensures, z .low, z .high)
 
 words-requires-2 : tie.Need-words-requires-2
@@ -163,19 +168,19 @@ sub-raise-way : tie.Need-sub-raise-way
 sub-raise-way c =
     let y = counted (c .before) in
     let r = done y in
-    let z = placed-words (chosen (widths r)) (r .rewrite .ensures) (y .r .given .0 .0) (y .r .given .1) in
+    let z = placed-words (chosen (widths r)) (r .rewrite .ensures) (y .if3 .left) in
     omega (arith, c .before .words .ensures, c .words2 .ensures)
 
 -- by how much they are raised
 size : (c : tie.After-words2) → let y = counted (c .before) in let d = chosen (widths (done y)) in
-    c .before .words .result + d .width - c .words2 .result ≡ wordsIn (y .r .given .0 .0) + d .width - wordsIn (d .at .f .gap)
+    c .before .words .result + d .width - c .words2 .result ≡ wordsIn (done y .rewrite .result .gap) + d .width - wordsIn (d .at .f .gap)
 size c = let d = chosen (widths (done (counted (c .before)))) in λ i. c .before .words .ensures i + d .width - c .words2 .ensures i
 
 raise-way-requires : tie.Need-raise-way-requires
 raise-way-requires c κs =
     let y = counted (c .before) in
     let r = done y in
-    way-raisable (chosen (widths r)) (r .rewrite .ensures) (y .r .given .0 .0) (y .r .given .1) _ (size c)
+    way-raisable (chosen (widths r)) (r .rewrite .ensures) (y .if3 .left) _ (size c)
 
 same-length-4 : tie.Need-same-length-4
 same-length-4 c =
@@ -189,8 +194,8 @@ returns-4 c =
     let y = counted (u .before .before) in
     let r = done y in
     let d = chosen (widths r) in
-    let few = next-few d (r .rewrite .ensures) (y .r .given .0 .0) (y .r .given .1) in
-    let v = way-raised d (r .rewrite .ensures) (y .r .given .0 .0) (y .r .given .1) _ (size (u .before)) (u .raise-way .ensures) in
+    let few = next-few d (r .rewrite .ensures) (y .if3 .left) in
+    let v = way-raised d (r .rewrite .ensures) (y .if3 .left) _ (size (u .before)) (u .raise-way .ensures) in
     goes _ (told (d .at) (d .same) (d .word)) few (ap (λ y. y .number) (c .outcome4 .ensures))
     (subst (Points _ _ _) (sym (ap (λ y. y .finger) (c .outcome4 .ensures))) v)
 
@@ -198,6 +203,6 @@ pub follow-spec : {M : Type 1} → statement M
 follow-spec =
     tie.close
     (tie.spec
-    find-requires (λ c κs. search needs) same-length returns first-redex-requires (λ c κs. search needs) (λ c κs. search needs) same-length-2 returns-2
-    length-at-requires rewrite-requires (λ c. search needs) (λ c. search needs) (λ c κs. search needs) same-length-3 returns-3 words-requires
-    add-raise-way words-requires-2 sub-raise-way raise-way-requires (λ c κs. search needs) same-length-4 returns-4)
+    find-requires (λ c κs. search needs) same-length returns (λ c. search needs) first-redex-requires (λ c κs. search needs) same-length-2 returns-2
+    length-at-requires slice-aggregate-rewrite rewrite-requires (λ c κs. search needs) same-length-3 returns-3 words-requires add-raise-way words-requires-2
+    sub-raise-way raise-way-requires (λ c κs. search needs) same-length-4 returns-4)
