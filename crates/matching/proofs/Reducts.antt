@@ -24,7 +24,7 @@ use Rattle.matching.specs.declared.FirstRule.the-variants.{Nothing, Firs
 use Rattle.system.specs.Book.{systemOf, Accepted}
 use Rattle.matching.specs.Matching.{FirstMatch, Matches, bind, Contraction, contraction}
 use Rattle.matching.specs.Bindings.{Bindings, matchListed, matchOf, value, bindingsOf, contractionOf}
-use Rattle.matching.specs.rules.Searches.{unnumbered, ruleNumber, reductLength, RightSideAt, Within}
+use Rattle.matching.specs.rules.Searches.{reductLength, RightSideAt, Within}
 use Rattle.matching.proofs.Matched.{instance-nil, instance-symbol, instance-variable, instance-cong, instance-ground, bind-sound}
 use Rattle.matching.proofs.Computed.{Redex, computed-built, computed-rest, computed-value}
 use Rattle.matching.proofs.Firsts.{contraction-rest, fired, unfired}
@@ -119,21 +119,6 @@ module _ (b : List ℕ) (sh : Shape) (acc : Accepted b sh) where
     match-word f = sym match-redex ∙ rw (f, contractionOf)
 
     -- the number of the rule that was found
-    pub match-unnumbered : contraction s ws ≡ none → ruleNumber (m .rule) ≡ unnumbered
-    match-unnumbered q = go (m .rule) refl
-      where
-        go : (f : FirstRule) → m .rule ≡ f → ruleNumber f ≡ unnumbered
-        go Nothing f = refl
-        go (First n rhs size) f = absurd (let y = match-some f in let z : _≡_ {A = ℕ} 0 1 = cc in omega arith)
-        go (Computed k w) f = absurd (let y = match-word f in let z : _≡_ {A = ℕ} 0 1 = cc in omega arith)
-
-    pub match-number : (x : Contraction) → contraction s ws ≡ some x → ruleNumber (m .rule) ≡ x .number
-    match-number x q = go (m .rule) refl
-      where
-        go : (f : FirstRule) → m .rule ≡ f → ruleNumber f ≡ x .number
-        go Nothing f = absurd (let y = match-none f in let z : _≡_ {A = ℕ} 0 1 = cc in omega arith)
-        go (First n rhs size) f = let y = match-some f in let z : n ≡ x .number = cc in z
-        go (Computed k w) f = let y = match-word f in let z : k ≡ x .number = cc in z
 
     -- what a built-in rule puts there is a literal
     pub match-value : {k w : ℕ} → m .rule ≡ Computed k w → w < variable

@@ -5,7 +5,6 @@ ghost use lib.ListN.{length, getD};
 ghost use Rattle.system.specs.Answers.{signatureOf};
 ghost use Rattle.system.specs.Book.{systemOf, Accepted};
 ghost use Rattle.matching.specs.Bindings.{consumed, matchOf};
-ghost use Rattle.matching.specs.rules.Searches.{ruleNumber};
 use crate::FirstRule;
 use crate::Match;
 use crate::operators::computed;
@@ -106,20 +105,5 @@ pub fn first_rule(book: &[u16], shape: Shape, ws: &[u16]) -> Match
         rule: found,
         starts: starts,
         lengths: lengths,
-    }
-}
-
-// The number of the rule that was found; where none was, one that no word is.
-pub fn rule_number(found: FirstRule) -> usize
-    ensures { λ r. ⌜ r ≡ ruleNumber found ⌝ }
-{
-    match found {
-        FirstRule::Nothing => UNNUMBERED,
-        FirstRule::First {
-            number,
-            rhs: _,
-            size: _,
-        } => number,
-        FirstRule::Computed { number, word: _ } => number,
     }
 }

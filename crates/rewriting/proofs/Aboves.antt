@@ -6,7 +6,7 @@ use mathlib.Core.List.{List, [], _∷_, _++_}
 use lib.ListN.{length, getD, take}
 use Rattle.system.specs.System.{System}
 use Rattle.rewriting.specs.Machine.{down, position}
-use Rattle.rewriting.specs.Lengths.{above}
+use Rattle.rewriting.specs.levels.Lengths.{above}
 use Rattle.rewriting.proofs.Laws.{down-lt, position-le}
 
 module _ (s : System) (t : List ℕ) where

@@ -7,7 +7,8 @@ use lib.ListN.{length, getD}
 use Rattle.system.specs.Signature.{replace}
 use Rattle.system.specs.System.{System}
 use Rattle.rewriting.specs.Rewriting.{Active, below}
-use Rattle.rewriting.specs.Machine.{strategyAt, down, position, Opened, base, level}
+use Rattle.rewriting.specs.Machine.{strategyAt, down, position}
+use Rattle.rewriting.specs.levels.Opened.{Opened, base, level}
 use Rattle.system.proofs.Members.{member-getD}
 use Rattle.rewriting.proofs.Laws.{position-le, replace-strategy, replace-down}
 

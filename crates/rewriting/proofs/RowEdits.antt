@@ -14,8 +14,9 @@ use Rattle.system.proofs.Forests.{Node, node-whole, node-set, flatten-set, fore
 use Rattle.system.proofs.Members.{member-getD}
 use Rattle.system.proofs.Places.{at-replace}
 use Rattle.rewriting.specs.Rewriting.{root}
-use Rattle.rewriting.specs.Machine.{others, strategyAt, down, position, Opened, base, level}
-use Rattle.rewriting.specs.Lengths.{above, raise}
+use Rattle.rewriting.specs.Machine.{others, strategyAt, down, position}
+use Rattle.rewriting.specs.levels.Opened.{Opened, base, level}
+use Rattle.rewriting.specs.levels.Lengths.{above, raise}
 use Rattle.rows.specs.lengths.Spans.{spans}
 use Rattle.rows.proofs.Spans.{spans-length, spans-append}
 use Rattle.rewriting.proofs.Raises.{raise-none, raise-more, raise-length}

@@ -11,8 +11,9 @@ use Rattle.system.specs.System.{System}
 use Rattle.system.specs.Terms.{Whole, WellFormed}
 use Rattle.system.proofs.Places.{replace-length}
 use Rattle.system.proofs.words.SpanSteps.{span-le}
-use Rattle.rewriting.specs.Machine.{position, Opened}
-use Rattle.rewriting.specs.Lengths.{above, raise, Way, top, down}
+use Rattle.rewriting.specs.Machine.{position}
+use Rattle.rewriting.specs.levels.Opened.{Opened}
+use Rattle.rewriting.specs.levels.Lengths.{above, raise, Way, top, down}
 use Rattle.rows.specs.lengths.Spans.{spans}
 use Rattle.rows.proofs.Spans.{spans-at}
 use Rattle.rewriting.proofs.Raises.{raise-later}

@@ -5,5 +5,5 @@ pub mod Rewriting
 pub mod Outcomes
 -- The evaluation as a machine
 pub mod Machine
--- What it does to the lengths beside a term's words
-pub mod Lengths
+-- Inner
+pub mod levels

@@ -1,10 +1,9 @@
 -- The evaluation as a machine that can stop between any two transitions and go on. A state is a run and, for each open level, outermost first,
 -- how many entries of its strategy are begun. The level below starts at the argument that the entry last begun tells of.
-use Prim.Native.Nat.{ℕ, zero, suc, _<_}
-use mathlib.Core.Path.{_≡_}
+use Prim.Native.Nat.{ℕ, zero, suc}
 use mathlib.Core.List.{List, [], _∷_, _++_}
 use mathlib.Core.Option.{none, some}
-use lib.ListN.{length, getD, drop}
+use lib.ListN.{getD, drop}
 use Rattle.system.specs.Signature.{argument}
 use Rattle.system.specs.System.{System, strategy}
 use Rattle.matching.specs.Matching.{Contraction, contraction}
@@ -34,12 +33,6 @@ down s t p c = argument (s .arities) t p (others (last (strategyAt s t p) c))
 unfoldable pub position : System → List ℕ → List ℕ → ℕ → ℕ
 position s t [] p = p
 position s t (c ∷ cs) p = position s t cs (down s t p c)
-
--- the levels cs are open from p on: at each, the entry last begun is an argument
-pub data Opened (s : System) (t : List ℕ) : ℕ → List ℕ → Type 0 where
-  base : {p : ℕ} → Opened s t p []
-  level : {p c i : ℕ} {cs : List ℕ} → c < length (strategyAt s t p) → getD (strategyAt s t p) c 0 ≡ suc i →
-      Opened s t (down s t p (suc c)) cs → Opened s t p (suc c ∷ cs)
 
 -- where a machine comes to without a rewrite: the end; an argument that would be opened too deep;
 -- or a rewrite at the position below the levels `outer`, where `begun` entries are begun, the 0 of this rewrite among them

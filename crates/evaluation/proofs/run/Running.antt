@@ -13,7 +13,8 @@ use Rattle.rows.specs.gap.Gaps.{countsAt, termIn}
 use Rattle.rows.specs.lengths.Written.{Laid}
 use Rattle.rewriting.specs.Trace.{Trace}
 use Rattle.rewriting.specs.Evaluation.{Limits, evaluation}
-use Rattle.rewriting.specs.Machine.{position, down, Opened, base}
+use Rattle.rewriting.specs.Machine.{position, down}
+use Rattle.rewriting.specs.levels.Opened.{Opened, base}
 use Rattle.machine.specs.advance.Area.{outerIn, countIn, Stands, Valid, Positioned, frameWords, Tracks}
 use Rattle.rewriting.proofs.Laws.{position-le}
 use Rattle.rewriting.proofs.OpenLevels.{opened-replace}

@@ -15,7 +15,8 @@ use Rattle.matching.specs.redexes.Redexes.{redexOf}
 use Rattle.machine.specs.declared.advance.State.{State}
 use Rattle.machine.specs.declared.advance.Event.{Event}
 use Rattle.machine.specs.declared.advance.Event.the-variants.{End, Repeated, Rules, Argument}
-use Rattle.rewriting.specs.Machine.{Opened, strategyAt, position, advance}
+use Rattle.rewriting.specs.Machine.{strategyAt, position, advance}
+use Rattle.rewriting.specs.levels.Opened.{Opened}
 use Rattle.rows.specs.declared.gap.Gap.{Gap}
 use Rattle.rows.specs.gap.Gaps.{termIn}
 use Rattle.rows.specs.lengths.Measured.{Measured}

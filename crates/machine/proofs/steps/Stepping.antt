@@ -21,7 +21,7 @@ use Rattle.matching.specs.Matching.{Contraction}
 use Rattle.reducts.specs.declared.putting.Reduced.{Reduced}
 use Rattle.reducts.specs.declared.putting.Subterm.{Subterm}
 use Rattle.reducts.specs.putting.Replaced.{Done, TooLong, Placed}
-use Rattle.rewriting.specs.Lengths.{above, Way}
+use Rattle.rewriting.specs.levels.Lengths.{above, Way}
 use Rattle.rewriting.proofs.Aboves.{above-position, above-length}
 use Rattle.rewriting.proofs.Ways.{way-active, way-room}
 use Rattle.rewriting.proofs.WayLevels.{way-opened}

@@ -12,7 +12,8 @@ use Rattle.rows.specs.declared.gap.Gap.{Gap}
 use Rattle.rows.specs.gap.Gaps.{countsAt, termIn}
 use Rattle.rows.specs.lengths.Measured.{Measured}
 use Rattle.matching.specs.redexes.Redexes.{bindingWords}
-use Rattle.rewriting.specs.Machine.{Opened, strategyAt, position}
+use Rattle.rewriting.specs.Machine.{strategyAt, position}
+use Rattle.rewriting.specs.levels.Opened.{Opened}
 use Rattle.system.specs.Limits.{areaWords, levels, termWords}
 
 -- with `level` levels around the innermost one, the counts of those and the innermost one's

@@ -6,17 +6,10 @@ use mathlib.Core.Bool.{cond}
 use lib.ListN.{length, getD, take, drop}
 use lib.Dec.{ltb}
 use Rattle.system.specs.Limits.{sideWords, variable, variables}
-use Rattle.matching.specs.declared.FirstRule.{FirstRule}
-use Rattle.matching.specs.declared.FirstRule.the-variants.{Nothing, First, Computed}
 
--- the number of the rule that was found; where none was, one that is no rule's and no word's
+-- told where no rule was found: the number of no rule, and no word
 abbrev pub unnumbered : ℕ
 unnumbered = 65536
-
-abbrev pub ruleNumber : FirstRule → ℕ
-ruleNumber Nothing = unnumbered
-ruleNumber (First k rhs size) = k
-ruleNumber (Computed k w) = k
 
 -- ---- the reduct
 

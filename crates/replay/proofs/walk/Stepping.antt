@@ -26,7 +26,7 @@ use Rattle.matching.specs.Matching.{Contraction, contraction}
 use Rattle.matching.specs.Bindings.{matchOf}
 use Rattle.matching.specs.redexes.Redexes.{redexOf, bindingWords, Bound}
 use Rattle.reducts.specs.putting.Replaced.{Placed}
-use Rattle.rewriting.specs.Lengths.{Way, top}
+use Rattle.rewriting.specs.levels.Lengths.{Way, top}
 use Rattle.rewriting.specs.Rewriting.{Active}
 use Rattle.rewriting.proofs.Contractions.{replaced-whole}
 use Rattle.rewriting.proofs.Ways.{way-active, way-step}
