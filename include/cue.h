@@ -2,9 +2,9 @@
  * The cue expander: show books, the order test, expansion, and the record of an expansion's steps.
  *
  * Link with libcue.a (`rt staticlib cue` writes it to target/staticlib/). The target is x86-64 (System V ABI, ELF; SSE registers are
- * used, so save them in a task that can be interrupted). About 19 KB of code and read-only constants, no data, no bss; it needs memcpy and
+ * used, so save them in a task that can be interrupted). About 23 KB of code and read-only constants, no data, no bss; it needs memcpy and
  * memset and nothing else, and links with -nostdlib. Stack, read from the compiled archive with everything that is called: cue_expand
- * 3,664 bytes, cue_expand_twice, the deepest, 3,760, every function below 4,096 (`bash tests/stack.sh` measures it). Another target needs
+ * 2,400 bytes, cue_expand_twice, the deepest, 2,496, every function below 4,096 (`bash tests/stack.sh` measures it). Another target needs
  * another back end, and the stack measured anew.
  *
  * Every slice is a pointer to its first word and the number of its words. A pointer must be valid even where the length is 0 (any
