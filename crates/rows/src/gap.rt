@@ -3,7 +3,7 @@ ghost use mathlib.Core.Path.{_≡_};
 ghost use Prim.Native.Nat.{_≤_, _<_};
 ghost use lib.ListN.{getD};
 ghost use Rattle.system.specs.Limits.{termWords};
-ghost use Rattle.rows.specs.gap.Gaps.{wordsIn, placeOf, Lies, Gapped, termIn, lengthsIn, Moved};
+ghost use Rattle.rows.specs.gap.Gaps.{wordsIn, slotOf, Lies, Gapped, termIn, lengthsIn, Moved};
 use buffers::move_words;
 use system::limits::TERM_WORDS;
 use system::words::wide;
@@ -23,9 +23,9 @@ pub fn words(gap: Gap) -> usize
 }
 
 // Where in a row the word i of the term stands.
-pub fn place(gap: Gap, i: usize) -> usize
+pub fn slot(gap: Gap, i: usize) -> usize
     requires { ⌜ Lies gap × (i < wordsIn gap) ⌝ }
-    ensures { λ r. ⌜ (r ≡ placeOf gap i) × (r < termWords) ⌝ }
+    ensures { λ r. ⌜ (r ≡ slotOf gap i) × (r < termWords) ⌝ }
 {
     if i < gap.front {
         return i;
@@ -38,7 +38,7 @@ pub fn word_at(area: &[u16], gap: Gap, i: usize) -> u16
     requires { ⌜ Gapped (now area) gap × (i < wordsIn gap) ⌝ }
     ensures { λ r. ⌜ r ≡ getD (termIn (now (area .entry)) gap) i 0 ⌝ }
 {
-    area[place(gap, i)]
+    area[slot(gap, i)]
 }
 
 // The length that stands beside it.
@@ -46,7 +46,7 @@ pub fn length_at(area: &[u16], gap: Gap, i: usize) -> usize
     requires { ⌜ Gapped (now area) gap × (i < wordsIn gap) ⌝ }
     ensures { λ r. ⌜ (r ≡ getD (lengthsIn (now (area .entry)) gap) i 0) × (r ≤ 65535) ⌝ }
 {
-    wide(area[TERM_WORDS + place(gap, i)])
+    wide(area[TERM_WORDS + slot(gap, i)])
 }
 
 // Moves the gap back to word `to`: the words between go behind it, in both rows.

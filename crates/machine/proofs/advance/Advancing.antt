@@ -150,7 +150,8 @@ module _ (τ : Round) where
 
   -- ---- to another state
 
-  module _ (outer′ : List ℕ) (c′ level′ : ℕ) (is : Stands (s .arities) ws′ gap t (outer′ ++ c′ ∷ [])) (h : Tracks s ws′ positions′ gap level′) (levels′ : length outer′ ≡ level′) where
+  module _ (outer′ : List ℕ) (c′ level′ : ℕ) (is : Stands (s .arities) ws′ gap t (outer′ ++ c′ ∷ []))
+      (h : Tracks s ws′ positions′ gap level′) (levels′ : length outer′ ≡ level′) where
     term′ : termIn ws′ gap ≡ t
     term′ = is .term
 

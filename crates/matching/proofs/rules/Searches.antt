@@ -89,8 +89,8 @@ module _ {b : List ℕ} {sh : Shape} {k at : ℕ} {p : RuleSpan} (t : Turn b sh 
             sym (words-next (signatureOf b) (r .lhs) ws j q y (omega (arith, h .width)) (getD b (p .lhs + j) 0) (h .word j here) n taken (omega arith))
             ∙ wo .goes
 
-        walks : {s′ l′ : List ℕ} (z : Bindings) → withBinding (getD b (p .lhs + j) 0) q n y ≡ z → s′ ≡ z .starts → l′ ≡ z .lengths → length (z .starts) ≡ 16 → length (z .lengths) ≡ 16 →
-            Walked b ws k (p .width) (j + 1) (q + n) s′ l′
+        walks : {s′ l′ : List ℕ} (z : Bindings) → withBinding (getD b (p .lhs + j) 0) q n y ≡ z → s′ ≡ z .starts → l′ ≡ z .lengths →
+            length (z .starts) ≡ 16 → length (z .lengths) ≡ 16 → Walked b ws k (p .width) (j + 1) (q + n) s′ l′
         walks z e ds dl ls ll = rw (ds, dl) (record { inside = omega arith; within = walk-fits; size-starts = ls; size-lengths = ll; goes = rw e at on })
 
         module _ {v : ℕ} (is : v ≡ getD b (p .lhs + j) 0) {s′ l′ : List ℕ} where

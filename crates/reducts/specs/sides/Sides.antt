@@ -14,9 +14,7 @@ pub record Stretches : Type 0 where
   pub starts : List ℕ
   pub lengths : List ℕ
 
--- the same as words that are handed on, since what is lent costs no copy: first where the stretches start, then how many words they have
-abbrev pub bindingWords : ℕ
-bindingWords = variables + variables
-
+-- the same as words that are handed on (`bindingWords` of them), since what is lent costs no copy: first where the stretches start, then how many
+-- words they have
 abbrev pub stretchesIn : List ℕ → Stretches
 stretchesIn bs = record { starts = take variables bs; lengths = drop variables bs }

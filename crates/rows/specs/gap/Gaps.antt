@@ -42,8 +42,8 @@ lengthsIn ws g = closed g (lengthRow ws)
 abbrev pub wordsIn : Gap → ℕ
 wordsIn g = g .front + (termWords - g .back)
 
-unfoldable pub placeOf : Gap → ℕ → ℕ
-placeOf g i = cond (ltb i (g .front)) i (i + (g .back - g .front))
+unfoldable pub slotOf : Gap → ℕ → ℕ
+slotOf g i = cond (ltb i (g .front)) i (i + (g .back - g .front))
 
 -- a gap before which no word stands
 abbrev pub behind : ℕ → Gap

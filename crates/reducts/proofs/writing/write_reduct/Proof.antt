@@ -6,7 +6,8 @@ use lib.ListN.{length, getD}
 use borrow.Author.Needs.{needs}
 use Rattle.system.specs.Limits.{variable, variables}
 use Rattle.system.specs.Answers.{signatureOf}
-use Rattle.reducts.specs.sides.Sides.{bindingWords, stretchesIn}
+use Rattle.matching.specs.redexes.Redexes.{bindingWords}
+use Rattle.reducts.specs.sides.Sides.{stretchesIn}
 use Rattle.reducts.specs.writing.Reduct.{stretchAt}
 use Rattle.reducts.proofs.Bindings.{binding-words, start-told, length-told}
 use Rattle.reducts.proofs.writing.Turns.{Writing, writing-starts, writing-ends, symbol-room, writes-symbol, variable-known, variable-stretchable, writes-variable}

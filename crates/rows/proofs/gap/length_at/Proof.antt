@@ -14,7 +14,7 @@ returns c =
     let e = p .before .before in
     let a = e .args in (
       c .wide .ensures .0
-          ∙ ap (λ (k : ℕ). getD (a .area .now) (termWords + k) 0) (p .place .ensures .0)
+          ∙ ap (λ (k : ℕ). getD (a .area .now) (termWords + k) 0) (p .slot .ensures .0)
           ∙ lengths-at (a .area .now) (a .gap) (e .pre .0) (a .i) (e .pre .1),
       c .wide .ensures .1,
     )

@@ -12,7 +12,7 @@ returns c =
     let p = c .before in
     let e = p .before .before in
     let a = e .args in
-    ap (λ (k : ℕ). getD (a .area .now) k 0) (p .place .ensures .0) ∙ term-at (a .area .now) (a .gap) (e .pre .0) (a .i) (e .pre .1)
+    ap (λ (k : ℕ). getD (a .area .now) k 0) (p .slot .ensures .0) ∙ term-at (a .area .now) (a .gap) (e .pre .0) (a .i) (e .pre .1)
 
 pub word-at-spec : {M : Type 1} → statement M
 word-at-spec = tie.close (tie.spec (λ c κs. search needs) (λ c. search needs) (λ c. search needs) returns)
