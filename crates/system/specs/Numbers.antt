@@ -47,6 +47,10 @@ pub data Verdict : Type 0 where
   unsettled : Verdict
   -- 02, F-3: "the first pair that is wrong or half"
   untrue : Verdict
+  -- 02, F-6: "the list's length is not S or a weight is out of range"
+  misweighed : Verdict
+  -- 02, F-6: a "rule that doesn't fall"
+  rising : Verdict
 
 abbrev pub numberOf : Verdict → ℕ
 numberOf taken = 0
@@ -67,6 +71,8 @@ numberOf unsettled = 14
 numberOf (faulty builtInHead) = 15
 numberOf (stopping full) = 16
 numberOf untrue = 17
+numberOf misweighed = 18
+numberOf rising = 19
 
 -- the number of a fault, and of a limit
 abbrev pub faultNumber : Fault → ℕ

@@ -42,3 +42,8 @@ pub const BUILT_IN_HEAD: u32 = 15;
 pub const FULL: u32 = 16;
 
 pub const UNTRUE: u32 = 17;
+
+// The weight test (02, F-6): the list of weights is not one of the book's, or a rule does not fall.
+pub const MISWEIGHED: u32 = 18;
+
+pub const RISING: u32 = 19;

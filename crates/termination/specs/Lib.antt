@@ -1,0 +1,4 @@
+-- What 02 (F-6) says of weights, and the test by them
+pub mod Weights
+pub mod WeightTest
+pub mod Tells

@@ -1,0 +1,96 @@
+// The termination test by weights, over a book that was scanned.
+ghost use mathlib.Core.Path.{_≡_};
+ghost use mathlib.Core.Bool.{true};
+ghost use Rattle.system.specs.Parser.{read};
+ghost use Rattle.system.specs.Book.{systemOf, Accepted};
+ghost use Rattle.system.specs.reader.Sections.{scanOf};
+ghost use Rattle.termination.specs.WeightTest.{inRange, weighs, firstRising, fallAnswer, weightsAnswer};
+use crate::falling::falls;
+use system::Answer;
+use system::Shape;
+use system::layout::rules::rule_at;
+use system::numbers::MISWEIGHED;
+use system::numbers::RISING;
+use system::numbers::TAKEN;
+use system::reader::Scan;
+use system::words::wide;
+
+// The largest weight.
+const MAX_WEIGHT: usize = 1000;
+
+// Whether each weight is from 1 to 1,000.
+fn in_range(weights: &[u16]) -> bool
+    ensures { λ r. ⌜ r ≡ inRange (now (weights .entry)) ⌝ }
+{
+    let mut f = 0;
+    while f < weights.len() {
+        let w = wide(weights[f]);
+        if w == 0 {
+            return false;
+        }
+        if MAX_WEIGHT < w {
+            return false;
+        }
+        f += 1;
+    }
+    true
+}
+
+// Whether it is a list of weights for so many symbols.
+fn weighs(weights: &[u16], symbols: usize) -> bool
+    ensures { λ r. ⌜ r ≡ weighs (now (weights .entry)) symbols ⌝ }
+{
+    if weights.len() != symbols {
+        return false;
+    }
+    in_range(weights)
+}
+
+// 0 0 0 where every rule falls, else 19 and the lowest rule that does not, at which the search ends.
+fn tested(book: &[u16], shape: Shape, weights: &[u16]) -> Answer
+    requires { ⌜ Accepted (now book) shape × (inRange (now weights) ≡ true) ⌝ }
+    ensures { λ r. ⌜ r ≡ fallAnswer (firstRising (now (weights .entry)) (systemOf (now (book .entry)))) ⌝ }
+{
+    let mut k = 0;
+    let mut at = shape.first_rule;
+    while k < shape.rules {
+        let r = rule_at(book, at);
+        let lhs = r.lhs;
+        let left = lhs + r.width;
+        let rhs = r.rhs;
+        at = r.next;
+        if !falls(weights, &book[lhs..left], &book[rhs..at]) {
+            return Answer {
+                number: RISING,
+                place: k,
+                steps: 0,
+            };
+        }
+        k += 1;
+    }
+    Answer {
+        number: TAKEN,
+        place: 0,
+        steps: 0,
+    }
+}
+
+// The test of a book that was scanned: the reader's answer where it was refused, then the list of weights, then the rules.
+pub fn test(book: &[u16], scan: Scan, weights: &[u16]) -> Answer
+    requires { ⌜ scan ≡ scanOf (read (now book)) ⌝ }
+    ensures { λ r. ⌜ r ≡ weightsAnswer (now (book .entry)) (now (weights .entry)) ⌝ }
+{
+    let a = scan.answer;
+    if a.number != TAKEN {
+        return a;
+    }
+    let shape = scan.shape;
+    if !weighs(weights, shape.symbols) {
+        return Answer {
+            number: MISWEIGHED,
+            place: 0,
+            steps: 0,
+        };
+    }
+    tested(book, shape, weights)
+}
