@@ -3,6 +3,7 @@ pub mod Actives
 pub mod Walks
 pub mod Done
 pub mod Contractions
+pub mod Contexts
 pub mod Rooms
 pub mod Inert
 pub mod Found
@@ -12,6 +13,7 @@ pub mod Laws
 pub mod OpenLevels
 pub mod Iterate
 pub mod MachineTheorem
+pub mod Stopped
 -- The lengths beside a term's words, after a rewrite
 pub mod Raises
 pub mod Aboves
