@@ -1,0 +1,8 @@
+-- Sums of weights, and how often a variable stands in a side
+pub mod Loops
+pub mod Instances
+pub mod Occurrences
+-- Rules that fall
+pub mod Falls
+pub mod Decides
+pub mod Tests

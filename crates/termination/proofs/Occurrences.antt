@@ -1,0 +1,61 @@
+-- How often variables stand in the sides of a rule. "no placeholder is on the right twice", and none is there more often than on the left: the same,
+-- where the left side holds each variable once.
+use Prim.Native.Nat.{ℕ, suc, _+_, _≤_, _<_}
+use native.Mathlib.Omega.{arith}
+use native.Mathlib.Decide.{decLt, ℕ-discrete}
+use mathlib.Core.Path.{_≡_, refl, ap, _∙_}
+use mathlib.Core.List.{List, [], _∷_}
+use Rattle.system.specs.Limits.{variable, variables}
+use Rattle.system.specs.Signature.{Signature}
+use Rattle.system.specs.System.{Rule}
+use Rattle.system.specs.Terms.{Member, first, later, Numbered, end, symbol, next, WellFormedRule}
+use Rattle.termination.specs.Weights.{occurs}
+use Rattle.termination.proofs.Loops.{occurs-same, occurs-other}
+
+-- a word that does not stand there
+pub occurs-none : (v : ℕ) (ws : List ℕ) → (Member v ws → ⊥) → occurs v ws ≡ 0
+unfolding occurs
+occurs-none v [] h = refl
+occurs-none v (w ∷ ws) h = elim (ℕ-discrete w v) [
+  | yes e ↦ absurd (h (rw e first))
+  | no d ↦ occurs-other v w ws d ∙ occurs-none v ws (λ st. h (later st))
+]
+
+-- none of the variables before number n
+occurs-early : {n m : ℕ} {ls : List ℕ} → Numbered n m ls → (v : ℕ) → v < n → occurs (variable + v) ls ≡ 0
+unfolding occurs
+occurs-early end v l = refl
+occurs-early (symbol {w = w} {ws = ws} h nb) v l = occurs-other (variable + v) w ws (λ e. omega arith) ∙ occurs-early nb v l
+occurs-early (next {w = w} {ws = ws} e nb) v l = occurs-other (variable + v) w ws (λ q. omega arith) ∙ occurs-early nb v (omega arith)
+
+-- each of the variables n to m - 1 once
+occurs-once : {n m : ℕ} {ls : List ℕ} → Numbered n m ls → (v : ℕ) → n ≤ v → v < m → occurs (variable + v) ls ≡ 1
+occurs-once end v h l = absurd (omega arith)
+occurs-once (symbol {w = w} {ws = ws} k nb) v h l = occurs-other (variable + v) w ws (λ e. omega arith) ∙ occurs-once nb v h l
+occurs-once (next {n = n} {w = w} {ws = ws} e nb) v h l = elim (ℕ-discrete v n) [
+  | yes q ↦ rw (e, q, occurs-same (variable + n) ws) (ap suc (occurs-early nb n (omega arith)))
+  | no q ↦ occurs-other (variable + v) w ws (λ y. q (omega arith)) ∙ occurs-once nb v (omega arith) l
+]
+
+-- "no placeholder is on the right twice"
+abbrev pub Once : Rule → Type 0
+Once r = (v : ℕ) → v < variables → occurs (variable + v) (r .rhs) ≤ 1
+
+abbrev pub Kept : Rule → Type 0
+Kept r = (v : ℕ) → v < variables → occurs (variable + v) (r .rhs) ≤ occurs (variable + v) (r .lhs)
+
+module _ (g : Signature) (r : Rule) (law : WellFormedRule g r) where
+  absent : (v : ℕ) → law .count ≤ v → occurs (variable + v) (r .rhs) ≡ 0
+  absent v h = occurs-none (variable + v) (r .rhs) (λ st. let z = law .known (variable + v) st in omega arith)
+
+  pub once-kept : Once r → Kept r
+  once-kept h v l = elim (decLt v (law .count)) [
+    | yes k ↦ let z = occurs-once (law .numbered) v (omega arith) k in let z′ = h v l in omega arith
+    | no k ↦ let z = absent v (omega arith) in omega arith
+  ]
+
+  pub kept-once : Kept r → Once r
+  kept-once h v l = elim (decLt v (law .count)) [
+    | yes k ↦ let z = occurs-once (law .numbered) v (omega arith) k in let z′ = h v l in omega arith
+    | no k ↦ let z = absent v (omega arith) in omega arith
+  ]

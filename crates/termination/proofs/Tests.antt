@@ -1,0 +1,184 @@
+-- What the answer of the test by weights tells: 0 exactly where all rules fall, 19 at k exactly if k is the lowest rule that does not, 18 exactly
+-- where the list is none of weights for the book.
+use Prim.Native.Nat.{ℕ, _≤_, _<_}
+use native.Mathlib.Omega.{arith}
+use mathlib.Core.Path.{_≡_, refl, sym, ap, _∙_, subst}
+use mathlib.Core.Logic.{inl, inr}
+use mathlib.Core.Bool.{Bool, true, false}
+use mathlib.Core.Option.{Option, none, some}
+use mathlib.Core.List.{List}
+use lib.ListN.{length}
+use Rattle.system.specs.declared.Answer.{Answer}
+use Rattle.system.specs.Numbers.{Fault, taken, misweighed, rising, numberOf}
+use Rattle.system.specs.System.{System, Rule, rule}
+use Rattle.system.specs.Rules.{RuleOf, listed, builtIn}
+use Rattle.system.specs.Terms.{WellFormed}
+use Rattle.system.specs.Parser.{Parsed, ok, fault, read}
+use Rattle.system.specs.Answers.{answerOf}
+use Rattle.system.specs.Book.{systemOf}
+use Rattle.system.proofs.Accepts.{read-sound}
+use Rattle.system.proofs.FaultNumbers.{fault-range, fault-not-zero}
+use Rattle.system.proofs.layout.Accepting.{reads-system}
+use Rattle.matching.proofs.FirstFailing.{none-all, all-none, some-lowest, lowest-some}
+use Rattle.termination.specs.Weights.{Weights, Falls, Falling, RisesFirst, Weighs}
+use Rattle.termination.specs.WeightTest.{falls, weighs, firstRising, fallAnswer, misweighedAnswer, weighing, weightsAnswer, PassedWeights}
+use Rattle.termination.specs.Tells.{FallingBook, RisingBook, MisweighedBook, Tells}
+use Rattle.termination.proofs.Falls.{also-falls, all-fall}
+use Rattle.termination.proofs.Decides.{falls-sound, falls-complete, weighs-sound, weighs-complete}
+
+clash : {b : Bool} → b ≡ true → b ≡ false → ⊥
+clash e q = let z : _≡_ {A = ℕ} 0 1 = cc in omega arith
+
+-- ---- of a system, and a list of weights for it
+
+module _ (m : Weights) (s : System) (wf : WellFormed s) (fit : Weighs m s) where
+  rises-false : (k : ℕ) → (Falls m (rule s k) → ⊥) → falls m (rule s k) ≡ false
+  rises-false k h = go (falls m (rule s k)) refl
+    where
+      go : (b : Bool) → falls m (rule s k) ≡ b → b ≡ false
+      go true e = absurd (h (falls-sound m (rule s k) e))
+      go false e = refl
+
+  -- all fall exactly if none is found that does not
+  none-falling : firstRising m s ≡ none → Falling m s
+  none-falling e = all-fall m s wf fit (λ k l. falls-sound m (rule s k) (none-all (λ k. falls m (rule s k)) 0 (length (s .rules)) e k (omega arith) (omega arith)))
+
+  falling-none : Falling m s → firstRising m s ≡ none
+  falling-none h =
+      all-none (λ k. falls m (rule s k)) 0 (length (s .rules))
+      (λ k l b. let z : k < length (s .rules) = omega arith in falls-complete m (rule s k) (h k (rule s k) (listed z)))
+
+  -- k is found exactly if it is the lowest that does not
+  some-rises : {k : ℕ} → firstRising m s ≡ some k → RisesFirst m s k
+  some-rises {k} e =
+      let h = some-lowest (λ k. falls m (rule s k)) 0 (length (s .rules)) e in
+      let l = h .inside in
+      let q = h .fails in
+      record {
+        known = omega arith;
+        rises = λ f. clash (falls-complete m (rule s k) f) q;
+        lower = λ j r d b. go d b (λ a. h .lower j (omega arith) a);
+      }
+    where
+      go : {j : ℕ} {r : Rule} → RuleOf s j r → j < k → (j < k → falls m (rule s j) ≡ true) → Falls m r
+      go (listed {k = j} l) b f = falls-sound m (rule s j) (f b)
+      go (builtIn d) b f = also-falls m s wf fit d
+
+  rises-some : {k : ℕ} → RisesFirst m s k → firstRising m s ≡ some k
+  rises-some {k} h =
+      let l = h .known in
+      lowest-some (λ k. falls m (rule s k)) 0 (length (s .rules)) (record {
+        least = omega arith;
+        inside = omega arith;
+        fails = rises-false k (h .rises);
+        lower = λ j a b. let z : j < length (s .rules) = omega arith in falls-complete m (rule s j) (h .lower j (rule s j) (listed z) b);
+      })
+
+-- ---- of a book
+
+module _ (b : List ℕ) (m : Weights) where
+  formed : read b ≡ ok (systemOf b) (length b) → WellFormed (systemOf b)
+  formed a = read-sound b a .0
+
+  -- a book that the reader refuses gets the reader's answer
+  pub weights-refused : {f : Fault} {i : ℕ} → read b ≡ fault f i → weightsAnswer b m ≡ answerOf (fault f i)
+  unfolding weightsAnswer
+  weights-refused e = rw (e, weightsAnswer)
+
+  pub weights-accepted : {s : System} {i : ℕ} → read b ≡ ok s i → weightsAnswer b m ≡ weighing m s
+  unfolding weightsAnswer
+  weights-accepted e = rw (e, weightsAnswer)
+
+  -- the four ways that the test ends
+  data Ends : Answer → Type 0 where
+    refused : (f : Fault) (i : ℕ) → Ends (answerOf (fault f i))
+    other : MisweighedBook b m → Ends misweighedAnswer
+    passed : FallingBook b m → Ends (fallAnswer none)
+    failed : (k : ℕ) → RisingBook b m k → Ends (fallAnswer (some k))
+
+  module _ (a : read b ≡ ok (systemOf b) (length b)) where
+    weighing-other : weighs m (length (systemOf b .arities)) ≡ false → weighing m (systemOf b) ≡ misweighedAnswer
+    unfolding weighing
+    weighing-other e = rw (e, weighing)
+
+    pub weighing-fits : weighs m (length (systemOf b .arities)) ≡ true → weighing m (systemOf b) ≡ fallAnswer (firstRising m (systemOf b))
+    unfolding weighing
+    weighing-fits e = rw (e, weighing)
+
+    falls-ends : Weighs m (systemOf b) → (o : Option ℕ) → firstRising m (systemOf b) ≡ o → Ends (fallAnswer o)
+    falls-ends w none e = passed (record { accepted = a; weighs = w; falling = none-falling m (systemOf b) (formed a) w e })
+    falls-ends w (some k) e = failed k (record { accepted = a; weighs = w; first = some-rises m (systemOf b) (formed a) w e })
+
+    weighing-ends : (o : Bool) → weighs m (length (systemOf b .arities)) ≡ o → Ends (weighing m (systemOf b))
+    weighing-ends true e = rw (weighing-fits e) (falls-ends (weighs-sound m (systemOf b) e) (firstRising m (systemOf b)) refl)
+    weighing-ends false e =
+        rw (weighing-other e) (other (record { accepted = a; misweighed = λ w. clash (weighs-complete m (systemOf b) w) e }))
+
+    other-answer : (Weighs m (systemOf b) → ⊥) → weighing m (systemOf b) ≡ misweighedAnswer
+    other-answer h = go (weighs m (length (systemOf b .arities))) refl
+      where
+        go : (o : Bool) → weighs m (length (systemOf b .arities)) ≡ o → weighing m (systemOf b) ≡ misweighedAnswer
+        go true e = absurd (h (weighs-sound m (systemOf b) e))
+        go false e = weighing-other e
+
+  ends : Ends (weightsAnswer b m)
+  ends = go (read b) refl
+    where
+      go : (o : Parsed System) → read b ≡ o → Ends (weightsAnswer b m)
+      go (fault f i) e = rw (weights-refused e) (refused f i)
+      go (ok s i) e = let a = reads-system b e in rw (weights-accepted a) (weighing-ends a (weighs m (length (systemOf b .arities))) refl)
+
+  high : (f : Fault) (n : ℕ) → 18 ≤ n → answerOf (fault f 0) .number ≡ n → ⊥
+  high f n l e = elim (fault-range f) [ inl z ↦ (let h = z .1 in omega arith) | inr z ↦ (omega arith) ]
+
+  -- 18: the book is accepted, and the list is none of weights for it; and every such pair gets it
+  pub misweighed-book : weightsAnswer b m .number ≡ numberOf misweighed → MisweighedBook b m
+  misweighed-book z = go ends z
+    where
+      go : {r : Answer} → Ends r → r .number ≡ 18 → MisweighedBook b m
+      go (refused f i) z = absurd (high f 18 (omega arith) z)
+      go (other h) z = h
+      go (passed h) z = absurd (omega arith)
+      go (failed k h) z = absurd (omega arith)
+
+  pub book-misweighed : MisweighedBook b m → weightsAnswer b m ≡ misweighedAnswer
+  book-misweighed h = weights-accepted (h .accepted) ∙ other-answer (h .accepted) (h .misweighed)
+
+  -- 19: the place is the lowest rule that does not fall; and every such pair gets it
+  pub rising-book : weightsAnswer b m .number ≡ numberOf rising → RisingBook b m (weightsAnswer b m .place)
+  rising-book z = go ends z
+    where
+      go : {r : Answer} → Ends r → r .number ≡ 19 → RisingBook b m (r .place)
+      go (refused f i) z = absurd (high f 19 (omega arith) z)
+      go (other h) z = absurd (omega arith)
+      go (passed h) z = absurd (omega arith)
+      go (failed k h) z = h
+
+  module _ (a : read b ≡ ok (systemOf b) (length b)) (w : Weighs m (systemOf b)) where
+    accepted-fits : weightsAnswer b m ≡ fallAnswer (firstRising m (systemOf b))
+    accepted-fits = weights-accepted a ∙ weighing-fits a (weighs-complete m (systemOf b) w)
+
+  pub book-rising : {k : ℕ} → RisingBook b m k → weightsAnswer b m ≡ fallAnswer (some k)
+  book-rising h = accepted-fits (h .accepted) (h .weighs) ∙ ap fallAnswer (rises-some m (systemOf b) (formed (h .accepted)) (h .weighs) (h .first))
+
+  -- 0: all fall; and every such pair gets it
+  pub falling-book : PassedWeights b m → FallingBook b m
+  falling-book z = go ends z
+    where
+      go : {r : Answer} → Ends r → r .number ≡ 0 → FallingBook b m
+      go (refused f i) z = absurd (fault-not-zero f z)
+      go (other h) z = absurd (omega arith)
+      go (passed h) z = h
+      go (failed k h) z = absurd (omega arith)
+
+  pub book-falling : FallingBook b m → weightsAnswer b m ≡ fallAnswer none
+  book-falling h = accepted-fits (h .accepted) (h .weighs) ∙ ap fallAnswer (falling-none m (systemOf b) (formed (h .accepted)) (h .weighs) (h .falling))
+
+  -- THE TEST BY WEIGHTS: all that its answer tells
+  pub weights-tell : Tells b m (weightsAnswer b m)
+  weights-tell = record {
+    refused = λ f i e. weights-refused e;
+    misweighed = (λ e. misweighed-book (ap (λ r. r .number) e), book-misweighed);
+    rising = λ k. (λ e. subst (RisingBook b m) (ap (λ r. r .place) e) (rising-book (ap (λ r. r .number) e)), book-rising);
+    falling = (λ e. falling-book (ap (λ r. r .number) e), book-falling);
+  }
