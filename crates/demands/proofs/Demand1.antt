@@ -16,14 +16,14 @@ use Rattle.demands.specs.Demand1.{Early, book, term, buffers, Refused, u
 use Rattle.evaluation.proofs.Expanding.{Course, narrow, wrong, runs, course}
 
 -- an answer of the check of a term, where it does not accept it
-data Said : Answer → Type 0 where
+pub data Said : Answer → Type 0 where
   said : {v : Verdict} {r : Answer} → Early v → r .number ≡ numberOf v → r .steps ≡ 0 → Said r
 
 whole-said : (t : List ℕ) (o : Option ℕ) → (wholeAnswer t o .number ≡ 0 → ⊥) → Said (wholeAnswer t o)
 whole-said t none d = absurd (d refl)
 whole-said t (some i) d = said term refl refl
 
-term-said : (b t : List ℕ) → (termAnswer b t .number ≡ 0 → ⊥) → Said (termAnswer b t)
+pub term-said : (b t : List ℕ) → (termAnswer b t .number ≡ 0 → ⊥) → Said (termAnswer b t)
 unfolding termAnswer
 term-said b t d = go (read b) refl d
   where

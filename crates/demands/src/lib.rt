@@ -1,5 +1,5 @@
-// Demand 3, and what 02 says of records (F-3) and of the curve (F-4), as contracts: small functions that call the strategy test, the evaluator
-// and the replay, and whose contracts are its sentences.
+// Demand 3, and what 02 says of records (F-3), of the curve (F-4) and, in `weighed`, of weights (F-6), as contracts: small functions that call the
+// strategy test, the evaluator and the replay, and whose contracts are its sentences.
 ghost use mathlib.Core.Path.{_≡_};
 ghost use Rattle.matching.specs.StrategyTest.{testAnswer};
 ghost use lib.ListN.{length};
@@ -20,6 +20,8 @@ use system::built_ins::LITERAL;
 use system::built_ins::SQUARE;
 use system::numbers::TAKEN;
 use system::reader::scan_book;
+
+pub mod weighed;
 
 // The answers of the strategy test and of the evaluator.
 pub struct Checked {

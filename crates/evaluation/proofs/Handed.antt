@@ -17,7 +17,7 @@ use Rattle.evaluation.proofs.Records.{written}
 use Rattle.evaluation.proofs.Expanding.{Checks, checks, checks-well, Course, narrow, wrong, runs, course}
 
 -- no limit has number 0
-limit-number : (n : Limit) → 11 ≤ limitNumber n
+pub limit-number : (n : Limit) → 11 ≤ limitNumber n
 limit-number spent = omega arith
 limit-number overlong = omega arith
 limit-number nested = omega arith

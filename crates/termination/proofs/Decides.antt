@@ -58,7 +58,7 @@ range-sound [] e f l = absurd (not-suc-le-zero l)
 range-sound (w ∷ m) e zero l = let c = both _ (inRange m) e in let d = both _ _ (c .0) in (leb-true 1 w (d .0), leb-true w maxWeight (d .1))
 range-sound (w ∷ m) e (suc f) l = range-sound m (both (leb 1 w && leb w maxWeight) (inRange m) e .1) f (omega arith)
 
-range-complete : (m : Weights) → Ranged m → inRange m ≡ true
+pub range-complete : (m : Weights) → Ranged m → inRange m ≡ true
 unfolding inRange
 range-complete [] h = refl
 range-complete (w ∷ m) h =

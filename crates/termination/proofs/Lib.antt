@@ -6,3 +6,6 @@ pub mod Occurrences
 pub mod Falls
 pub mod Decides
 pub mod Tests
+-- What that says of every rewrite, and of an evaluation
+pub mod Finite
+pub mod Fits
