@@ -10,12 +10,14 @@ use mathlib.Core.List.{List, [], _∷_, _++_}
 use lib.ListN.{length, getD, take, drop, List·getD-eq-default}
 use lib.Seq.{take-suc, drop-cons}
 use lib.Dec.{leb}
-use borrow.Author.Tests.{eq-eqb, ne-eqb, le-leb, lt-leb, leb-true}
+use borrow.Author.Tests.{eq-eqb, ne-eqb, le-leb, lt-leb, leb-true, le-ltb, lt-ltb}
+use Rattle.system.specs.Limits.{sideWords, variable, variables}
+use Rattle.system.specs.System.{Rule}
 use Rattle.system.specs.BuiltIns.{isLiteral, isBuiltIn}
 use Rattle.system.proofs.BuiltIns.{both, smaller-first, smaller-second}
 use Rattle.system.proofs.Signatures.{getD-within}
 use Rattle.termination.specs.Weights.{Weights, maxWeight, builtInWeight, wordWeight, weight, occurs}
-use Rattle.termination.specs.WeightTest.{below, inRange, largest, weighed}
+use Rattle.termination.specs.WeightTest.{keepsAt, below, falls, inRange, largest, weighed}
 
 -- ---- what one word weighs
 
@@ -203,3 +205,27 @@ module _ (m : Weights) (range : inRange m ≡ true) where
   unfolding weight
   weight-bounded [] = omega arith
   weight-bounded (w ∷ ws) = let z = word-bounded w in let z′ = weight-bounded ws in omega arith
+
+  -- a side of a rule fits 32 bits
+  pub side-weighed : (ws : List ℕ) → length ws ≤ sideWords → weighed m ws ≡ weight m ws
+  side-weighed ws h = weighed-small m ws (let z = weight-bounded ws in omega arith)
+
+-- ---- whether a rule falls
+
+module _ (r : Rule) (v : ℕ) where
+  pub keeps-variable : occurs (variable + v) (r .rhs) ≤ occurs (variable + v) (r .lhs) → keepsAt r v ≡ true
+  unfolding keepsAt
+  keeps-variable h = le-leb (occurs (variable + v) (r .rhs)) (occurs (variable + v) (r .lhs)) h
+
+  pub copies-variable : occurs (variable + v) (r .lhs) < occurs (variable + v) (r .rhs) → keepsAt r v ≡ false
+  unfolding keepsAt
+  copies-variable h = lt-leb (occurs (variable + v) (r .rhs)) (occurs (variable + v) (r .lhs)) h
+
+module _ (m : Weights) (r : Rule) where
+  pub falls-heavy : weight m (r .lhs) ≤ weight m (r .rhs) → falls m r ≡ false
+  unfolding falls
+  falls-heavy h = rw (le-ltb (weight m (r .rhs)) (weight m (r .lhs)) h)
+
+  pub falls-light : weight m (r .rhs) < weight m (r .lhs) → falls m r ≡ below (keepsAt r) variables
+  unfolding falls
+  falls-light h = rw (lt-ltb (weight m (r .rhs)) (weight m (r .lhs)) h)
