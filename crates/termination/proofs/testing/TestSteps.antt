@@ -1,0 +1,150 @@
+-- The test by weights, rule by rule, in the terms of its loop; and how it ends for a book that was scanned.
+use Prim.Native.Nat.{ℕ, _+_, _-_, _≤_, _<_}
+use native.Mathlib.Omega.{arith}
+use mathlib.Core.Path.{_≡_, refl, sym, ap, _∙_}
+use mathlib.Core.Bool.{Bool, true, false, cond}
+use mathlib.Core.Option.{none, some}
+use mathlib.Core.List.{List}
+use lib.ListN.{length, take, drop}
+use lib.Dec.{ltb, eqb}
+use borrow.Author.Tests.{lt-ltb, le-ltb}
+use Rattle.system.specs.declared.Shape.{Shape}
+use Rattle.system.specs.declared.Answer.{Answer}
+use Rattle.system.specs.declared.reader.Scan.{Scan}
+use Rattle.system.specs.declared.layout.rules.RuleSpan.{RuleSpan}
+use Rattle.system.specs.Limits.{sideWords}
+use Rattle.system.specs.System.{System, Rule, rule}
+use Rattle.system.specs.Parser.{Parsed, ok, fault, read}
+use Rattle.system.specs.Answers.{answerOf}
+use Rattle.system.specs.Numbers.{Fault}
+use Rattle.system.specs.Book.{systemOf, Accepted}
+use Rattle.system.specs.layout.Rules.{ruleSpan}
+use Rattle.system.specs.reader.Sections.{scanOf}
+use Rattle.system.proofs.BuiltIns.{both}
+use Rattle.system.proofs.layout.Accepting.{scan-accepted}
+use Rattle.system.proofs.layout.Books.{Rest, Turn, turn-of, sides-at, rule-count, symbol-count, signature, first-rest}
+use Rattle.matching.proofs.FirstFailing.{sought, sought-starts, sought-ends, sought-passes, sought-fails}
+use Rattle.termination.specs.Weights.{Weights}
+use Rattle.termination.specs.WeightTest.{falls, weighs, inRange, firstRising, fallAnswer, misweighedAnswer, weighing, weightsAnswer}
+
+-- ---- the rules, one after the other
+
+-- the words of a part of a book
+abbrev pub part : List ℕ → ℕ → ℕ → List ℕ
+part b from end = take (end - from) (drop from b)
+
+-- rule number k falls
+abbrev pub fallsAt : List ℕ → Weights → ℕ → Bool
+fallsAt b m k = falls m (rule (systemOf b) k)
+
+-- the rules from number k on stand from the index `at` on, and the lowest one that does not fall is found among them
+pub record Fallen (b : List ℕ) (sh : Shape) (m : Weights) (k at : ℕ) : Type 0 where
+  pub inside : k ≤ sh .rules
+  pub rest : Rest b k at
+  pub goes : sought (fallsAt b m) (sh .rules) k (sh .rules) ≡ firstRising m (systemOf b)
+
+-- the sides of rule number k, which stands at p
+pub record Sides (b : List ℕ) (k : ℕ) (p : RuleSpan) : Type 0 where
+  pub left-fits : p .lhs + p .width ≤ length b
+  pub right-fits : p .next ≤ length b
+  pub right-starts : p .rhs ≤ p .next
+  pub short-left : length (part b (p .lhs) (p .lhs + p .width)) ≤ sideWords
+  pub short-right : length (part b (p .rhs) (p .next)) ≤ sideWords
+  pub same : record { lhs = part b (p .lhs) (p .lhs + p .width); rhs = part b (p .rhs) (p .next) } ≡ rule (systemOf b) k
+
+module _ {b : List ℕ} {sh : Shape} (m : Weights) (acc : Accepted b sh) where
+  pub test-starts : Fallen b sh m 0 (sh .«first_rule»)
+  test-starts = record {
+    inside = omega arith;
+    rest = first-rest b sh acc;
+    goes = rw (rule-count b sh acc) (sought-starts (fallsAt b m) (length (systemOf b .rules)));
+  }
+
+  module _ {k at : ℕ} (so : Fallen b sh m k at) where
+    -- all were looked at
+    pub test-ends : sh .rules ≤ k → record { number = 0; place = 0; steps = 0 } ≡ fallAnswer (firstRising m (systemOf b))
+    test-ends h =
+        let n = sh .rules in
+        let z : none ≡ cond (ltb n n) (some n) none = rw (le-ltb n n (omega arith)) in
+        ap fallAnswer (z ∙ sym (sought-ends (fallsAt b m) n k n h) ∙ so .goes)
+
+    module _ (more : k < sh .rules) {p : RuleSpan} (e : p ≡ ruleSpan b at) where
+      pub sides : Sides b k p
+      sides =
+          let t = turn-of acc more (so .rest) e .here in
+          let s = sides-at acc more (so .rest) e in
+          let n : p .next - p .rhs ≡ p .size = (let z = t .ends in omega arith) in
+          let l = t .words in
+          let r : part b (p .rhs) (p .next) ≡ rule (systemOf b) k .rhs = rw n (s .right) in
+          record {
+            left-fits = s .left-fits;
+            right-fits = t .fits;
+            right-starts = (let z = t .ends in omega arith);
+            short-left = rw l (t .law .shortLeft);
+            short-right = rw r (t .law .shortRight);
+            same = λ i. record { lhs = l i; rhs = r i };
+          }
+
+      -- what was found of the rule's sides
+      module _ {x : Bool} (is : x ≡ falls m (record { lhs = part b (p .lhs) (p .lhs + p .width); rhs = part b (p .rhs) (p .next) })) where
+        found : {y : Bool} → x ≡ y → fallsAt b m k ≡ y
+        found q = ap (falls m) (sym (sides .same)) ∙ sym is ∙ q
+
+        pub test-rises : x ≡ false → record { number = 19; place = k; steps = 0 } ≡ fallAnswer (firstRising m (systemOf b))
+        test-rises q =
+            let n = sh .rules in
+            let z : some k ≡ cond (ltb k n) (some k) none = rw (lt-ltb k n more) in
+            ap fallAnswer (z ∙ sym (sought-ends (fallsAt b m) n (k + 1) k (omega arith)) ∙ sought-fails (fallsAt b m) n k n more (omega arith) (found q) ∙ so .goes)
+
+        pub test-falls : x ≡ true → Fallen b sh m (k + 1) (p .next)
+        test-falls q = record {
+          inside = omega arith;
+          rest = turn-of acc more (so .rest) e .here .rest;
+          goes = sought-passes (fallsAt b m) (sh .rules) k (sh .rules) more (found q) ∙ so .goes;
+        }
+
+-- ---- what the test answers, by what was read and weighed
+
+module _ (b : List ℕ) (m : Weights) where
+  -- "after the book": the reader's answer where it refuses
+  pub weights-refused : {f : Fault} {i : ℕ} → read b ≡ fault f i → weightsAnswer b m ≡ answerOf (fault f i)
+  unfolding weightsAnswer
+  weights-refused e = rw (e, weightsAnswer)
+
+  module _ {s : System} {i : ℕ} (e : read b ≡ ok s i) where
+    pub weights-misweighed : weighs m (length (s .arities)) ≡ false → weightsAnswer b m ≡ misweighedAnswer
+    unfolding weightsAnswer weighing
+    weights-misweighed q = rw (e, weightsAnswer, q, weighing)
+
+    pub weights-tested : weighs m (length (s .arities)) ≡ true → weightsAnswer b m ≡ fallAnswer (firstRising m s)
+    unfolding weightsAnswer weighing
+    weights-tested q = rw (e, weightsAnswer, q, weighing)
+
+-- of a book that was scanned
+module _ (b : List ℕ) (m : Weights) (s : Scan) (is : s ≡ scanOf (read b)) where
+  pub scan-refused : (s .answer .number ≡ 0 → ⊥) → s .answer ≡ weightsAnswer b m
+  scan-refused bad = go (read b) refl
+    where
+      go : (o : Parsed System) → read b ≡ o → s .answer ≡ weightsAnswer b m
+      go (ok x i) e = absurd (bad (ap (λ y. y .answer .number) (is ∙ ap scanOf e)))
+      go (fault f i) e = ap (λ y. y .answer) (is ∙ ap scanOf e) ∙ sym (weights-refused b m e)
+
+  module _ (good : s .answer .number ≡ 0) {x : Bool} (found : x ≡ weighs m (s .shape .symbols)) where
+    accepted : Accepted b (s .shape)
+    accepted = scan-accepted b s is good
+
+    count : s .shape .symbols ≡ length (systemOf b .arities)
+    count = symbol-count b (s .shape) accepted ∙ ap length (sym (signature b (s .shape) accepted))
+
+    listed : {y : Bool} → x ≡ y → weighs m (length (systemOf b .arities)) ≡ y
+    listed q = ap (weighs m) (sym count) ∙ sym found ∙ q
+
+    pub scan-misweighed : x ≡ false → misweighedAnswer ≡ weightsAnswer b m
+    scan-misweighed q = sym (weights-misweighed b m (accepted .accepted) (listed q))
+
+    pub scan-range : x ≡ true → inRange m ≡ true
+    unfolding weighs
+    scan-range q = both (eqb (length m) (length (systemOf b .arities))) (inRange m) (listed q) .1
+
+    pub scan-tested : x ≡ true → {r : Answer} → r ≡ fallAnswer (firstRising m (systemOf b)) → r ≡ weightsAnswer b m
+    scan-tested q e = e ∙ sym (weights-tested b m (accepted .accepted) (listed q))
