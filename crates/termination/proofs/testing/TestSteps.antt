@@ -13,7 +13,7 @@ use Rattle.system.specs.declared.Answer.{Answer}
 use Rattle.system.specs.declared.reader.Scan.{Scan}
 use Rattle.system.specs.declared.layout.rules.RuleSpan.{RuleSpan}
 use Rattle.system.specs.Limits.{sideWords}
-use Rattle.system.specs.System.{System, Rule, rule}
+use Rattle.system.specs.System.{System, rule}
 use Rattle.system.specs.Parser.{Parsed, ok, fault, read}
 use Rattle.system.specs.Answers.{answerOf}
 use Rattle.system.specs.Numbers.{Fault}
@@ -22,16 +22,16 @@ use Rattle.system.specs.layout.Rules.{ruleSpan}
 use Rattle.system.specs.reader.Sections.{scanOf}
 use Rattle.system.proofs.BuiltIns.{both}
 use Rattle.system.proofs.layout.Accepting.{scan-accepted}
-use Rattle.system.proofs.layout.Books.{Rest, Turn, turn-of, sides-at, rule-count, symbol-count, signature, first-rest}
+use Rattle.system.proofs.layout.Books.{Rest, turn-of, sides-at, rule-count, symbol-count, signature, first-rest}
 use Rattle.matching.proofs.FirstFailing.{sought, sought-starts, sought-ends, sought-passes, sought-fails}
 use Rattle.termination.specs.Weights.{Weights}
 use Rattle.termination.specs.WeightTest.{falls, weighs, inRange, firstRising, fallAnswer, misweighedAnswer, weighing, weightsAnswer}
 
 -- ---- the rules, one after the other
 
--- the words of a part of a book
-abbrev pub part : List ℕ → ℕ → ℕ → List ℕ
-part b from end = take (end - from) (drop from b)
+-- the words of a book from one index up to another
+abbrev pub between : List ℕ → ℕ → ℕ → List ℕ
+between b from end = take (end - from) (drop from b)
 
 -- rule number k falls
 abbrev pub fallsAt : List ℕ → Weights → ℕ → Bool
@@ -48,9 +48,9 @@ pub record Sides (b : List ℕ) (k : ℕ) (p : RuleSpan) : Type 0 where
   pub left-fits : p .lhs + p .width ≤ length b
   pub right-fits : p .next ≤ length b
   pub right-starts : p .rhs ≤ p .next
-  pub short-left : length (part b (p .lhs) (p .lhs + p .width)) ≤ sideWords
-  pub short-right : length (part b (p .rhs) (p .next)) ≤ sideWords
-  pub same : record { lhs = part b (p .lhs) (p .lhs + p .width); rhs = part b (p .rhs) (p .next) } ≡ rule (systemOf b) k
+  pub short-left : length (between b (p .lhs) (p .lhs + p .width)) ≤ sideWords
+  pub short-right : length (between b (p .rhs) (p .next)) ≤ sideWords
+  pub same : record { lhs = between b (p .lhs) (p .lhs + p .width); rhs = between b (p .rhs) (p .next) } ≡ rule (systemOf b) k
 
 module _ {b : List ℕ} {sh : Shape} (m : Weights) (acc : Accepted b sh) where
   pub test-starts : Fallen b sh m 0 (sh .«first_rule»)
@@ -62,7 +62,7 @@ module _ {b : List ℕ} {sh : Shape} (m : Weights) (acc : Accepted b sh) where
 
   module _ {k at : ℕ} (so : Fallen b sh m k at) where
     -- all were looked at
-    pub test-ends : sh .rules ≤ k → record { number = 0; place = 0; steps = 0 } ≡ fallAnswer (firstRising m (systemOf b))
+    pub test-ends : sh .rules ≤ k → fallAnswer none ≡ fallAnswer (firstRising m (systemOf b))
     test-ends h =
         let n = sh .rules in
         let z : none ≡ cond (ltb n n) (some n) none = rw (le-ltb n n (omega arith)) in
@@ -75,7 +75,7 @@ module _ {b : List ℕ} {sh : Shape} (m : Weights) (acc : Accepted b sh) where
           let s = sides-at acc more (so .rest) e in
           let n : p .next - p .rhs ≡ p .size = (let z = t .ends in omega arith) in
           let l = t .words in
-          let r : part b (p .rhs) (p .next) ≡ rule (systemOf b) k .rhs = rw n (s .right) in
+          let r : between b (p .rhs) (p .next) ≡ rule (systemOf b) k .rhs = rw n (s .right) in
           record {
             left-fits = s .left-fits;
             right-fits = t .fits;
@@ -85,12 +85,12 @@ module _ {b : List ℕ} {sh : Shape} (m : Weights) (acc : Accepted b sh) where
             same = λ i. record { lhs = l i; rhs = r i };
           }
 
-      -- what was found of the rule's sides
-      module _ {x : Bool} (is : x ≡ falls m (record { lhs = part b (p .lhs) (p .lhs + p .width); rhs = part b (p .rhs) (p .next) })) where
+      -- by what was found of its sides: the search ends here, or goes on
+      module _ {x : Bool} (is : x ≡ falls m (record { lhs = between b (p .lhs) (p .lhs + p .width); rhs = between b (p .rhs) (p .next) })) where
         found : {y : Bool} → x ≡ y → fallsAt b m k ≡ y
         found q = ap (falls m) (sym (sides .same)) ∙ sym is ∙ q
 
-        pub test-rises : x ≡ false → record { number = 19; place = k; steps = 0 } ≡ fallAnswer (firstRising m (systemOf b))
+        pub test-rises : x ≡ false → fallAnswer (some k) ≡ fallAnswer (firstRising m (systemOf b))
         test-rises q =
             let n = sh .rules in
             let z : some k ≡ cond (ltb k n) (some k) none = rw (lt-ltb k n more) in

@@ -14,7 +14,7 @@ Inv-loop book shape weights k₀ at₀ k at = Fallen book shape weights k at
 abbrev μ-loop : tie.MeasureT-loop
 μ-loop book shape weights k₀ at₀ k at = shape .rules - k
 
--- ---- the places of the code that are behind others: the entry, the loop's head, the rule, its left side
+-- ---- the places of the code that are behind others: the entry, the loop's head, the rule that was found
 
 abbrev entry : tie.At-loop Inv-loop μ-loop → tie.Start Inv-loop μ-loop
 entry c = c .before .before .before

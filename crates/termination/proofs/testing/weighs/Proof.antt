@@ -1,5 +1,4 @@
 -- `testing::weighs` meets its contract.
-use mathlib.Core.Path.{sym, _∙_}
 use lib.ListN.{length}
 use borrow.Author.Needs.{needs}
 use borrow.Author.Tests.{eq-eqb, ne-eqb}

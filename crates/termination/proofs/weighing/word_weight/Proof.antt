@@ -7,15 +7,9 @@ use Rattle.termination.proofs.Loops.{weight-listed, weight-literal, wei
 use Rattle.termination.proofs.weighing.word_weight.Statement.{statement}
 use Rattle.termination.proofs.weighing.word_weight.Tie as tie
 
--- ---- the places of the code that are behind others: the entry, past the first test, past the second
-
+-- the entry
 abbrev entry : tie.After-wide → tie.Start
 entry c = c .before .before
-
-abbrev unlisted : tie.Else1 → tie.After-wide
-unlisted c = c .before
-
--- ---- the needs
 
 returns : tie.Need-returns
 returns c =
