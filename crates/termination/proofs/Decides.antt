@@ -1,42 +1,70 @@
--- The computed test decides: whether a rule falls, and whether a list is one of weights for a system.
+-- Whether a rule falls, by computing: the test of its variables, one after the other, and of its weights.
 use Prim.Native.Nat.{ℕ, zero, suc, _+_, _≤_, _<_}
-use native.Mathlib.Nat.{not-suc-le-zero}
+use native.Mathlib.Numerals.{add-one}
 use native.Mathlib.Omega.{arith}
 use native.Mathlib.Decide.{ℕ-discrete}
-use mathlib.Core.Path.{_≡_, refl}
-use mathlib.Core.Bool.{Bool, true, false, _&&_}
-use mathlib.Core.List.{List, [], _∷_}
-use lib.ListN.{length, getD}
-use lib.Dec.{leb}
-use borrow.Author.Tests.{ltb-true, lt-ltb, leb-true, le-leb, eqb-true, eq-eqb}
+use mathlib.Core.Path.{_≡_, refl, ap, _∙_}
+use mathlib.Core.Bool.{Bool, true, false, _&&_, and-false}
+use borrow.Author.Tests.{ltb-true, lt-ltb, le-ltb, leb-true, le-leb, lt-leb}
 use Rattle.system.specs.Limits.{variable, variables}
-use Rattle.system.specs.System.{System, Rule}
+use Rattle.system.specs.System.{Rule}
 use Rattle.system.proofs.BuiltIns.{both}
-use Rattle.termination.specs.Weights.{Weights, maxWeight, weight, occurs, Falls, Weighs}
-use Rattle.termination.specs.WeightTest.{keepsAt, below, falls, inRange, weighs}
+use Rattle.termination.specs.Weights.{Weights, weight, occurs, Falls}
+use Rattle.termination.specs.WeightTest.{keepsAt, below, falls}
 
-pub both-true : (a b : Bool) → a ≡ true → b ≡ true → a && b ≡ true
-both-true true b p q = q
-both-true false b p q = p
-
--- ---- a test that all numbers below n pass
+-- ---- a test of the numbers below n
 
 module _ (test : ℕ → Bool) where
+  pub below-none : below test 0 ≡ true
+  unfolding below
+  below-none = refl
+
+  pub below-next : (k : ℕ) → below test k ≡ true → test k ≡ true → below test (k + 1) ≡ true
+  unfolding below
+  below-next k e t = rw (add-one k) (rw (e, t))
+
+  -- where one fails, so does every n above it
+  pub below-fails : (k n : ℕ) → k < n → test k ≡ false → below test n ≡ false
+  unfolding below
+  below-fails k zero h t = absurd (omega arith)
+  below-fails k (suc n) h t = elim (ℕ-discrete k n) [
+    | yes e ↦ rw (rw e at t) (and-false (below test n))
+    | no d ↦ rw (below-fails k n (omega arith) t)
+  ]
+
+  -- it passes exactly if all do
   pub below-all : (n : ℕ) → below test n ≡ true → (v : ℕ) → v < n → test v ≡ true
   unfolding below
-  below-all zero e v l = absurd (not-suc-le-zero l)
+  below-all zero e v l = absurd (omega arith)
   below-all (suc n) e v l =
       let c = both (below test n) (test n) e in
       elim (ℕ-discrete v n) [ yes q ↦ rw q (c .1) | no q ↦ below-all n (c .0) v (omega arith) ]
 
-  pub all-below : (n : ℕ) → ((v : ℕ) → v < n → test v ≡ true) → below test n ≡ true
+  all-below : (n : ℕ) → ((v : ℕ) → v < n → test v ≡ true) → below test n ≡ true
   unfolding below
   all-below zero h = refl
-  all-below (suc n) h = both-true (below test n) (test n) (all-below n (λ v l. h v (omega arith))) (h n (omega arith))
+  all-below (suc n) h = rw (all-below n (λ v l. h v (omega arith)), h n (omega arith))
 
 -- ---- whether a rule falls
 
+module _ (r : Rule) (v : ℕ) where
+  pub keeps-variable : occurs (variable + v) (r .rhs) ≤ occurs (variable + v) (r .lhs) → keepsAt r v ≡ true
+  unfolding keepsAt
+  keeps-variable h = le-leb (occurs (variable + v) (r .rhs)) (occurs (variable + v) (r .lhs)) h
+
+  pub copies-variable : occurs (variable + v) (r .lhs) < occurs (variable + v) (r .rhs) → keepsAt r v ≡ false
+  unfolding keepsAt
+  copies-variable h = lt-leb (occurs (variable + v) (r .rhs)) (occurs (variable + v) (r .lhs)) h
+
 module _ (m : Weights) (r : Rule) where
+  pub falls-heavy : weight m (r .lhs) ≤ weight m (r .rhs) → falls m r ≡ false
+  unfolding falls
+  falls-heavy h = rw (le-ltb (weight m (r .rhs)) (weight m (r .lhs)) h)
+
+  pub falls-light : weight m (r .rhs) < weight m (r .lhs) → falls m r ≡ below (keepsAt r) variables
+  unfolding falls
+  falls-light h = rw (lt-ltb (weight m (r .rhs)) (weight m (r .lhs)) h)
+
   pub falls-sound : falls m r ≡ true → Falls m r
   unfolding falls keepsAt
   falls-sound e =
@@ -44,32 +72,4 @@ module _ (m : Weights) (r : Rule) where
       record { lighter = ltb-true _ _ (c .0); kept = λ v l. leb-true _ _ (below-all (keepsAt r) variables (c .1) v l) }
 
   pub falls-complete : Falls m r → falls m r ≡ true
-  unfolding falls keepsAt
-  falls-complete f = both-true _ (below (keepsAt r) variables) (lt-ltb _ _ (f .lighter)) (all-below (keepsAt r) variables (λ v l. le-leb _ _ (f .kept v l)))
-
--- ---- whether a list is one of weights
-
-abbrev pub Ranged : Weights → Type 0
-Ranged m = (f : ℕ) → f < length m → (1 ≤ getD m f 0) × (getD m f 0 ≤ maxWeight)
-
-pub range-sound : (m : Weights) → inRange m ≡ true → Ranged m
-unfolding inRange
-range-sound [] e f l = absurd (not-suc-le-zero l)
-range-sound (w ∷ m) e zero l = let c = both _ (inRange m) e in let d = both _ _ (c .0) in (leb-true 1 w (d .0), leb-true w maxWeight (d .1))
-range-sound (w ∷ m) e (suc f) l = range-sound m (both (leb 1 w && leb w maxWeight) (inRange m) e .1) f (omega arith)
-
-pub range-complete : (m : Weights) → Ranged m → inRange m ≡ true
-unfolding inRange
-range-complete [] h = refl
-range-complete (w ∷ m) h =
-    let z = h 0 (omega arith) in
-    both-true _ (inRange m) (both-true _ _ (le-leb 1 w (z .0)) (le-leb w maxWeight (z .1))) (range-complete m (λ f l. h (suc f) (omega arith)))
-
-module _ (m : Weights) (s : System) where
-  pub weighs-sound : weighs m (length (s .arities)) ≡ true → Weighs m s
-  unfolding weighs
-  weighs-sound e = let c = both _ (inRange m) e in record { total = eqb-true _ _ (c .0); range = range-sound m (c .1) }
-
-  pub weighs-complete : Weighs m s → weighs m (length (s .arities)) ≡ true
-  unfolding weighs
-  weighs-complete h = both-true _ (inRange m) (eq-eqb _ _ (h .total)) (range-complete m (h .range))
+  falls-complete f = falls-light (f .lighter) ∙ all-below (keepsAt r) variables (λ v l. keeps-variable r v (f .kept v l))

@@ -3,7 +3,7 @@ use Prim.Native.Nat.{ℕ, suc, _+_, _≤_, _<_}
 use native.Mathlib.Omega.{arith}
 use mathlib.Core.Path.{_≡_, refl, ap, _∙_}
 use mathlib.Core.List.{List, [], _∷_}
-use lib.ListN.{length, List·getD-eq-default}
+use lib.ListN.{length}
 use borrow.Author.Tests.{le-ltb, lt-leb}
 use Rattle.system.specs.Limits.{variable, variables}
 use Rattle.system.specs.BuiltIns.{literal, literals, maximum, minimum, square, isLiteral, isBuiltIn, larger, smaller, squareLaw}
@@ -16,27 +16,14 @@ use Rattle.system.proofs.Signatures.{few-symbols, few-listed}
 use Rattle.system.proofs.Members.{numbered-below}
 use Rattle.system.proofs.Rules.{built-plain, rule-formed}
 use Rattle.termination.specs.Weights.{Weights, builtInWeight, wordWeight, weight, occurs, Falls, Falling, Weighs}
-use Rattle.termination.proofs.Loops.{weight-cons, weight-nil}
+use Rattle.termination.proofs.Words.{weight-unlisted, weight-literal, weight-none, weight-cons, weight-nil}
 use Rattle.termination.proofs.Instances.{shared-le, weight-instance}
 use Rattle.termination.proofs.Occurrences.{occurs-none}
 
--- ---- words that are not listed
-
-module _ (m : Weights) where
-  weight-unlisted : (w : ℕ) → length m ≤ w → wordWeight m w ≡ builtInWeight w
-  unfolding wordWeight
-  weight-unlisted w h = List·getD-eq-default m (builtInWeight w) h
-
-  -- a variable weighs nothing
-  pub weight-variable : length m ≤ variable → (w : ℕ) → variable ≤ w → wordWeight m w ≡ 0
-  unfolding builtInWeight
-  weight-variable h w l =
-      weight-unlisted w (omega arith)
-      ∙ rw (above-literal w (omega arith), le-ltb w maximum (omega arith), above-builtin w (omega arith), lt-leb w square (omega arith))
-
-  weight-literal : length m ≤ literal → (n : ℕ) → n < literals → wordWeight m (literal + n) ≡ 0
-  unfolding builtInWeight
-  weight-literal h n l = weight-unlisted (literal + n) (omega arith) ∙ rw (literal-is n l)
+-- a variable weighs nothing
+pub weight-variable : (m : Weights) → length m ≤ variable → (w : ℕ) → variable ≤ w → wordWeight m w ≡ 0
+weight-variable m h w l =
+    weight-none m w (omega arith) (above-literal w (omega arith) ∙ le-ltb w maximum (omega arith)) (above-builtin w (omega arith) ∙ lt-leb w square (omega arith))
 
 pub weighs-light : (m : Weights) (s : System) → WellFormed s → Weighs m s → (w : ℕ) → variable ≤ w → wordWeight m w ≡ 0
 weighs-light m s wf h = weight-variable m (let z = few-symbols s wf in let z′ = h .total in omega arith)
@@ -64,18 +51,21 @@ module _ (m : Weights) (s : System) (wf : WellFormed s) (fit : Weighs m s) where
 
 module _ (m : Weights) (few : length m ≤ literal) where
   -- an operator weighs one, literals nothing
+  literal-light : (n : ℕ) → n < literals → wordWeight m (literal + n) ≡ 0
+  literal-light n h = weight-literal m (literal + n) (omega arith) (literal-is n h)
+
   two-literals : (f a b : ℕ) → literal ≤ f → builtInWeight f ≡ 1 → a < literals → b < literals → weight m (f ∷ (literal + a) ∷ (literal + b) ∷ []) ≡ 1
   two-literals f a b l e h k =
       rw (weight-cons m f ((literal + a) ∷ (literal + b) ∷ []), weight-cons m (literal + a) ((literal + b) ∷ []), weight-cons m (literal + b) [], weight-nil m)
-      (let z = weight-unlisted m f (omega arith) ∙ e in let y = weight-literal m few a h in let x = weight-literal m few b k in omega arith)
+      (let z = weight-unlisted m f (omega arith) ∙ e in let y = literal-light a h in let x = literal-light b k in omega arith)
 
   one-literal : (f a : ℕ) → literal ≤ f → builtInWeight f ≡ 1 → a < literals → weight m (f ∷ (literal + a) ∷ []) ≡ 1
   one-literal f a l e h =
       rw (weight-cons m f ((literal + a) ∷ []), weight-cons m (literal + a) [], weight-nil m)
-      (let z = weight-unlisted m f (omega arith) ∙ e in let y = weight-literal m few a h in omega arith)
+      (let z = weight-unlisted m f (omega arith) ∙ e in let y = literal-light a h in omega arith)
 
   literal-alone : (n : ℕ) → n < literals → weight m ((literal + n) ∷ []) ≡ 0
-  literal-alone n h = rw (weight-cons m (literal + n) [], weight-nil m) (let z = weight-literal m few n h in omega arith)
+  literal-alone n h = rw (weight-cons m (literal + n) [], weight-nil m) (let z = literal-light n h in omega arith)
 
   operator-weights : (builtInWeight maximum ≡ 1) × (builtInWeight minimum ≡ 1) × (builtInWeight square ≡ 1)
   unfolding builtInWeight isLiteral isBuiltIn

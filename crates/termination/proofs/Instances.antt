@@ -10,7 +10,7 @@ use Rattle.system.specs.System.{instance}
 use Rattle.system.specs.Terms.{Member, first, later}
 use Rattle.matching.proofs.Matched.{instance-nil, instance-symbol, instance-variable}
 use Rattle.termination.specs.Weights.{Weights, wordWeight, weight, occurs}
-use Rattle.termination.proofs.Loops.{occurs-same, occurs-other, weight-append, weight-cons, weight-nil}
+use Rattle.termination.proofs.Words.{occurs-same, occurs-other, weight-append, weight-cons, weight-nil}
 
 -- ---- a sum over the numbers below n
 

@@ -1,11 +1,11 @@
--- Sums of weights, and how often a variable stands in a side
-pub mod Loops
-pub mod Instances
+-- What words weigh, how often variables stand in a side, and what an instance of it weighs
+pub mod Words
+pub mod Ranges
 pub mod Occurrences
--- Rules that fall
+pub mod Instances
+-- Rules that fall, and the test of them
 pub mod Falls
 pub mod Decides
 pub mod Tests
 -- What that says of every rewrite, and of an evaluation
 pub mod Finite
-pub mod Fits

@@ -10,7 +10,7 @@ use Rattle.system.specs.Signature.{Signature}
 use Rattle.system.specs.System.{Rule}
 use Rattle.system.specs.Terms.{Member, first, later, Numbered, end, symbol, next, WellFormedRule}
 use Rattle.termination.specs.Weights.{occurs}
-use Rattle.termination.proofs.Loops.{occurs-same, occurs-other}
+use Rattle.termination.proofs.Words.{occurs-same, occurs-other}
 
 -- a word that does not stand there
 pub occurs-none : (v : ℕ) (ws : List ℕ) → (Member v ws → ⊥) → occurs v ws ≡ 0

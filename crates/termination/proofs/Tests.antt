@@ -24,7 +24,8 @@ use Rattle.termination.specs.Weights.{Weights, Falls, Falling, RisesFirs
 use Rattle.termination.specs.WeightTest.{falls, weighs, firstRising, fallAnswer, misweighedAnswer, weighing, weightsAnswer, PassedWeights}
 use Rattle.termination.specs.Tells.{FallingBook, RisingBook, MisweighedBook, Tells}
 use Rattle.termination.proofs.Falls.{also-falls, all-fall}
-use Rattle.termination.proofs.Decides.{falls-sound, falls-complete, weighs-sound, weighs-complete}
+use Rattle.termination.proofs.Decides.{falls-sound, falls-complete}
+use Rattle.termination.proofs.Ranges.{weighs-sound, weighs-complete}
 
 clash : {b : Bool} → b ≡ true → b ≡ false → ⊥
 clash e q = let z : _≡_ {A = ℕ} 0 1 = cc in omega arith
@@ -85,9 +86,14 @@ module _ (b : List ℕ) (m : Weights) where
   unfolding weightsAnswer
   weights-refused e = rw (e, weightsAnswer)
 
-  pub weights-accepted : {s : System} {i : ℕ} → read b ≡ ok s i → weightsAnswer b m ≡ weighing m s
-  unfolding weightsAnswer
-  weights-accepted e = rw (e, weightsAnswer)
+  module _ {s : System} {i : ℕ} (e : read b ≡ ok s i) where
+    pub weights-misweighed : weighs m (length (s .arities)) ≡ false → weightsAnswer b m ≡ misweighedAnswer
+    unfolding weightsAnswer weighing
+    weights-misweighed q = rw (e, weightsAnswer, q, weighing)
+
+    pub weights-tested : weighs m (length (s .arities)) ≡ true → weightsAnswer b m ≡ fallAnswer (firstRising m s)
+    unfolding weightsAnswer weighing
+    weights-tested q = rw (e, weightsAnswer, q, weighing)
 
   -- the four ways that the test ends
   data Ends : Answer → Type 0 where
@@ -97,36 +103,21 @@ module _ (b : List ℕ) (m : Weights) where
     failed : (k : ℕ) → RisingBook b m k → Ends (fallAnswer (some k))
 
   module _ (a : read b ≡ ok (systemOf b) (length b)) where
-    weighing-other : weighs m (length (systemOf b .arities)) ≡ false → weighing m (systemOf b) ≡ misweighedAnswer
-    unfolding weighing
-    weighing-other e = rw (e, weighing)
-
-    pub weighing-fits : weighs m (length (systemOf b .arities)) ≡ true → weighing m (systemOf b) ≡ fallAnswer (firstRising m (systemOf b))
-    unfolding weighing
-    weighing-fits e = rw (e, weighing)
-
     falls-ends : Weighs m (systemOf b) → (o : Option ℕ) → firstRising m (systemOf b) ≡ o → Ends (fallAnswer o)
     falls-ends w none e = passed (record { accepted = a; weighs = w; falling = none-falling m (systemOf b) (formed a) w e })
     falls-ends w (some k) e = failed k (record { accepted = a; weighs = w; first = some-rises m (systemOf b) (formed a) w e })
 
-    weighing-ends : (o : Bool) → weighs m (length (systemOf b .arities)) ≡ o → Ends (weighing m (systemOf b))
-    weighing-ends true e = rw (weighing-fits e) (falls-ends (weighs-sound m (systemOf b) e) (firstRising m (systemOf b)) refl)
-    weighing-ends false e =
-        rw (weighing-other e) (other (record { accepted = a; misweighed = λ w. clash (weighs-complete m (systemOf b) w) e }))
-
-    other-answer : (Weighs m (systemOf b) → ⊥) → weighing m (systemOf b) ≡ misweighedAnswer
-    other-answer h = go (weighs m (length (systemOf b .arities))) refl
-      where
-        go : (o : Bool) → weighs m (length (systemOf b .arities)) ≡ o → weighing m (systemOf b) ≡ misweighedAnswer
-        go true e = absurd (h (weighs-sound m (systemOf b) e))
-        go false e = weighing-other e
+    accepted-ends : (o : Bool) → weighs m (length (systemOf b .arities)) ≡ o → Ends (weightsAnswer b m)
+    accepted-ends true e = rw (weights-tested a e) (falls-ends (weighs-sound m (systemOf b) e) (firstRising m (systemOf b)) refl)
+    accepted-ends false e =
+        rw (weights-misweighed a e) (other (record { accepted = a; misweighed = λ w. clash (weighs-complete m (systemOf b) w) e }))
 
   ends : Ends (weightsAnswer b m)
   ends = go (read b) refl
     where
       go : (o : Parsed System) → read b ≡ o → Ends (weightsAnswer b m)
       go (fault f i) e = rw (weights-refused e) (refused f i)
-      go (ok s i) e = let a = reads-system b e in rw (weights-accepted a) (weighing-ends a (weighs m (length (systemOf b .arities))) refl)
+      go (ok s i) e = accepted-ends (reads-system b e) (weighs m (length (systemOf b .arities))) refl
 
   high : (f : Fault) (n : ℕ) → 18 ≤ n → answerOf (fault f 0) .number ≡ n → ⊥
   high f n l e = elim (fault-range f) [ inl z ↦ (let h = z .1 in omega arith) | inr z ↦ (omega arith) ]
@@ -142,7 +133,11 @@ module _ (b : List ℕ) (m : Weights) where
       go (failed k h) z = absurd (omega arith)
 
   pub book-misweighed : MisweighedBook b m → weightsAnswer b m ≡ misweighedAnswer
-  book-misweighed h = weights-accepted (h .accepted) ∙ other-answer (h .accepted) (h .misweighed)
+  book-misweighed h = weights-misweighed (h .accepted) (go (weighs m (length (systemOf b .arities))) refl)
+    where
+      go : (o : Bool) → weighs m (length (systemOf b .arities)) ≡ o → o ≡ false
+      go true e = absurd (h .misweighed (weighs-sound m (systemOf b) e))
+      go false e = refl
 
   -- 19: the place is the lowest rule that does not fall; and every such pair gets it
   pub rising-book : weightsAnswer b m .number ≡ numberOf rising → RisingBook b m (weightsAnswer b m .place)
@@ -156,7 +151,7 @@ module _ (b : List ℕ) (m : Weights) where
 
   module _ (a : read b ≡ ok (systemOf b) (length b)) (w : Weighs m (systemOf b)) where
     accepted-fits : weightsAnswer b m ≡ fallAnswer (firstRising m (systemOf b))
-    accepted-fits = weights-accepted a ∙ weighing-fits a (weighs-complete m (systemOf b) w)
+    accepted-fits = weights-tested a (weighs-complete m (systemOf b) w)
 
   pub book-rising : {k : ℕ} → RisingBook b m k → weightsAnswer b m ≡ fallAnswer (some k)
   book-rising h = accepted-fits (h .accepted) (h .weighs) ∙ ap fallAnswer (rises-some m (systemOf b) (formed (h .accepted)) (h .weighs) (h .first))

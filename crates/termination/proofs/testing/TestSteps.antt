@@ -15,8 +15,6 @@ use Rattle.system.specs.declared.layout.rules.RuleSpan.{RuleSpan}
 use Rattle.system.specs.Limits.{sideWords}
 use Rattle.system.specs.System.{System, rule}
 use Rattle.system.specs.Parser.{Parsed, ok, fault, read}
-use Rattle.system.specs.Answers.{answerOf}
-use Rattle.system.specs.Numbers.{Fault}
 use Rattle.system.specs.Book.{systemOf, Accepted}
 use Rattle.system.specs.layout.Rules.{ruleSpan}
 use Rattle.system.specs.reader.Sections.{scanOf}
@@ -25,7 +23,8 @@ use Rattle.system.proofs.layout.Accepting.{scan-accepted}
 use Rattle.system.proofs.layout.Books.{Rest, turn-of, sides-at, rule-count, symbol-count, signature, first-rest}
 use Rattle.matching.proofs.FirstFailing.{sought, sought-starts, sought-ends, sought-passes, sought-fails}
 use Rattle.termination.specs.Weights.{Weights}
-use Rattle.termination.specs.WeightTest.{falls, weighs, inRange, firstRising, fallAnswer, misweighedAnswer, weighing, weightsAnswer}
+use Rattle.termination.specs.WeightTest.{falls, weighs, inRange, firstRising, fallAnswer, misweighedAnswer, weightsAnswer}
+use Rattle.termination.proofs.Tests.{weights-refused, weights-misweighed, weights-tested}
 
 -- ---- the rules, one after the other
 
@@ -103,24 +102,8 @@ module _ {b : List ℕ} {sh : Shape} (m : Weights) (acc : Accepted b sh) where
           goes = sought-passes (fallsAt b m) (sh .rules) k (sh .rules) more (found q) ∙ so .goes;
         }
 
--- ---- what the test answers, by what was read and weighed
+-- ---- of a book that was scanned
 
-module _ (b : List ℕ) (m : Weights) where
-  -- "after the book": the reader's answer where it refuses
-  pub weights-refused : {f : Fault} {i : ℕ} → read b ≡ fault f i → weightsAnswer b m ≡ answerOf (fault f i)
-  unfolding weightsAnswer
-  weights-refused e = rw (e, weightsAnswer)
-
-  module _ {s : System} {i : ℕ} (e : read b ≡ ok s i) where
-    pub weights-misweighed : weighs m (length (s .arities)) ≡ false → weightsAnswer b m ≡ misweighedAnswer
-    unfolding weightsAnswer weighing
-    weights-misweighed q = rw (e, weightsAnswer, q, weighing)
-
-    pub weights-tested : weighs m (length (s .arities)) ≡ true → weightsAnswer b m ≡ fallAnswer (firstRising m s)
-    unfolding weightsAnswer weighing
-    weights-tested q = rw (e, weightsAnswer, q, weighing)
-
--- of a book that was scanned
 module _ (b : List ℕ) (m : Weights) (s : Scan) (is : s ≡ scanOf (read b)) where
   pub scan-refused : (s .answer .number ≡ 0 → ⊥) → s .answer ≡ weightsAnswer b m
   scan-refused bad = go (read b) refl

@@ -3,7 +3,8 @@ use native.Mathlib.Omega.{arith}
 use mathlib.Core.Path.{sym, _∙_}
 use borrow.Author.Needs.{needs}
 use Rattle.system.specs.System.{Rule}
-use Rattle.termination.proofs.Loops.{side-weighed, falls-heavy, falls-light}
+use Rattle.termination.proofs.Ranges.{side-weighed}
+use Rattle.termination.proofs.Decides.{falls-heavy, falls-light}
 use Rattle.termination.proofs.falling.falls.Statement.{statement}
 use Rattle.termination.proofs.falling.falls.Tie as tie
 

@@ -7,7 +7,7 @@ use borrow.Author.Needs.{needs}
 use Rattle.system.specs.Limits.{variables}
 use Rattle.system.specs.System.{Rule}
 use Rattle.termination.specs.WeightTest.{keepsAt, below}
-use Rattle.termination.proofs.Loops.{below-none, below-next, below-fails, keeps-variable, copies-variable}
+use Rattle.termination.proofs.Decides.{below-none, below-next, below-fails, keeps-variable, copies-variable}
 use Rattle.termination.proofs.falling.keeps.Statement.{statement}
 use Rattle.termination.proofs.falling.keeps.Tie as tie
 

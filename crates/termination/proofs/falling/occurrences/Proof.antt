@@ -7,7 +7,7 @@ use lib.ListN.{length, take}
 use lib.Seq.{take-all}
 use borrow.Author.Needs.{needs}
 use Rattle.termination.specs.Weights.{occurs}
-use Rattle.termination.proofs.Loops.{occurs-nil, occurs-next, occurs-skip}
+use Rattle.termination.proofs.Words.{occurs-nil, occurs-next, occurs-skip}
 use Rattle.termination.proofs.falling.occurrences.Statement.{statement}
 use Rattle.termination.proofs.falling.occurrences.Tie as tie
 

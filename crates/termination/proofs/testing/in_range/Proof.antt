@@ -5,7 +5,7 @@ use mathlib.Core.Path.{_≡_, refl, sym, ap, _∙_}
 use lib.ListN.{length, drop, drop-of-length-le}
 use borrow.Author.Needs.{needs}
 use Rattle.termination.specs.WeightTest.{inRange}
-use Rattle.termination.proofs.Loops.{range-nil, range-next, range-low, range-high}
+use Rattle.termination.proofs.Ranges.{range-nil, range-next, range-low, range-high}
 use Rattle.termination.proofs.testing.in_range.Statement.{statement}
 use Rattle.termination.proofs.testing.in_range.Tie as tie
 

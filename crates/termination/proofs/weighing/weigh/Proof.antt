@@ -7,7 +7,7 @@ use lib.Seq.{take-all}
 use borrow.Author.Needs.{needs}
 use Rattle.termination.specs.Weights.{weight}
 use Rattle.termination.specs.WeightTest.{largest}
-use Rattle.termination.proofs.Loops.{weight-nil, weight-next, weight-take, weighed-small, weighed-large}
+use Rattle.termination.proofs.Words.{weight-nil, weight-next, weight-take, weighed-small, weighed-large}
 use Rattle.termination.proofs.weighing.weigh.Statement.{statement}
 use Rattle.termination.proofs.weighing.weigh.Tie as tie
 

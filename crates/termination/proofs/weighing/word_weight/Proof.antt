@@ -3,7 +3,7 @@ use mathlib.Core.Path.{sym, ap, _∙_}
 use native.Mathlib.Omega.{arith}
 use lib.ListN.{getD}
 use borrow.Author.Needs.{needs}
-use Rattle.termination.proofs.Loops.{weight-listed, weight-literal, weight-operator, weight-none}
+use Rattle.termination.proofs.Words.{weight-listed, weight-literal, weight-operator, weight-none}
 use Rattle.termination.proofs.weighing.word_weight.Statement.{statement}
 use Rattle.termination.proofs.weighing.word_weight.Tie as tie
 

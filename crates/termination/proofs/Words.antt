@@ -1,0 +1,120 @@
+-- What words weigh, how often a word stands among them, and one word more of both.
+use Prim.Native.Nat.{ℕ, zero, suc, _+_, _≤_, _<_}
+use native.Mathlib.Numerals.{add-one}
+use native.Mathlib.Omega.{arith}
+use mathlib.Core.Path.{_≡_, refl, ap, _∙_}
+use mathlib.Core.Bool.{true, false}
+use mathlib.Core.List.{List, [], _∷_, _++_}
+use lib.ListN.{length, getD, take, List·getD-eq-default}
+use lib.Seq.{take-suc}
+use borrow.Author.Tests.{eq-eqb, ne-eqb}
+use Rattle.system.specs.BuiltIns.{isLiteral, isBuiltIn}
+use Rattle.system.proofs.BuiltIns.{smaller-first, smaller-second}
+use Rattle.system.proofs.Signatures.{getD-within}
+use Rattle.termination.specs.Weights.{Weights, builtInWeight, wordWeight, weight, occurs}
+use Rattle.termination.specs.WeightTest.{largest, weighed}
+
+-- ---- what one word weighs
+
+module _ (m : Weights) (w : ℕ) where
+  -- a listed one
+  pub weight-listed : w < length m → wordWeight m w ≡ getD m w 0
+  unfolding wordWeight
+  weight-listed h = getD-within m (builtInWeight w) 0 w h
+
+  -- one that is not listed: a literal, an operator, or no symbol
+  module _ (unlisted : length m ≤ w) where
+    pub weight-unlisted : wordWeight m w ≡ builtInWeight w
+    unfolding wordWeight
+    weight-unlisted = List·getD-eq-default m (builtInWeight w) {n = w} unlisted
+
+    pub weight-literal : isLiteral w ≡ true → wordWeight m w ≡ 0
+    unfolding builtInWeight
+    weight-literal e = weight-unlisted ∙ rw e
+
+    module _ (other : isLiteral w ≡ false) where
+      pub weight-operator : isBuiltIn w ≡ true → wordWeight m w ≡ 1
+      unfolding builtInWeight
+      weight-operator e = weight-unlisted ∙ rw (other, e)
+
+      pub weight-none : isBuiltIn w ≡ false → wordWeight m w ≡ 0
+      unfolding builtInWeight
+      weight-none e = weight-unlisted ∙ rw (other, e)
+
+-- ---- what words weigh
+
+module _ (m : Weights) where
+  pub weight-nil : weight m [] ≡ 0
+  unfolding weight
+  weight-nil = refl
+
+  pub weight-cons : (w : ℕ) (ws : List ℕ) → weight m (w ∷ ws) ≡ wordWeight m w + weight m ws
+  unfolding weight
+  weight-cons w ws = refl
+
+  pub weight-append : (a b : List ℕ) → weight m (a ++ b) ≡ weight m a + weight m b
+  unfolding weight
+  weight-append [] b = omega arith
+  weight-append (w ∷ a) b = let z = weight-append a b in omega arith
+
+  -- the first of them weigh no more than all
+  pub weight-take : (k : ℕ) (ws : List ℕ) → weight m (take k ws) ≤ weight m ws
+  unfolding weight
+  weight-take zero ws = omega arith
+  weight-take (suc k) [] = omega arith
+  weight-take (suc k) (w ∷ ws) = let z = weight-take k ws in omega arith
+
+  -- as a step limit: the weight where it fits, else the largest
+  pub weighed-small : (ws : List ℕ) → weight m ws ≤ largest → weighed m ws ≡ weight m ws
+  unfolding weighed
+  weighed-small ws h = smaller-first (weight m ws) largest h
+
+  pub weighed-large : (ws : List ℕ) → largest < weight m ws → weighed m ws ≡ largest
+  unfolding weighed
+  weighed-large ws h = smaller-second (weight m ws) largest h
+
+-- ---- how often a word stands there
+
+module _ (v : ℕ) where
+  pub occurs-nil : occurs v [] ≡ 0
+  unfolding occurs
+  occurs-nil = refl
+
+  pub occurs-same : (ws : List ℕ) → occurs v (v ∷ ws) ≡ suc (occurs v ws)
+  unfolding occurs
+  occurs-same ws = rw (eq-eqb v v refl) (omega arith)
+
+  pub occurs-other : (w : ℕ) (ws : List ℕ) → (w ≡ v → ⊥) → occurs v (w ∷ ws) ≡ occurs v ws
+  unfolding occurs
+  occurs-other w ws d = rw (ne-eqb w v d) (omega arith)
+
+  pub occurs-append : (a b : List ℕ) → occurs v (a ++ b) ≡ occurs v a + occurs v b
+  unfolding occurs
+  occurs-append [] b = omega arith
+  occurs-append (w ∷ a) b = let z = occurs-append a b in omega arith
+
+-- ---- one word more
+
+module _ (ws : List ℕ) (j : ℕ) (h : j < length ws) where
+  next : take (j + 1) ws ≡ take j ws ++ getD ws j 0 ∷ []
+  next = ap (λ k. take k ws) (add-one j) ∙ take-suc ws j 0 h
+
+  pub weight-next : (m : Weights) → weight m (take (j + 1) ws) ≡ weight m (take j ws) + wordWeight m (getD ws j 0)
+  weight-next m =
+      let z = weight-cons m (getD ws j 0) [] in
+      let z′ = weight-nil m in
+      ap (weight m) next ∙ weight-append m (take j ws) (getD ws j 0 ∷ []) ∙ omega arith
+
+  module _ (v : ℕ) where
+    pub occurs-next : getD ws j 0 ≡ v → occurs v (take (j + 1) ws) ≡ occurs v (take j ws) + 1
+    occurs-next e =
+        let z = ap (λ w. occurs v (w ∷ [])) e in
+        let z′ = occurs-same v [] in
+        let z″ = occurs-nil v in
+        ap (occurs v) next ∙ occurs-append v (take j ws) (getD ws j 0 ∷ []) ∙ omega arith
+
+    pub occurs-skip : (getD ws j 0 ≡ v → ⊥) → occurs v (take (j + 1) ws) ≡ occurs v (take j ws)
+    occurs-skip d =
+        let z = occurs-other v (getD ws j 0) [] d in
+        let z′ = occurs-nil v in
+        ap (occurs v) next ∙ occurs-append v (take j ws) (getD ws j 0 ∷ []) ∙ omega arith
