@@ -20,7 +20,7 @@ use Rattle.termination.specs.WeightTest.{weightsAnswer, weighed, PassedWeights}
 use Rattle.termination.specs.Tells.{FallingBook}
 use Rattle.termination.proofs.Tests.{falling-book}
 use Rattle.termination.proofs.Finite.{finished-falls, stopped-falls, never-spent}
-use Rattle.termination.proofs.Fits.{weighed-fits}
+use Rattle.termination.proofs.Ranges.{weighed-fits}
 use Rattle.evaluation.specs.Expansion.{Expansion, result, expansionOf, expansion, handedBack}
 use Rattle.evaluation.proofs.Expanding.{Checks, checks, checks-well, Course, narrow, wrong, runs, course}
 use Rattle.evaluation.proofs.Handed.{limit-number, Handed, handed, handed-numbers, handed-words}
@@ -97,20 +97,21 @@ module _ (b : List ℕ) (m : Weights) (t : List ℕ) (limits : Limits) (out work
       by (wrong w e) = early (term-said b t w) w e
       by (runs p e) = ends (checks b t (p .good)) (falling-book b m z) (evaluation (systemOf b) limits t) refl e
 
+  -- where 11 is answered, book and term passed their checks
+  spent-checks : expansion b t limits out work .numbers .number ≡ 11 → Checks b t
+  spent-checks z = by (course b t out work (expansionOf out work (evaluation (systemOf b) limits t)))
+    where
+      early : {a : Answer} → Said a → a .number ≡ 11 → Checks b t
+      early (said v n k) y = absurd (early-other v (sym n ∙ y))
+
+      by : Course b t out work (expansionOf out work (evaluation (systemOf b) limits t)) → Checks b t
+      by (narrow e) = absurd (let y = sym (ap (λ y. y .numbers .number) e) ∙ z in omega arith)
+      by (wrong w e) = early (term-said b t w) (sym (ap (λ y. y .numbers .number) e) ∙ z)
+      by (runs p e) = checks b t (p .good)
+
 -- with the term's own weight as the step limit, which fits 32 bits where anything is evaluated
 pub by-weight : (b : List ℕ) (m : Weights) (t out work : List ℕ) → NeverSpent (weightsAnswer b m) (expansion b t (unrecorded (weighed m t)) out work)
-by-weight b m t out work z e = by (course b t out work (expansionOf out work (evaluation (systemOf b) (unrecorded (weighed m t)) t)))
-  where
-    x : Expansion
-    x = expansion b t (unrecorded (weighed m t)) out work
-
-    by : Course b t out work (expansionOf out work (evaluation (systemOf b) (unrecorded (weighed m t)) t)) → ⊥
-    unfolding x
-    by (narrow q) = let y = sym (ap (λ y. y .numbers .number) q) ∙ e in omega arith
-    by (wrong w q) = go (term-said b t w) (sym (ap (λ y. y .numbers .number) q) ∙ e)
-      where
-        go : {a : Answer} → Said a → a .number ≡ 11 → ⊥
-        go (said v n k) y = early-other v (sym n ∙ y)
-    by (runs p q) =
-        let f = weighed-fits m (systemOf b) (falling-book b m z .weighs) t (checks b t (p .good) .bounded) in
-        is-finite b m t (unrecorded (weighed m t)) out work z .unspent (omega arith) e
+by-weight b m t out work z e =
+    let limits = unrecorded (weighed m t) in
+    let f = weighed-fits m (systemOf b) (falling-book b m z .weighs) t (spent-checks b m t limits out work e .bounded) in
+    is-finite b m t limits out work z .unspent (omega arith) e
