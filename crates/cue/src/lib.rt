@@ -7,6 +7,8 @@ ghost use Rattle.system.specs.Signature.{span};
 ghost use Rattle.matching.specs.Bindings.{matchIn};
 ghost use Rattle.matching.specs.Safety.{Tells};
 ghost use Rattle.matching.specs.StrategyTest.{testAnswer};
+ghost use Rattle.termination.specs.Tells.{TellsWeights};
+ghost use Rattle.termination.specs.WeightTest.{weightsAnswer, weighed};
 ghost use lib.ListN.{length};
 ghost use Rattle.rewriting.specs.Evaluation.{unrecorded, recorded};
 ghost use Rattle.evaluation.specs.Expansion.{result, expansion, recordAfter};
@@ -18,6 +20,7 @@ use matching::FirstRule;
 use replay::Replayed;
 use system::Answer;
 use system::limits::VARIABLES;
+use termination::weighing::weigh;
 
 // Three numbers: one of 01's table, a place, and steps.
 #[repr(C)]
@@ -204,6 +207,23 @@ pub extern "C" fn cue_test_strategies(book: &[u16]) -> CueAnswer
     ensures told { λ r. ⌜ Tells (now (book .entry)) (asAnswer r) ⌝ }
 {
     answer_for(matching::test_strategies(book))
+}
+
+// The test by weights (02, F-6).
+#[no_mangle]
+pub extern "C" fn cue_test_weights(book: &[u16], weights: &[u16]) -> CueAnswer
+    ensures tested { λ r. ⌜ r ≡ answerFor (weightsAnswer (now (book .entry)) (now (weights .entry))) ⌝ }
+    ensures told { λ r. ⌜ TellsWeights (now (book .entry)) (now (weights .entry)) (asAnswer r) ⌝ }
+{
+    answer_for(termination::test_weights(book, weights))
+}
+
+// What a term weighs in all, as a step limit.
+#[no_mangle]
+pub extern "C" fn cue_weigh(weights: &[u16], term: &[u16]) -> u32
+    ensures { λ r. ⌜ r ≡ weighed (now (weights .entry)) (now (term .entry)) ⌝ }
+{
+    weigh(weights, term)
 }
 
 // Expands a term over a book with at most `limit` steps (01: the allowance).

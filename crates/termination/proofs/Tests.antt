@@ -22,7 +22,7 @@ use Rattle.system.proofs.layout.Accepting.{reads-system}
 use Rattle.matching.proofs.FirstFailing.{none-all, all-none, some-lowest, lowest-some}
 use Rattle.termination.specs.Weights.{Weights, Falls, Falling, RisesFirst, Weighs}
 use Rattle.termination.specs.WeightTest.{falls, weighs, firstRising, fallAnswer, misweighedAnswer, weighing, weightsAnswer, PassedWeights}
-use Rattle.termination.specs.Tells.{FallingBook, RisingBook, MisweighedBook, Tells}
+use Rattle.termination.specs.Tells.{FallingBook, RisingBook, MisweighedBook, TellsWeights}
 use Rattle.termination.proofs.Falls.{also-falls, all-fall}
 use Rattle.termination.proofs.Decides.{falls-sound, falls-complete}
 use Rattle.termination.proofs.Ranges.{weighs-sound, weighs-complete}
@@ -170,7 +170,7 @@ module _ (b : List ℕ) (m : Weights) where
   book-falling h = accepted-fits (h .accepted) (h .weighs) ∙ ap fallAnswer (falling-none m (systemOf b) (formed (h .accepted)) (h .weighs) (h .falling))
 
   -- THE TEST BY WEIGHTS: all that its answer tells
-  pub weights-tell : Tells b m (weightsAnswer b m)
+  pub weights-tell : TellsWeights b m (weightsAnswer b m)
   weights-tell = record {
     refused = λ f i e. weights-refused e;
     misweighed = (λ e. misweighed-book (ap (λ r. r .number) e), book-misweighed);

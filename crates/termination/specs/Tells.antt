@@ -29,7 +29,7 @@ pub record MisweighedBook (b : List ℕ) (m : Weights) : Type 0 where
   pub misweighed : Weighs m (systemOf b) → ⊥
 
 -- what the test's answer tells
-pub record Tells (b : List ℕ) (m : Weights) (r : Answer) : Type 0 where
+pub record TellsWeights (b : List ℕ) (m : Weights) (r : Answer) : Type 0 where
   -- a book that the reader refuses gets the reader's answer
   pub refused : (f : Fault) (i : ℕ) → read b ≡ fault f i → r ≡ answerOf (fault f i)
   -- 18 exactly for an accepted book and a list that is none for it

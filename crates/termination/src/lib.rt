@@ -2,7 +2,7 @@
 // every rule falls, each step makes the term lighter, so that its weight bounds the steps. `test_weights` and
 // `weighing::weigh` ask nothing of their caller; `testing::test` is the inner interface for the layers above, over a book that was scanned.
 ghost use mathlib.Core.Path.{_≡_};
-ghost use Rattle.termination.specs.Tells.{Tells};
+ghost use Rattle.termination.specs.Tells.{TellsWeights};
 ghost use Rattle.termination.specs.WeightTest.{weightsAnswer};
 use system::Answer;
 use system::reader::scan_book;
@@ -15,7 +15,7 @@ pub mod weighing;
 // symbol; 19 with the lowest rule that does not fall; else 0 0 0. `told` says what that means by the rules' own weights.
 pub fn test_weights(book: &[u16], weights: &[u16]) -> Answer
     ensures tested { λ r. ⌜ r ≡ weightsAnswer (now (book .entry)) (now (weights .entry)) ⌝ }
-    ensures told { λ r. ⌜ Tells (now (book .entry)) (now (weights .entry)) r ⌝ }
+    ensures told { λ r. ⌜ TellsWeights (now (book .entry)) (now (weights .entry)) r ⌝ }
 {
     let s = scan_book(book);
     testing::test(book, s, weights)
