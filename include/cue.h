@@ -1,5 +1,5 @@
 /*
- * The cue expander: show books, the order test, expansion, and the record of an expansion's steps.
+ * The cue expander: show books, the order test, the test by weights, expansion, and the record of an expansion's steps.
  *
  * Link with libcue.a (`rt staticlib cue` writes it to target/staticlib/). The target is x86-64 (System V ABI, ELF; SSE registers are
  * used, so save them in a task that can be interrupted). About 23 KB of code and read-only constants, no data, no bss; it needs memcpy and
@@ -12,9 +12,10 @@
  * of the call. Nothing else is asked of a caller: every other input gets one of the answers below. No function keeps a pointer, uses the
  * heap, or holds state between calls; each may be called from any thread.
  *
- * For a show a desk needs two of these functions: cue_test_strategies once for a book, and cue_expand for each cue. To see an expansion
- * again, cue_expand_recorded tells its steps and cue_replay follows them. cue_expand_checked, cue_expand_twice and cue_expand_retraced are
- * what these promise together, as functions of their own; the others look at a book or a cue.
+ * For a show a desk needs two of these functions: cue_test_strategies once for a book, and cue_expand for each cue. A theatre that wants
+ * books which can't run on needs two more: cue_test_weights once for a book and its list of weights, and cue_weigh for a cue's allowance. To
+ * see an expansion again, cue_expand_recorded tells its steps and cue_replay follows them. cue_expand_checked, cue_expand_twice and
+ * cue_expand_retraced are what these promise together, as functions of their own; the others look at a book or a cue.
  *
  * Names. The show designers' words and the words of the field stand side by side: a book is a rewrite system, a name a symbol, an
  * order a strategy, a placeholder a variable, a cue a term, a part of it a subterm, and a place a position.
@@ -31,7 +32,7 @@ extern "C" {
 
 /* The version: a change of what a function takes or answers raises the first number, anything new the second. */
 #define CUE_VERSION_MAJOR 3
-#define CUE_VERSION_MINOR 0
+#define CUE_VERSION_MINOR 1
 
 /* Sizes, in words. */
 #define CUE_TERM_WORDS 4096 /* the most words of a cue, and the least of an answer buffer */
@@ -47,6 +48,7 @@ extern "C" {
 #define CUE_VARIABLES 16 /* the most placeholders of a rule */
 #define CUE_VARIABLE 32768 /* placeholder k is the word 32768 + k */
 #define CUE_LEVELS 64 /* the deepest level at which an argument is evaluated; the whole cue is level 1 */
+#define CUE_WEIGHT 1000 /* the largest weight of a name */
 
 /*
  * Dimmer levels, and the built-in words for them. They may stand in cues and on both sides of rules, but a left side does not start with
@@ -80,7 +82,9 @@ enum {
   CUE_UNSETTLED = 14, /* the order test failed */
   CUE_BUILTIN = 15,   /* a left side starts with a level or a built-in word */
   CUE_RECORD_FULL = 16, /* a step finds fewer than two words left in the record */
-  CUE_NO_STEP = 17    /* a pair of a record is half, or tells of no step */
+  CUE_NO_STEP = 17,   /* a pair of a record is half, or tells of no step */
+  CUE_WEIGHTS = 18,   /* the list of weights does not have one weight from 1 to 1,000 for each name */
+  CUE_RISING = 19     /* a rule does not fall */
 };
 
 #if defined(__cplusplus) || (defined(__STDC_VERSION__) && __STDC_VERSION__ >= 199901L)
@@ -88,7 +92,7 @@ enum {
 static inline const char *cue_word(uint32_t number) {
   static const char *const words[] = {"taken",   "short",      "count",   "entry", "stranger", "ragged", "headless", "stray",
                                       "surplus", "broken cue", "cramped", "spent", "overlong", "nested", "unsettled",
-                                      "builtin", "full",       "pair"};
+                                      "builtin", "full",       "pair",    "weights", "rising"};
   return number < sizeof words / sizeof words[0] ? words[number] : "?";
 }
 #endif
@@ -172,6 +176,33 @@ cue_match cue_first_match(const uint16_t *book, size_t book_words, const uint16_
  * from the top of the book.
  */
 cue_answer cue_test_strategies(const uint16_t *book, size_t book_words);
+
+/*
+ * The test by weights: whether a book can't run on. The list has a weight from 1 to 1,000 for each name of the book, name 0 first. A rule
+ * falls if its left side's words weigh more in all than its right side's, and no placeholder is on the right more often than on the left,
+ * which is: twice. A name weighs what the list says, a placeholder or a level nothing, "higher of", "lower of" and "curve" one each. So the
+ * built-in rules always fall.
+ *
+ *   number    place                        what it says
+ *   0         0                            every rule falls
+ *   1 to 8,   as cue_read                  the book is refused
+ *   or 15
+ *   18        0                            the list does not have one weight for each name, or a weight is not from 1 to 1,000
+ *   19        the lowest rule that does    a rule does not fall
+ *             not fall, from 0
+ *
+ * The book is checked first, then the list, then the rules. Where the answer is 0, each step makes the cue lighter: the steps of an
+ * expansion, with a record or without one, are at most the first cue's weight less the answer's, and an allowance of the first cue's weight
+ * (cue_weigh) is never answered with 11. 12, 13 and 16 may still come.
+ */
+cue_answer cue_test_weights(const uint16_t *book, size_t book_words, const uint16_t *weights, size_t weights_words);
+
+/*
+ * What the words of a cue weigh in all by such a list: the allowance of that promise. It looks at no book and refuses nothing: a word that
+ * is neither listed nor built in weighs nothing. Where the sum is more than 32 bits hold, it is 4,294,967,295; of a whole cue, and a list
+ * that cue_test_weights answers with 0, it is at most 4,096,000.
+ */
+uint32_t cue_weigh(const uint16_t *weights, size_t weights_words, const uint16_t *term, size_t term_words);
 
 /*
  * Expands a cue over a book, with at most `limit` steps (the allowance).
