@@ -15,6 +15,7 @@ static uint16_t work[CUE_WORK_WORDS + 1];
 static uint16_t again[CUE_TERM_WORDS];
 static uint16_t spare[CUE_WORK_WORDS];
 static uint16_t record[2 * PAIRS + 2];
+static uint16_t list[CUE_SYMBOLS];
 static int wrong;
 
 static void check(const char *what, unsigned long got, unsigned long expected) {
@@ -196,10 +197,103 @@ static void records(void) {
   replay_is("a wrong pair behind many", replayed(2 * PAIRS + 2), CUE_NO_STEP, PAIRS, PAIRS);
 }
 
+/* the number that a list gets which gives all names but the last this weight, and the last one that; the names are those of `make` */
+static uint32_t weighs(size_t names, unsigned first, unsigned last, size_t list_words) {
+  size_t i;
+  make(names, 0, 0, 0, 1);
+  for (i = 0; i < list_words; i++) list[i] = (uint16_t)(i + 1 < names ? first : last);
+  return cue_test_weights(book, words, list, list_words).number;
+}
+
+/* what the test answers for a book of two names with these weights */
+static void falls(const char *what, unsigned first, unsigned second, uint32_t number, size_t place) {
+  cue_answer a;
+  list[0] = (uint16_t)first;
+  list[1] = (uint16_t)second;
+  a = cue_test_weights(book, words, list, 2);
+  check(what, a.number, number);
+  check(what, a.place, place);
+  check(what, a.steps, 0);
+}
+
+/* names 0 and 1, with no argument and one; rule 0 makes name 1's argument a level, by "higher of", which has it so often */
+static void higher(unsigned often) {
+  words = 0;
+  put(2), put(0), put(1), put(2), put(0), put(2), put(1), put(0);
+  put(1), put(2), put(1), put(CUE_VARIABLE), put(3), put(CUE_HIGHER_OF);
+  put(often < 1 ? CUE_LEVEL + 255 : CUE_VARIABLE), put(often < 2 ? CUE_LEVEL : CUE_VARIABLE);
+}
+
+/* what the first words of the record weigh, under a list for name 0 alone */
+static uint32_t heaps(unsigned weight, size_t n) {
+  list[0] = (uint16_t)weight;
+  return cue_weigh(list, 1, record, n);
+}
+
+/* a cue whose weight is used up: expanded with it as the allowance, it takes so many steps, and the answer weighs the rest */
+static void tight(const char *what, size_t term_words, uint32_t steps, uint32_t rest) {
+  uint32_t weight = cue_weigh(list, 2, term, term_words);
+  cue_answer a = cue_expand(book, words, term, term_words, weight, out, CUE_TERM_WORDS, work, CUE_WORK_WORDS);
+  check(what, weight, steps + rest);
+  check(what, a.number, CUE_TAKEN);
+  check(what, a.steps, steps);
+  check(what, cue_weigh(list, 2, out, a.place), rest);
+}
+
+/* 02, F-6: the test by weights, and what a cue weighs */
+static void weights(void) {
+  size_t i;
+  check("the largest weight", weighs(3, 1, CUE_WEIGHT, 3), CUE_TAKEN);
+  check("a weight too large", weighs(3, 1, CUE_WEIGHT + 1, 3), CUE_WEIGHTS);
+  check("a weight too large, of the first name", weighs(3, CUE_WEIGHT + 1, 1, 3), CUE_WEIGHTS);
+  check("no weight", weighs(3, 1, 0, 3), CUE_WEIGHTS);
+  check("a weight too few", weighs(3, 1, 1, 2), CUE_WEIGHTS);
+  check("a weight too many", weighs(3, 1, 1, 4), CUE_WEIGHTS);
+  check("an empty list", weighs(3, 1, 1, 0), CUE_WEIGHTS);
+  check("a weight for each of the most names", weighs(CUE_SYMBOLS, CUE_WEIGHT, 1, CUE_SYMBOLS), CUE_TAKEN);
+
+  /* rule 0 puts name 0 for name 1, rule 1 name 1 for itself */
+  one_step();
+  falls("a rule that stays as heavy", 1, 2, CUE_RISING, 1);
+  falls("a rule that stays as heavy, the lowest", 2, 2, CUE_RISING, 0);
+  falls("a rule that gets heavier", CUE_WEIGHT, 1, CUE_RISING, 0);
+  falls("the list comes before the rules", 0, 1, CUE_WEIGHTS, 0);
+  words--;
+  falls("the book comes before the list", 0, 1, CUE_SHORT, words);
+  words -= 3;
+  book[7] = 1;
+  falls("a rule that falls", 1, 2, CUE_TAKEN, 0);
+  tight("a cue of one step", 1, 1, 1);
+
+  /* "higher of" weighs one; a placeholder may be on the right once */
+  higher(1);
+  falls("a built-in word on the right", 1, 2, CUE_TAKEN, 0);
+  term[0] = 1;
+  term[1] = CUE_LEVEL + 7;
+  tight("a cue of a step and a built-in step", 2, 2, 0);
+  falls("a built-in word as heavy as the left side", 1, 1, CUE_RISING, 0);
+  higher(0);
+  falls("a placeholder that is dropped", 1, 2, CUE_TAKEN, 0);
+  higher(2);
+  falls("a placeholder that is twice on the right", 1, CUE_WEIGHT, CUE_RISING, 0);
+
+  /* of words that no list of a book names the built-in ones alone weigh; and the most that a sum is told */
+  record[0] = CUE_LEVEL, record[1] = CUE_LEVEL + 255, record[2] = CUE_CURVE + 1, record[3] = CUE_VARIABLE, record[4] = 1, record[5] = 65535;
+  check("words that weigh nothing", heaps(CUE_WEIGHT, 6), 0);
+  record[1] = CUE_HIGHER_OF, record[2] = CUE_LOWER_OF, record[3] = CUE_CURVE, record[5] = 0;
+  check("the three built-in words and a name", heaps(CUE_WEIGHT, 6), 3 + CUE_WEIGHT);
+  check("no words", heaps(CUE_WEIGHT, 0), 0);
+  for (i = 0; i < 65538; i++) record[i] = 0;
+  check("the heaviest cue", heaps(CUE_WEIGHT, CUE_TERM_WORDS), 4096000);
+  check("a sum that 32 bits hold", heaps(65535, 65536), 4294901760UL);
+  check("the largest that they hold", heaps(65535, 65537), 4294967295UL);
+  check("a sum that they do not hold", heaps(65535, 65538), 4294967295UL);
+}
+
 int main(void) {
   static const char *const table[] = {"taken",      "short",   "count", "entry",    "stranger", "ragged",    "headless", "stray", "surplus",
                                       "broken cue", "cramped", "spent", "overlong", "nested",   "unsettled", "builtin",
-                                      "full",       "pair"};
+                                      "full",       "pair",    "weights", "rising"};
   size_t i;
   make(CUE_SYMBOLS, CUE_ARGUMENTS, CUE_ENTRIES, 0, 1);
   check("the most names, arguments and entries", reads(), CUE_TAKEN);
@@ -249,10 +343,11 @@ int main(void) {
 
   levels();
   records();
+  weights();
 
   /* the words of 01's table, by the numbers' names */
   for (i = 0; i < sizeof table / sizeof table[0]; i++) check(table[i], strcmp(cue_word((uint32_t)i), table[i]) == 0, 1);
-  check("a number that is not in the table", strcmp(cue_word(CUE_NO_STEP + 1), "?") == 0, 1);
+  check("a number that is not in the table", strcmp(cue_word(CUE_RISING + 1), "?") == 0, 1);
   if (!wrong) printf("outside: the header's sizes, limits and words are those of the functions\n");
   return wrong;
 }
