@@ -46,6 +46,33 @@ prints() { # CASE LINE..
     fi
 }
 
+# of a tool with arguments, which are words of one string: its exit status, and its lines one by one
+shows() { # CASE STATUS ARGUMENTS LINE..
+    local name=$1 status=$2 arguments=$3 got=0
+    shift 3
+    cases=$((cases + 1))
+    printf '%s\n' "$@" > expected
+    "$program" $arguments > printed 2> said < /dev/null || got=$?
+    if [ "$got" != "$status" ] || [ -s said ] || ! cmp -s expected printed; then
+        printf '%s: %s: exit status %s, where %s is due; it should print\n' "$(basename "$program")" "$name" "$got" "$status"
+        sed 's/^/    /' expected
+        printf 'and prints\n'
+        sed 's/^/    /' printed said
+        wrong=1
+    fi
+}
+# nothing but a line that says why
+refuses() { # CASE ARGUMENTS WHAT IT SAYS
+    local name=$1 got=0
+    cases=$((cases + 1))
+    "$program" $2 > printed 2> said < /dev/null || got=$?
+    if [ "$got" != 2 ] || [ -s printed ] || [ "$(wc -l < said)" != 1 ] || ! grep -q "^$(basename "$program"): .*$3" said; then
+        printf '%s: %s: exit status %s, where 2 is due, and it says\n' "$(basename "$program")" "$name" "$got"
+        sed 's/^/    /' printed said
+        wrong=1
+    fi
+}
+
 # the last line of a script: how many cases there were, if all are right
 all_print() { # WHAT
     [ "$wrong" = 0 ] || exit 1

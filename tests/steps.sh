@@ -9,32 +9,6 @@ numbers='number place steps'
 cue() { words "$@" > show.cue; }
 record() { words "$@" > record; }
 
-# its exit status and its lines, one by one; the arguments are words of one string
-shows() { # CASE STATUS ARGUMENTS LINE..
-    local name=$1 status=$2 arguments=$3 got=0
-    shift 3
-    cases=$((cases + 1))
-    printf '%s\n' "$@" > expected
-    "$program" $arguments > printed 2> said < /dev/null || got=$?
-    if [ "$got" != "$status" ] || [ -s said ] || ! cmp -s expected printed; then
-        printf 'steps: %s: exit status %s, where %s is due; it should print\n' "$name" "$got" "$status"
-        sed 's/^/    /' expected
-        printf 'and prints\n'
-        sed 's/^/    /' printed said
-        wrong=1
-    fi
-}
-# nothing but a line that says why
-refuses() { # CASE ARGUMENTS WHAT IT SAYS
-    local name=$1 got=0
-    cases=$((cases + 1))
-    "$program" $2 > printed 2> said < /dev/null || got=$?
-    if [ "$got" != 2 ] || [ -s printed ] || [ "$(wc -l < said)" != 1 ] || ! grep -q "^steps: .*$3" said; then
-        printf 'steps: %s: exit status %s, where 2 is due, and it says\n' "$name" "$got"
-        sed 's/^/    /' printed said
-        wrong=1
-    fi
-}
 # the record that was written
 wrote() { # WORD..
     words "$@" > expected
