@@ -117,7 +117,19 @@ cmp "$to/step-record/ours" "$to/step-record/written" || fail "the example's reco
 say "the steps tool shows the example's three records"
 prints tests/steps.sh "$to/steps"
 
-# 8. the benchmark builds, for one archive and for two, and all agree (its times are not looked at here)
+# 8. the weights tool: an example with weights under which every rule falls, with some under which two do not, and with one too few; and its files
+quiet gcc -std=c99 -Wall -Wextra -pedantic -Werror -Iinclude tools/weights.c "$archive" -o "$to/weights"
+example=examples/finite-show
+for list in '' -flat -short; do
+    tools/words pack "$example/weights$list.txt" "$to/finite-show/weights$list"
+    files=("$to/finite-show/show.book" "$to/finite-show/weights$list" "$to/finite-show/show.cue")
+    "$to/weights" "${files[@]}" > "$to/finite-show/tested" || [ -n "$list" ] || fail "the list weights.txt is refused"
+    diff "$example/tested$list" "$to/finite-show/tested" || fail "the list weights$list.txt is told otherwise"
+done
+say "the weights tool tests the example by its three lists"
+prints tests/weights.sh "$to/weights"
+
+# 9. the benchmark builds, for one archive and for two, and all agree (its times are not looked at here)
 quiet env BUILT=1 bash tests/bench/run.sh 0
 quiet env BUILT=1 bash tests/bench/run.sh 0 "$archive"
 say "the benchmark agrees; tests/bench/run.sh shows its times"
