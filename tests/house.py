@@ -14,7 +14,7 @@ CHAIN = 5  # places of the code that a proof goes back by `.before` in one go: f
 PARAMETERS = 6
 # document 01 asks for both loops in one function; two pairs of buffers are lent to one call, or a record beside one pair
 LONG_BODY = {"first_rule"}
-MANY = {"expand_twice", "cue_expand_twice", "expand_within", "expand_retraced", "cue_expand_retraced", "expand_squares"}
+MANY = {"expand_twice", "cue_expand_twice", "expand_within", "expand_retraced", "cue_expand_retraced", "expand_squares", "expand_weighed_recorded"}
 
 
 def functions(text):

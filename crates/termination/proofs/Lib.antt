@@ -9,3 +9,5 @@ pub mod Decides
 pub mod Tests
 -- What that says of every rewrite, and of an evaluation
 pub mod Finite
+-- The cases
+pub mod Cases

@@ -2,3 +2,4 @@
 pub mod Weights
 pub mod WeightTest
 pub mod Tells
+pub mod Cases

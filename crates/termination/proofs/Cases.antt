@@ -1,0 +1,16 @@
+-- The cases of the test by weights, computed: one fact for the whole table.
+use mathlib.Core.Path.{refl}
+use Rattle.system.specs.BuiltIns.{isLiteral, isBuiltIn, isBinary, builtInArity, smaller}
+use Rattle.system.specs.Signature.{isSymbol, arity}
+use Rattle.system.specs.Parser.{read, readSystem, readRules, readEnd, readRule, readSide, readWords, readStrategy, number, word, learn, sideFault, symbolFault, variableFault, outside, each, times}
+use Rattle.system.specs.Cases.{Hold, bookB}
+use Rattle.matching.specs.StrategyTest.{firstFailing}
+use Rattle.termination.specs.Weights.{builtInWeight, wordWeight, weight, occurs}
+use Rattle.termination.specs.WeightTest.{keepsAt, below, falls, inRange, weighs, weighing, weightsAnswer, weighed}
+use Rattle.termination.specs.Cases.{withRules, weightCases}
+
+pub weight-cases : Hold weightCases
+unfolding weightCases withRules bookB weightsAnswer weighing weighs inRange firstFailing falls below keepsAt occurs weight wordWeight builtInWeight weighed
+    read readSystem readRules readEnd readRule readSide readWords readStrategy number word learn sideFault
+    symbolFault variableFault outside each times isSymbol arity isLiteral isBuiltIn isBinary builtInArity smaller
+weight-cases = refl
