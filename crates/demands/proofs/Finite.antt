@@ -16,7 +16,7 @@ use Rattle.system.specs.Book.{systemOf}
 use Rattle.system.proofs.FaultNumbers.{fault-range}
 use Rattle.rewriting.specs.Evaluation.{Limits, Config, steps, unrecorded, Outcome, finished, stopped, evaluation}
 use Rattle.termination.specs.Weights.{Weights, weight, Falling, Weighs}
-use Rattle.termination.specs.WeightTest.{weightsAnswer, weighed, PassedWeights}
+use Rattle.termination.specs.WeightTest.{weightsAnswer, weighed}
 use Rattle.termination.specs.Tells.{FallingBook}
 use Rattle.termination.proofs.Tests.{falling-book}
 use Rattle.termination.proofs.Finite.{finished-falls, stopped-falls, never-spent}

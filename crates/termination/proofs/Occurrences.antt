@@ -37,11 +37,11 @@ occurs-once (next {n = n} {w = w} {ws = ws} e nb) v h l = elim (ℕ-discrete v n
   | no q ↦ occurs-other (variable + v) w ws (λ y. q (omega arith)) ∙ occurs-once nb v (omega arith) l
 ]
 
--- "no placeholder is on the right twice"
-abbrev pub Once : Rule → Type 0
+-- "no placeholder is on the right twice", and none is there more often than on the left
+abbrev Once : Rule → Type 0
 Once r = (v : ℕ) → v < variables → occurs (variable + v) (r .rhs) ≤ 1
 
-abbrev pub Kept : Rule → Type 0
+abbrev Kept : Rule → Type 0
 Kept r = (v : ℕ) → v < variables → occurs (variable + v) (r .rhs) ≤ occurs (variable + v) (r .lhs)
 
 module _ (g : Signature) (r : Rule) (law : WellFormedRule g r) where

@@ -21,7 +21,7 @@ use Rattle.system.proofs.FaultNumbers.{fault-range, fault-not-zero}
 use Rattle.system.proofs.layout.Accepting.{reads-system}
 use Rattle.matching.proofs.FirstFailing.{none-all, all-none, some-lowest, lowest-some}
 use Rattle.termination.specs.Weights.{Weights, Falls, Falling, RisesFirst, Weighs}
-use Rattle.termination.specs.WeightTest.{falls, weighs, firstRising, fallAnswer, misweighedAnswer, weighing, weightsAnswer, PassedWeights}
+use Rattle.termination.specs.WeightTest.{falls, weighs, firstRising, fallAnswer, misweighedAnswer, weighing, weightsAnswer}
 use Rattle.termination.specs.Tells.{FallingBook, RisingBook, MisweighedBook, TellsWeights}
 use Rattle.termination.proofs.Falls.{also-falls, all-fall}
 use Rattle.termination.proofs.Decides.{falls-sound, falls-complete}
@@ -157,7 +157,7 @@ module _ (b : List ℕ) (m : Weights) where
   book-rising h = accepted-fits (h .accepted) (h .weighs) ∙ ap fallAnswer (rises-some m (systemOf b) (formed (h .accepted)) (h .weighs) (h .first))
 
   -- 0: all fall; and every such pair gets it
-  pub falling-book : PassedWeights b m → FallingBook b m
+  pub falling-book : weightsAnswer b m .number ≡ numberOf taken → FallingBook b m
   falling-book z = go ends z
     where
       go : {r : Answer} → Ends r → r .number ≡ 0 → FallingBook b m

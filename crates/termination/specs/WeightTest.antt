@@ -1,6 +1,5 @@
 -- The termination test by weights as a computation, and what it answers.
 use Prim.Native.Nat.{ℕ, zero, suc, _+_}
-use mathlib.Core.Path.{_≡_}
 use mathlib.Core.Bool.{Bool, true, false, _&&_}
 use mathlib.Core.Option.{Option, none, some}
 use mathlib.Core.List.{List, [], _∷_}
@@ -60,10 +59,6 @@ weighing m s = elim (weighs m (length (s .arities))) [ false ↦ misweighedAnswe
 -- "Turned away: after the book, 18 ..; then 19"
 unfoldable pub weightsAnswer : List ℕ → Weights → Answer
 weightsAnswer book m = elim (read book) [ fault f i ↦ answerOf (fault f i) | ok s i ↦ weighing m s ]
-
--- the test answers 0
-abbrev pub PassedWeights : List ℕ → Weights → Type 0
-PassedWeights book m = weightsAnswer book m .number ≡ numberOf taken
 
 -- ---- the weight of a term as a step limit ("an allowance of the first cue's weight")
 
