@@ -1,11 +1,10 @@
 -- Whether a rule falls, by computing: the test of its variables, one after the other, and of its weights.
 use Prim.Native.Nat.{ℕ, zero, suc, _+_, _≤_, _<_}
-use native.Mathlib.Numerals.{add-one}
 use native.Mathlib.Omega.{arith}
 use native.Mathlib.Decide.{ℕ-discrete}
-use mathlib.Core.Path.{_≡_, refl, ap, _∙_}
-use mathlib.Core.Bool.{Bool, true, false, _&&_, and-false}
-use borrow.Author.Tests.{ltb-true, lt-ltb, le-ltb, leb-true, le-leb, lt-leb}
+use mathlib.Core.Path.{_≡_, refl, _∙_}
+use mathlib.Core.Bool.{Bool, true, false, and-false}
+use borrow.Author.Tests.{ltb-true, lt-ltb, le-ltb, leb-true, le-leb}
 use Rattle.system.specs.Limits.{variable, variables}
 use Rattle.system.specs.System.{Rule}
 use Rattle.system.proofs.BuiltIns.{both}
@@ -15,14 +14,6 @@ use Rattle.termination.specs.WeightTest.{keepsAt, below, falls}
 -- ---- a test of the numbers below n
 
 module _ (test : ℕ → Bool) where
-  pub below-none : below test 0 ≡ true
-  unfolding below
-  below-none = refl
-
-  pub below-next : (k : ℕ) → below test k ≡ true → test k ≡ true → below test (k + 1) ≡ true
-  unfolding below
-  below-next k e t = rw (add-one k) (rw (e, t))
-
   -- where one fails, so does every n above it
   pub below-fails : (k n : ℕ) → k < n → test k ≡ false → below test n ≡ false
   unfolding below
@@ -40,21 +31,23 @@ module _ (test : ℕ → Bool) where
       let c = both (below test n) (test n) e in
       elim (ℕ-discrete v n) [ yes q ↦ rw q (c .1) | no q ↦ below-all n (c .0) v (omega arith) ]
 
-  all-below : (n : ℕ) → ((v : ℕ) → v < n → test v ≡ true) → below test n ≡ true
+  pub all-below : (n : ℕ) → ((v : ℕ) → v < n → test v ≡ true) → below test n ≡ true
   unfolding below
   all-below zero h = refl
   all-below (suc n) h = rw (all-below n (λ v l. h v (omega arith)), h n (omega arith))
 
+-- tests that agree there
+pub below-same : (f g : ℕ → Bool) (n : ℕ) → ((v : ℕ) → v < n → f v ≡ g v) → below f n ≡ below g n
+unfolding below
+below-same f g zero h = refl
+below-same f g (suc n) h = rw (below-same f g n (λ v l. h v (omega arith)), h n (omega arith))
+
 -- ---- whether a rule falls
 
 module _ (r : Rule) (v : ℕ) where
-  pub keeps-variable : occurs (variable + v) (r .rhs) ≤ occurs (variable + v) (r .lhs) → keepsAt r v ≡ true
+  keeps-variable : occurs (variable + v) (r .rhs) ≤ occurs (variable + v) (r .lhs) → keepsAt r v ≡ true
   unfolding keepsAt
   keeps-variable h = le-leb (occurs (variable + v) (r .rhs)) (occurs (variable + v) (r .lhs)) h
-
-  pub copies-variable : occurs (variable + v) (r .lhs) < occurs (variable + v) (r .rhs) → keepsAt r v ≡ false
-  unfolding keepsAt
-  copies-variable h = lt-leb (occurs (variable + v) (r .rhs)) (occurs (variable + v) (r .lhs)) h
 
 module _ (m : Weights) (r : Rule) where
   pub falls-heavy : weight m (r .lhs) ≤ weight m (r .rhs) → falls m r ≡ false

@@ -3,10 +3,11 @@ use Prim.Native.Nat.{ℕ, zero, suc, _+_, _≤_, _<_}
 use native.Mathlib.Numerals.{add-one}
 use native.Mathlib.Omega.{arith}
 use mathlib.Core.Path.{_≡_, refl, ap, _∙_}
-use mathlib.Core.Bool.{true, false}
+use mathlib.Core.Bool.{Bool, true, false, cond}
 use mathlib.Core.List.{List, [], _∷_, _++_}
 use lib.ListN.{length, getD, take, List·getD-eq-default}
 use lib.Seq.{take-suc}
+use lib.Dec.{eqb}
 use borrow.Author.Tests.{eq-eqb, ne-eqb}
 use Rattle.system.specs.BuiltIns.{isLiteral, isBuiltIn}
 use Rattle.system.proofs.BuiltIns.{smaller-first, smaller-second}
@@ -92,6 +93,23 @@ module _ (v : ℕ) where
   unfolding occurs
   occurs-append [] b = omega arith
   occurs-append (w ∷ a) b = let z = occurs-append a b in omega arith
+
+  -- among the first of them no more often than among all
+  pub occurs-take : (k : ℕ) (ws : List ℕ) → occurs v (take k ws) ≤ occurs v ws
+  unfolding occurs
+  occurs-take zero ws = omega arith
+  occurs-take (suc k) [] = omega arith
+  occurs-take (suc k) (w ∷ ws) = let z = occurs-take k ws in omega arith
+
+  -- and at most as often as there are words
+  pub occurs-length : (ws : List ℕ) → occurs v ws ≤ length ws
+  unfolding occurs
+  occurs-length [] = omega arith
+  occurs-length (w ∷ ws) = let z = occurs-length ws in go (eqb w v) z
+    where
+      go : (b : Bool) {n m : ℕ} → n ≤ m → cond b 1 0 + n ≤ suc m
+      go true h = omega arith
+      go false h = omega arith
 
 -- ---- one word more
 

@@ -3,3 +3,5 @@ pub mod Weights
 pub mod WeightTest
 pub mod Tells
 pub mod Cases
+-- Inner: the variables of a side counted
+pub mod falling

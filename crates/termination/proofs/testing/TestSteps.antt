@@ -5,25 +5,28 @@ use mathlib.Core.Path.{_≡_, refl, sym, ap, _∙_}
 use mathlib.Core.Bool.{Bool, true, false, cond}
 use mathlib.Core.Option.{none, some}
 use mathlib.Core.List.{List}
-use lib.ListN.{length, take, drop}
+use lib.ListN.{length, getD, take, drop}
 use lib.Dec.{ltb, eqb}
 use borrow.Author.Tests.{lt-ltb, le-ltb}
 use Rattle.system.specs.declared.Shape.{Shape}
 use Rattle.system.specs.declared.Answer.{Answer}
 use Rattle.system.specs.declared.reader.Scan.{Scan}
 use Rattle.system.specs.declared.layout.rules.RuleSpan.{RuleSpan}
-use Rattle.system.specs.Limits.{sideWords}
-use Rattle.system.specs.System.{System, rule}
+use Rattle.system.specs.Signature.{Signature}
+use Rattle.system.specs.System.{System, Rule, rule}
+use Rattle.system.specs.Terms.{WellFormedRule}
 use Rattle.system.specs.Parser.{Parsed, ok, fault, read}
 use Rattle.system.specs.Book.{systemOf, Accepted}
 use Rattle.system.specs.layout.Rules.{ruleSpan}
 use Rattle.system.specs.reader.Sections.{scanOf}
 use Rattle.system.proofs.BuiltIns.{both}
+use Rattle.system.proofs.Members.{member-getD, numbered-below}
 use Rattle.system.proofs.layout.Accepting.{scan-accepted}
 use Rattle.system.proofs.layout.Books.{Rest, turn-of, sides-at, rule-count, symbol-count, signature, first-rest}
 use Rattle.matching.proofs.FirstFailing.{sought, sought-starts, sought-ends, sought-passes, sought-fails}
 use Rattle.termination.specs.Weights.{Weights}
 use Rattle.termination.specs.WeightTest.{falls, weighs, inRange, firstRising, fallAnswer, misweighedAnswer, weightsAnswer}
+use Rattle.termination.specs.falling.Sides.{NumberedSide}
 use Rattle.termination.proofs.Tests.{weights-refused, weights-misweighed, weights-tested}
 
 -- ---- the rules, one after the other
@@ -42,13 +45,27 @@ pub record Fallen (b : List ℕ) (sh : Shape) (m : Weights) (k at : ℕ) : Type 
   pub rest : Rest b k at
   pub goes : sought (fallsAt b m) (sh .rules) k (sh .rules) ≡ firstRising m (systemOf b)
 
+-- the sides of a well-formed rule
+module _ {g : Signature} {r : Rule} (law : WellFormedRule g r) where
+  left-numbered : NumberedSide (r .lhs)
+  left-numbered = record {
+    small = law .shortLeft;
+    known = λ j l. let z = numbered-below (law .numbered) (member-getD (r .lhs) j l) in let z′ = law .variableBound in omega arith;
+  }
+
+  right-numbered : NumberedSide (r .rhs)
+  right-numbered = record {
+    small = law .shortRight;
+    known = λ j l. let z = law .known (getD (r .rhs) j 0) (member-getD (r .rhs) j l) in let z′ = law .variableBound in omega arith;
+  }
+
 -- the sides of rule number k, which stands at p
 pub record Sides (b : List ℕ) (k : ℕ) (p : RuleSpan) : Type 0 where
   pub left-fits : p .lhs + p .width ≤ length b
   pub right-fits : p .next ≤ length b
   pub right-starts : p .rhs ≤ p .next
-  pub short-left : length (between b (p .lhs) (p .lhs + p .width)) ≤ sideWords
-  pub short-right : length (between b (p .rhs) (p .next)) ≤ sideWords
+  pub numbered-left : NumberedSide (between b (p .lhs) (p .lhs + p .width))
+  pub numbered-right : NumberedSide (between b (p .rhs) (p .next))
   pub same : record { lhs = between b (p .lhs) (p .lhs + p .width); rhs = between b (p .rhs) (p .next) } ≡ rule (systemOf b) k
 
 module _ {b : List ℕ} {sh : Shape} (m : Weights) (acc : Accepted b sh) where
@@ -79,8 +96,8 @@ module _ {b : List ℕ} {sh : Shape} (m : Weights) (acc : Accepted b sh) where
             left-fits = s .left-fits;
             right-fits = t .fits;
             right-starts = (let z = t .ends in omega arith);
-            short-left = rw l (t .law .shortLeft);
-            short-right = rw r (t .law .shortRight);
+            numbered-left = rw l (left-numbered (t .law));
+            numbered-right = rw r (right-numbered (t .law));
             same = λ i. record { lhs = l i; rhs = r i };
           }
 

@@ -65,7 +65,7 @@ falls-requires : tie.Need-falls-requires Inv-loop μ-loop
 falls-requires c κs =
     let r = c .before .before .before in
     let z = here r in
-    (entry (head r) .pre .1, z .short-left, z .short-right)
+    (entry (head r) .pre .1, z .numbered-left, z .numbered-right)
 
 returns : tie.Need-returns Inv-loop μ-loop
 returns c =

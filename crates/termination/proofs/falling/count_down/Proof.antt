@@ -1,0 +1,97 @@
+-- `falling::count_down` meets its contract. The loop's invariant: the words before index j used up their part of the counts.
+use Prim.Native.Nat.{ℕ, _+_, _-_, _≤_, _<_}
+use native.Mathlib.Omega.{arith}
+use mathlib.Core.Path.{_≡_, sym, _∙_}
+use mathlib.Core.Logic.{⊎-elim}
+use lib.ListN.{length, getD, take}
+use lib.Seq.{take-all}
+use borrow.Author.Needs.{needs}
+use Rattle.system.specs.Limits.{variable, variables}
+use Rattle.termination.proofs.falling.Counting.{Left, left-start, numbered, left-symbol, left-variable, left-none, left-covers}
+use Rattle.termination.proofs.falling.count_down.Statement.{statement}
+use Rattle.termination.proofs.falling.count_down.Tie as tie
+
+abbrev Inv-loop : tie.InvT-loop
+Inv-loop words counts₀ j₀ counts j = (j ≤ length words) × Left counts₀ (take j words) counts
+
+abbrev μ-loop : tie.MeasureT-loop
+μ-loop words counts₀ j₀ counts j = length words - j
+
+-- ---- the places of the code that are behind others: the entry, the loop's head
+
+abbrev entry : tie.At-loop Inv-loop μ-loop → tie.Start Inv-loop μ-loop
+entry c = c .before .before .before
+
+abbrev head : tie.After-wide Inv-loop μ-loop → tie.At-loop Inv-loop μ-loop
+head c = c .before .before .before
+
+-- the number of the variable of this turn
+abbrev number : tie.Then1 Inv-loop μ-loop → ℕ
+number c = c .before .wide .result - variable
+
+numbers : (c : tie.Then1 Inv-loop μ-loop) →
+    let h = head (c .before) in
+    (getD (entry h .args .words .now) (h .loop .j) 0 ≡ variable + number c) × (number c < variables) × (length (h .loop .counts) ≡ variables)
+numbers c =
+    let w = c .before in
+    let h = head w in
+    let n = numbered (entry h .pre .0) (w .before .before .loop-test .taken) (w .wide .ensures .0) (c .if1 .taken) in
+    (n .0, n .1, h .loop .inv .1 .total)
+
+-- ---- the needs
+
+loop-holds : tie.Need-loop-holds Inv-loop μ-loop
+loop-holds c = let s = c .before .before in (omega arith, left-start (s .args .counts .now) (s .pre .1))
+
+slice-read-if2 : tie.Need-slice-read-if2 Inv-loop μ-loop
+slice-read-if2 c = let n = numbers (c .before) in omega arith
+
+same-length : tie.Need-same-length Inv-loop μ-loop
+same-length c = let h = head (c .before .before .before) in h .loop .inv .1 .total ∙ sym (entry h .pre .1)
+
+returns : tie.Need-returns Inv-loop μ-loop
+returns c =
+    let p = c .before .before in
+    let h = head (p .before) in
+    let n = numbers p in
+    let more = p .before .before .before .loop-test .taken in
+    sym (left-none (entry h .args .words .now) (h .loop .j) more (number p) (n .0) (n .1) (h .loop .inv .1) (c .if2 .taken))
+
+slice-read-counts : tie.Need-slice-read-counts Inv-loop μ-loop
+slice-read-counts c = let n = numbers (c .before .before .before) in omega arith
+
+slice-write-counts : tie.Need-slice-write-counts Inv-loop μ-loop
+slice-write-counts c = let n = numbers (c .before .before .before) in omega arith
+
+loop-again : tie.Need-loop-again Inv-loop μ-loop
+loop-again c =
+    let w = c .before in
+    let h = head w in
+    let ws = entry h .args .words .now in
+    let k = h .loop .j in
+    let more = w .before .before .loop-test .taken in
+    ⊎-elim
+    (λ t.
+    let p : tie.Then1 Inv-loop μ-loop = record { before = w; if1 = t .0 } in
+    let n = numbers p in
+    (omega arith, rw (t .4) (left-variable ws k more (number p) (n .0) (n .1) (h .loop .inv .1) (t .2 .left))))
+    (λ t. (omega arith, rw (t .1) (left-symbol ws k more (let e = w .wide .ensures .0 in let l = t .0 .left in omega arith) (h .loop .inv .1))))
+    (c .if1 .came)
+
+same-length-2 : tie.Need-same-length-2 Inv-loop μ-loop
+same-length-2 c = let h = c .before in h .loop .inv .1 .total ∙ sym (entry h .pre .1)
+
+returns-2 : tie.Need-returns-2 Inv-loop μ-loop
+returns-2 c =
+    let h = c .before in
+    let ws = entry h .args .words .now in
+    let e = take-all (h .loop .j) ws (omega arith) in
+    sym (left-covers ws (rw e at (h .loop .inv .1)))
+
+pub count-down-spec : {M : Type 1} → statement M
+count-down-spec =
+    tie.close
+    (tie.spec
+    Inv-loop μ-loop loop-holds (λ c. search needs) (λ c. search needs) (λ c κs. search needs) (λ c. search needs) slice-read-if2 same-length
+    returns (λ c. search needs) slice-read-counts (λ c. search needs) slice-write-counts (λ c. search needs) (λ c. search needs) loop-again
+    same-length-2 returns-2)

@@ -1,0 +1,2 @@
+-- Whether a rule falls: inner.
+pub mod Sides

@@ -1,0 +1,24 @@
+-- Sides of rules, and how often each variable stands in one: counted on the left, and the count used up on the right.
+use Prim.Native.Nat.{ℕ, _+_, _≤_, _<_}
+use mathlib.Core.Path.{_≡_}
+use mathlib.Core.Bool.{Bool}
+use mathlib.Core.List.{List}
+use lib.ListN.{length, getD}
+use lib.Dec.{leb}
+use Rattle.system.specs.Limits.{sideWords, variable, variables}
+use Rattle.termination.specs.Weights.{occurs}
+use Rattle.termination.specs.WeightTest.{below}
+
+-- a side of a rule: its words are symbols and variables of number 0 to 15
+pub record NumberedSide (side : List ℕ) : Type 0 where
+  pub small : length side ≤ sideWords
+  pub known : (j : ℕ) → j < length side → getD side j 0 < variable + variables
+
+-- for each variable, at its number, how often it stands in the words
+pub record Counts (ws counts : List ℕ) : Type 0 where
+  pub total : length counts ≡ variables
+  pub each : (v : ℕ) → v < variables → getD counts v 0 ≡ occurs (variable + v) ws
+
+-- whether no variable stands in the words more often than it was counted
+unfoldable pub covers : List ℕ → List ℕ → Bool
+covers counts ws = below (λ v. leb (occurs (variable + v) ws) (getD counts v 0)) variables
