@@ -46,27 +46,33 @@ fn weighs(weights: &[u16], symbols: usize) -> bool
     in_range(weights)
 }
 
-// 0 0 0 where every rule falls, else 19 and the lowest rule that does not, at which the search ends.
+// 0 0 0 where every rule falls, else 19 and the lowest rule that does not: `first`, at which the search ends. As long as none was found it is
+// the number of rules.
 fn tested(book: &[u16], shape: Shape, weights: &[u16]) -> Answer
     requires { ⌜ Accepted (now book) shape × (inRange (now weights) ≡ true) ⌝ }
     ensures { λ r. ⌜ r ≡ fallAnswer (firstRising (now (weights .entry)) (systemOf (now (book .entry)))) ⌝ }
 {
+    let rules = shape.rules;
     let mut k = 0;
     let mut at = shape.first_rule;
-    while k < shape.rules {
+    let mut first = rules;
+    while k < first {
         let r = rule_at(book, at);
         let lhs = r.lhs;
         let left = lhs + r.width;
         let rhs = r.rhs;
         at = r.next;
         if !falls(weights, &book[lhs..left], &book[rhs..at]) {
-            return Answer {
-                number: RISING,
-                place: k,
-                steps: 0,
-            };
+            first = k;
         }
         k += 1;
+    }
+    if first < rules {
+        return Answer {
+            number: RISING,
+            place: first,
+            steps: 0,
+        };
     }
     Answer {
         number: TAKEN,

@@ -18,15 +18,15 @@ unfoldable pub reductLength : List ℕ → List ℕ → ℕ
 reductLength lengths [] = 0
 reductLength lengths (w ∷ ws) = cond (ltb w variable) 1 (getD lengths (w - variable) 0) + reductLength lengths ws
 
--- a right side: its words are symbols and variables of number 0 to 15
-pub record RightSide (side : List ℕ) : Type 0 where
+-- a side of a rule: its words are symbols and variables of number 0 to 15
+pub record NumberedSide (side : List ℕ) : Type 0 where
   pub small : length side ≤ sideWords
   pub known : (j : ℕ) → j < length side → getD side j 0 < variable + variables
 
--- one that stands in the book
+-- a right side that stands in the book
 pub record RightSideAt (book : List ℕ) (rhs size : ℕ) : Type 0 where
   pub fits : rhs + size ≤ length book
-  pub right : RightSide (take size (drop rhs book))
+  pub right : NumberedSide (take size (drop rhs book))
 
 -- the stretches lie in ws
 pub record Within (ws starts lengths : List ℕ) : Type 0 where

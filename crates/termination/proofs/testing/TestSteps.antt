@@ -26,7 +26,7 @@ use Rattle.system.proofs.layout.Books.{Rest, turn-of, sides-at, rule-count, sym
 use Rattle.matching.proofs.FirstFailing.{sought, sought-starts, sought-ends, sought-passes, sought-fails}
 use Rattle.termination.specs.Weights.{Weights}
 use Rattle.termination.specs.WeightTest.{falls, weighs, inRange, firstRising, fallAnswer, misweighedAnswer, weightsAnswer}
-use Rattle.termination.specs.falling.Sides.{NumberedSide}
+use Rattle.matching.specs.rules.Searches.{NumberedSide}
 use Rattle.termination.proofs.Tests.{weights-refused, weights-misweighed, weights-tested}
 
 -- ---- the rules, one after the other
@@ -39,11 +39,12 @@ between b from end = take (end - from) (drop from b)
 abbrev pub fallsAt : List ℕ → Weights → ℕ → Bool
 fallsAt b m k = falls m (rule (systemOf b) k)
 
--- the rules from number k on stand from the index `at` on, and the lowest one that does not fall is found among them
-pub record Fallen (b : List ℕ) (sh : Shape) (m : Weights) (k at : ℕ) : Type 0 where
-  pub inside : k ≤ sh .rules
+-- the rules from number k on stand from the index `at` on; those before `first` are still to be looked at, and `first`, if it is a rule, does not fall. The
+-- book has n rules
+pub record Fallen (b : List ℕ) (n : ℕ) (m : Weights) (k at first : ℕ) : Type 0 where
+  pub inside : first ≤ n
   pub rest : Rest b k at
-  pub goes : sought (fallsAt b m) (sh .rules) k (sh .rules) ≡ firstRising m (systemOf b)
+  pub goes : sought (fallsAt b m) n k first ≡ firstRising m (systemOf b)
 
 -- the sides of a well-formed rule
 module _ {g : Signature} {r : Rule} (law : WellFormedRule g r) where
@@ -69,22 +70,29 @@ pub record Sides (b : List ℕ) (k : ℕ) (p : RuleSpan) : Type 0 where
   pub same : record { lhs = between b (p .lhs) (p .lhs + p .width); rhs = between b (p .rhs) (p .next) } ≡ rule (systemOf b) k
 
 module _ {b : List ℕ} {sh : Shape} (m : Weights) (acc : Accepted b sh) where
-  pub test-starts : Fallen b sh m 0 (sh .«first_rule»)
+  pub test-starts : Fallen b (sh .rules) m 0 (sh .«first_rule») (sh .rules)
   test-starts = record {
     inside = omega arith;
     rest = first-rest b sh acc;
     goes = rw (rule-count b sh acc) (sought-starts (fallsAt b m) (length (systemOf b .rules)));
   }
 
-  module _ {k at : ℕ} (so : Fallen b sh m k at) where
-    -- all were looked at
-    pub test-ends : sh .rules ≤ k → fallAnswer none ≡ fallAnswer (firstRising m (systemOf b))
-    test-ends h =
-        let n = sh .rules in
-        let z : none ≡ cond (ltb n n) (some n) none = rw (le-ltb n n (omega arith)) in
-        ap fallAnswer (z ∙ sym (sought-ends (fallsAt b m) n k n h) ∙ so .goes)
+  module _ {k at first : ℕ} (so : Fallen b (sh .rules) m k at first) where
+    -- all were looked at, or one was found
+    module _ (h : first ≤ k) where
+      ended : cond (ltb first (sh .rules)) (some first) none ≡ firstRising m (systemOf b)
+      ended = sym (sought-ends (fallsAt b m) (sh .rules) k first h) ∙ so .goes
 
-    module _ (more : k < sh .rules) {p : RuleSpan} (e : p ≡ ruleSpan b at) where
+      pub test-rises : first < sh .rules → fallAnswer (some first) ≡ fallAnswer (firstRising m (systemOf b))
+      test-rises l = ap fallAnswer (rw (lt-ltb first (sh .rules) l) at ended)
+
+      pub test-falls : sh .rules ≤ first → fallAnswer none ≡ fallAnswer (firstRising m (systemOf b))
+      test-falls l = ap fallAnswer (rw (le-ltb first (sh .rules) l) at ended)
+
+    module _ (seeking : k < first) {p : RuleSpan} (e : p ≡ ruleSpan b at) where
+      more : k < sh .rules
+      more = let z = so .inside in omega arith
+
       pub sides : Sides b k p
       sides =
           let t = turn-of acc more (so .rest) e .here in
@@ -101,22 +109,26 @@ module _ {b : List ℕ} {sh : Shape} (m : Weights) (acc : Accepted b sh) where
             same = λ i. record { lhs = l i; rhs = r i };
           }
 
-      -- by what was found of its sides: the search ends here, or goes on
+      -- by what was found of its sides: it is the first, or the search goes on
       module _ {x : Bool} (is : x ≡ falls m (record { lhs = between b (p .lhs) (p .lhs + p .width); rhs = between b (p .rhs) (p .next) })) where
         found : {y : Bool} → x ≡ y → fallsAt b m k ≡ y
         found q = ap (falls m) (sym (sides .same)) ∙ sym is ∙ q
 
-        pub test-rises : x ≡ false → fallAnswer (some k) ≡ fallAnswer (firstRising m (systemOf b))
-        test-rises q =
-            let n = sh .rules in
-            let z : some k ≡ cond (ltb k n) (some k) none = rw (lt-ltb k n more) in
-            ap fallAnswer (z ∙ sym (sought-ends (fallsAt b m) n (k + 1) k (omega arith)) ∙ sought-fails (fallsAt b m) n k n more (omega arith) (found q) ∙ so .goes)
+        after : Rest b (k + 1) (p .next)
+        after = turn-of acc more (so .rest) e .here .rest
 
-        pub test-falls : x ≡ true → Fallen b sh m (k + 1) (p .next)
-        test-falls q = record {
-          inside = omega arith;
-          rest = turn-of acc more (so .rest) e .here .rest;
-          goes = sought-passes (fallsAt b m) (sh .rules) k (sh .rules) more (found q) ∙ so .goes;
+        pub goes-rising : x ≡ false → Fallen b (sh .rules) m (k + 1) (p .next) k
+        goes-rising q = record {
+          inside = (let z = more in omega arith);
+          rest = after;
+          goes = sought-fails (fallsAt b m) (sh .rules) k first seeking (so .inside) (found q) ∙ so .goes;
+        }
+
+        pub goes-falling : x ≡ true → Fallen b (sh .rules) m (k + 1) (p .next) first
+        goes-falling q = record {
+          inside = so .inside;
+          rest = after;
+          goes = sought-passes (fallsAt b m) (sh .rules) k first seeking (found q) ∙ so .goes;
         }
 
 -- ---- of a book that was scanned

@@ -1,18 +1,13 @@
--- Sides of rules, and how often each variable stands in one: counted on the left, and the count used up on the right.
-use Prim.Native.Nat.{ℕ, _+_, _≤_, _<_}
+-- How often each variable stands in a side of a rule: counted on the left, and the count used up on the right.
+use Prim.Native.Nat.{ℕ, _+_, _<_}
 use mathlib.Core.Path.{_≡_}
 use mathlib.Core.Bool.{Bool}
 use mathlib.Core.List.{List}
 use lib.ListN.{length, getD}
 use lib.Dec.{leb}
-use Rattle.system.specs.Limits.{sideWords, variable, variables}
+use Rattle.system.specs.Limits.{variable, variables}
 use Rattle.termination.specs.Weights.{occurs}
 use Rattle.termination.specs.WeightTest.{below}
-
--- a side of a rule: its words are symbols and variables of number 0 to 15
-pub record NumberedSide (side : List ℕ) : Type 0 where
-  pub small : length side ≤ sideWords
-  pub known : (j : ℕ) → j < length side → getD side j 0 < variable + variables
 
 -- for each variable, at its number, how often it stands in the words
 pub record Counts (ws counts : List ℕ) : Type 0 where
