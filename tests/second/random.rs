@@ -69,6 +69,11 @@ impl Draft {
         book::built_in(w).map_or_else(listed, |b| b.0)
     }
 
+    /// One index after the part of a side or of a cue that starts at an index.
+    pub fn end(&self, words: &[u16], at: usize) -> usize {
+        (0..self.arguments(words[at])).fold(at + 1, |end, _| self.end(words, end))
+    }
+
     pub fn write(&self) -> Vec<u16> {
         let mut w = vec![self.counts.len() as u16];
         w.extend(self.counts.iter().map(|&c| c as u16));

@@ -168,12 +168,9 @@ fn onward(b: &Book, cue: &Rc<Cue>, record: &[u16]) -> Vec<(Vec<u16>, Vec<u16>)> 
 
 /// The words with one part, of at least so many words, replaced by one of its arguments, or by name 0 if that has none.
 fn parts(d: &Draft, words: &[u16], least: usize) -> Vec<Vec<u16>> {
-    fn end(d: &Draft, words: &[u16], at: usize) -> usize {
-        (0..d.arguments(words[at])).fold(at + 1, |e, _| end(d, words, e))
-    }
     let mut all = vec![];
     for at in 0..words.len() {
-        let stop = end(d, words, at);
+        let stop = d.end(words, at);
         if stop - at < least {
             continue;
         }
@@ -183,7 +180,7 @@ fn parts(d: &Draft, words: &[u16], least: usize) -> Vec<Vec<u16>> {
         }
         let mut q = at + 1;
         while q < stop {
-            let e = end(d, words, q);
+            let e = d.end(words, q);
             all.push(put(&words[q..e]));
             q = e;
         }
