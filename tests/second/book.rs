@@ -354,6 +354,18 @@ pub enum Plant {
     OldRoom,
     /// the first 8,192 words of the work buffer are zeroed, as they were before F-5
     OldZeros,
+    /// a rule falls where both sides weigh the same, too
+    SameWeight,
+    /// a rule falls with a placeholder on the right twice, too
+    Twice,
+    /// the test by weights tells the highest rule that doesn't fall
+    LastRising,
+    /// a weight of 1,001 is taken
+    TooHeavy,
+    /// a list with one weight too many is taken
+    LongList,
+    /// levels weigh 1 in rules
+    LevelsWeigh,
 }
 
 impl Plant {

@@ -2,10 +2,12 @@
 
 use crate::book::{self, is_level, Book, Cue, Plant, Rule, CURVE, CURVE_RULE, HIGHER, HIGHER_RULE, HOLE, LONGEST, LOWER, LOWER_RULE, WORK_WORDS};
 use crate::compare_records::{compare_records, RECORDED, REPLAYED};
+use crate::compare_weights::{compare_weights, FALLING, WEIGHED};
 use crate::demand3;
 use crate::evaluate::{evaluate, evaluate_plainly, first_fit, End, Fit, Outcome, Step};
 use crate::product::{self, Answer, Match, Part, Shape, VARIABLES};
 use crate::random::{Case, PATIENCE};
+use crate::weights;
 use std::cell::RefCell;
 use std::collections::HashMap;
 use std::rc::Rc;
@@ -13,8 +15,8 @@ use std::rc::Rc;
 /// Words before and after each lent buffer, which nobody may touch.
 const MARGIN: usize = 64;
 
-/// The numbers of the table: 0 to 17.
-pub const NUMBERS: usize = 18;
+/// The numbers of the table: 0 to 19.
+pub const NUMBERS: usize = 20;
 
 /// What is counted of levels and built-in words (02, F-2 and F-4), in cases whose cue was handed back.
 pub const LEVELS: [&str; 9] = [
@@ -73,6 +75,7 @@ pub struct Counts {
     pub expand: [u64; NUMBERS],
     pub recorded: [u64; NUMBERS],
     pub replayed: [u64; NUMBERS],
+    pub weighed: [u64; NUMBERS],
     /// answers 0 by steps: 0, 1 to 9, 10 to 99, 100 to 999, more
     pub steps: [u64; 5],
     pub most_steps: u32,
@@ -87,6 +90,8 @@ pub struct Counts {
     pub long: [u64; LONG.len()],
     pub recorded_met: [u64; RECORDED.len()],
     pub replayed_met: [u64; REPLAYED.len()],
+    pub weighed_met: [u64; WEIGHED.len()],
+    pub falling_met: [u64; FALLING.len()],
     pub arguments: u64,
     pub matches: u64,
     pub listed: u64,
@@ -111,6 +116,7 @@ impl Counts {
         all(&mut self.expand, &o.expand);
         all(&mut self.recorded, &o.recorded);
         all(&mut self.replayed, &o.replayed);
+        all(&mut self.weighed, &o.weighed);
         all(&mut self.steps, &o.steps);
         all(&mut self.levels, &o.levels);
         all(&mut self.refused, &o.refused);
@@ -118,6 +124,8 @@ impl Counts {
         all(&mut self.long, &o.long);
         all(&mut self.recorded_met, &o.recorded_met);
         all(&mut self.replayed_met, &o.replayed_met);
+        all(&mut self.weighed_met, &o.weighed_met);
+        all(&mut self.falling_met, &o.falling_met);
         self.most_steps = self.most_steps.max(o.most_steps);
         self.exact += o.exact;
         self.one_short += o.one_short;
@@ -582,11 +590,13 @@ fn remembered(b: &Book, c: &Rc<Cue>, limit: u32, plant: Plant, o: &Outcome, n: &
     Ok(())
 }
 
-/// Whether the case is refused, or its evaluation ends in time without the memory.
+/// Whether the case is refused, or its evaluation ends in time without the memory: where all rules fall, with the cue's weight allowed too.
 pub fn ends_plainly(case: &Case) -> bool {
     let Ok(b) = book::read(&case.book) else { return true };
     let Ok(c) = b.cue(&case.cue) else { return true };
-    !matches!(evaluate_plainly(&b, &c, case.limit, Plant::Nothing, false, PATIENCE).end, End::TooLong)
+    let falls = weights::test(&b, &case.weights, Plant::Nothing).0 == 0;
+    let limit = if falls { case.limit.max(weights::weigh(&case.weights, &case.cue)) } else { case.limit };
+    !matches!(evaluate_plainly(&b, &c, limit, Plant::Nothing, false, PATIENCE).end, End::TooLong)
 }
 
 /// Whether the cue takes one step more than the allowance that was spent, and then ends. (Only short evaluations are looked at again.)
@@ -618,5 +628,6 @@ pub fn compare(case: &Case, plant: Plant, n: &mut Counts) -> Checked {
     let input = input(case, plant, &read, &cue);
     count(&mut n.buffers, &buffers(case, &input));
     expansion(case, plant, &input, n)?;
-    compare_records(case, plant, &input, n)
+    compare_records(case, plant, &input, n)?;
+    compare_weights(case, plant, &read, &cue, n)
 }

@@ -2,14 +2,16 @@
 //!
 //!     second [CASES] [--seed N] [--threads N] [--plant N] [--plain]
 //!
-//! CASES cases (100,000 if not said), from seed 0 (or --seed) on; one thread for each processor, if not said. --plant 1 to 14 plants a fault
+//! CASES cases (100,000 if not said), from seed 0 (or --seed) on; one thread for each processor, if not said. --plant 1 to 20 plants a fault
 //! in the second evaluator, which the run must then find. --plain leaves out what takes too long if nothing is remembered of arguments that
 //! took no step: for a product that remembers nothing. Exit status: 0 no difference; 1 a difference, printed with its seed and cut down; 2 a
-//! number of the table, a nest of repeats, a kind of level, of work buffer, of long cue or of record came too seldom, or bad usage.
+//! number of the table, a nest of repeats, a kind of level, of work buffer, of long cue, of record or of list of weights came too seldom, or bad
+//! usage.
 
 mod book;
 mod compare;
 mod compare_records;
+mod compare_weights;
 mod demand3;
 mod evaluate;
 mod paper;
@@ -17,12 +19,15 @@ mod product;
 mod random;
 mod random_long;
 mod random_records;
+mod random_weights;
 mod replay;
 mod shrink;
+mod weights;
 
 use book::Plant;
 use compare::{compare, Counts, BUFFERS, LEVELS, LONG, NUMBERS, REFUSED};
 use compare_records::{RECORDED, REPLAYED};
+use compare_weights::{FALLING, WEIGHED};
 use random::Case;
 use std::sync::atomic::{AtomicU64, Ordering};
 use std::time::Instant;
@@ -68,6 +73,12 @@ fn options() -> Option<Options> {
                     "12" => Plant::LowByte,
                     "13" => Plant::OldRoom,
                     "14" => Plant::OldZeros,
+                    "15" => Plant::SameWeight,
+                    "16" => Plant::Twice,
+                    "17" => Plant::LastRising,
+                    "18" => Plant::TooHeavy,
+                    "19" => Plant::LongList,
+                    "20" => Plant::LevelsWeigh,
                     _ => return None,
                 }
             }
@@ -104,6 +115,7 @@ fn print_case(case: &Case) {
     println!("  allowance {}, answer buffer {}, work buffer {}, filled with {}", case.limit, case.out_words, case.work_words, case.dirt);
     println!("  record of {} words; then answer buffer {}, work buffer {}", case.room, case.again_words, case.spare_words);
     println!("  record to be replayed ({} words): {}", case.record.len(), words(&case.record));
+    println!("  weights ({}): {}", case.weights.len(), words(&case.weights));
 }
 
 fn report(seed: u64, plant: Plant) {
@@ -134,6 +146,7 @@ fn statistics(n: &Counts) {
     row("expander", &n.expand);
     row("recorded", &n.recorded);
     row("replay", &n.replayed);
+    row("weights", &n.weighed);
     println!(
         "  answers 0 by steps: none {}, 1 to 9 {}, 10 to 99 {}, 100 to 999 {}, more {}; the most {}",
         n.steps[0], n.steps[1], n.steps[2], n.steps[3], n.steps[4], n.most_steps
@@ -146,38 +159,43 @@ fn statistics(n: &Counts) {
     println!("  long cues: {}", list(&LONG, &n.long));
     println!("  recorded: {}", list(&RECORDED, &n.recorded_met));
     println!("  replay: {}", list(&REPLAYED, &n.replayed_met));
+    println!("  weights: {}", list(&WEIGHED, &n.weighed_met));
+    println!("  finite shows: {}", list(&FALLING, &n.falling_met));
     print!("  demand 3: lists of steps checked {}, settled cues checked and expanded again {}", n.listed, n.settled);
     println!(", replays checked {}", n.followed);
     println!("  the same without memory {}, too long without it {}; left out as too long {}", n.plain, n.repeats, n.too_long);
 }
 
 /// Every number of each operation is to come often, and so are nested repeats, levels of each kind, refusals round the curve, work buffers of
-/// every size, and what is counted of records: at least once in 500 cases; and what is counted of long cues, once in 1,000.
+/// every size, and what is counted of records and of weights: at least once in 500 cases; and what is counted of long cues, once in 1,000.
 fn seldom(n: &Counts, plain: bool) -> Vec<String> {
     let least = n.cases / 500;
     let mut all = vec![];
     if !plain && n.repeats < least {
         all.push(format!("nested repeats came only {} times", n.repeats));
     }
-    let operations: [(&str, &[u64; NUMBERS], Vec<usize>); 5] = [
+    let operations: [(&str, &[u64; NUMBERS], Vec<usize>); 6] = [
         ("the reader", &n.read, (0..=8).chain([15]).collect()),
         ("the order test", &n.test, vec![0, 14]),
         ("the expander", &n.expand, (0..=13).chain([15]).collect()),
         ("the recorded expander", &n.recorded, (0..=13).chain([15, 16]).collect()),
         ("the replay", &n.replayed, (0..=10).chain([12, 15, 17]).collect()),
+        ("the test by weights", &n.weighed, (0..=8).chain([15, 18, 19]).collect()),
     ];
     for (name, counts, numbers) in operations {
         for i in numbers.into_iter().filter(|&i| counts[i] < least) {
             all.push(format!("{i} of {name} came only {} times", counts[i]));
         }
     }
-    let lists: [(&[&str], &[u64], u64); 6] = [
+    let lists: [(&[&str], &[u64], u64); 8] = [
         (&LEVELS, &n.levels, least),
         (&REFUSED, &n.refused, least),
         (&BUFFERS, &n.buffers, least),
         (&LONG, &n.long, least / 2),
         (&RECORDED, &n.recorded_met, least),
         (&REPLAYED, &n.replayed_met, least),
+        (&WEIGHED, &n.weighed_met, least),
+        (&FALLING, &n.falling_met, least),
     ];
     for (whats, counts, least) in lists {
         for (what, c) in whats.iter().zip(counts).filter(|(_, c)| **c < least) {
@@ -225,7 +243,7 @@ fn run(o: &Options) -> (Counts, Option<u64>) {
 
 fn all() -> i32 {
     let Some(o) = options() else {
-        eprintln!("second [CASES] [--seed N] [--threads N] [--plant 1 to 14] [--plain]");
+        eprintln!("second [CASES] [--seed N] [--threads N] [--plant 1 to 20] [--plain]");
         return 2;
     };
     if o.plant == Plant::Nothing {

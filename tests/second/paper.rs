@@ -36,6 +36,8 @@ fn case(book: &[u16], cue: &[u16], limit: u32) -> Case {
         record: vec![],
         again_words: ANSWER_WORDS,
         spare_words: WORK_WORDS,
+        // as many as a book that is taken has names
+        weights: vec![1; book.first().map_or(0, |&s| s as usize)],
     }
 }
 

@@ -80,6 +80,8 @@ pub mod c {
         pub fn cue_span(book: *const u16, book_words: usize, ws: *const u16, ws_words: usize) -> usize;
         pub fn cue_first_match(book: *const u16, book_words: usize, ws: *const u16, ws_words: usize) -> Match;
         pub fn cue_test_strategies(book: *const u16, book_words: usize) -> Answer;
+        pub fn cue_test_weights(book: *const u16, book_words: usize, weights: *const u16, weights_words: usize) -> Answer;
+        pub fn cue_weigh(weights: *const u16, weights_words: usize, term: *const u16, term_words: usize) -> u32;
         pub fn cue_expand(
             book: *const u16,
             book_words: usize,
@@ -190,6 +192,14 @@ pub fn first_match(book: &[u16], ws: &[u16]) -> Match {
 
 pub fn test_strategies(book: &[u16]) -> Answer {
     unsafe { c::cue_test_strategies(book.as_ptr(), book.len()) }
+}
+
+pub fn test_weights(book: &[u16], weights: &[u16]) -> Answer {
+    unsafe { c::cue_test_weights(book.as_ptr(), book.len(), weights.as_ptr(), weights.len()) }
+}
+
+pub fn weigh(weights: &[u16], term: &[u16]) -> u32 {
+    unsafe { c::cue_weigh(weights.as_ptr(), weights.len(), term.as_ptr(), term.len()) }
 }
 
 pub fn expand(book: &[u16], term: &[u16], limit: u32, out: &mut [u16], work: &mut [u16]) -> Answer {

@@ -4,6 +4,7 @@ use crate::book::{self, Book, Cue, Plant, ANSWER_WORDS, CURVE, HIGHER, HOLE, LEV
 use crate::evaluate::{evaluate, End, Outcome};
 use crate::random_long::long;
 use crate::random_records::{noise, record, room};
+use crate::random_weights::{growing, tame, weights};
 use std::rc::Rc;
 
 /// A small generator of random numbers (xorshift64*), so that the cases are the same on every machine.
@@ -120,6 +121,8 @@ pub struct Case {
     /// answer buffer and work buffer of the replay that follows an expansion
     pub again_words: usize,
     pub spare_words: usize,
+    /// the list of weights by which the book is tested
+    pub weights: Vec<u16>,
 }
 
 /// More work than this is too much for one case.
@@ -139,7 +142,7 @@ impl Scale {
         match r.below(1000) {
             0..=24 => Scale::Long,
             25..=149 => Scale::Middle,
-            150..=239 => Scale::LongCue,
+            150..=259 => Scale::LongCue,
             _ => Scale::Short,
         }
     }
@@ -989,6 +992,7 @@ fn plain(r: &mut Random) -> (Draft, Vec<u16>) {
 /// A book and a cue without damage.
 fn draft(r: &mut Random, scale: Scale) -> (Draft, Vec<u16>) {
     let (mut d, mut cue) = match r.below(128) {
+        _ if scale == Scale::LongCue && r.percent(16) => growing(r),
         _ if scale == Scale::LongCue => long(r),
         0..=26 => plain(r),
         27..=44 => again(r),
@@ -1009,6 +1013,9 @@ fn draft(r: &mut Random, scale: Scale) -> (Draft, Vec<u16>) {
     }
     if r.percent(50) {
         vary(r, &mut d);
+    }
+    if r.percent(20) {
+        tame(r, &mut d);
     }
     if r.percent(30) {
         d = renumber(r, &d, &mut cue);
@@ -1058,16 +1065,17 @@ pub fn case(seed: u64) -> Case {
     }
     let (out_words, work_words) = buffers(r);
     let dirt = *r.pick(&[0, 1, 1, 0xAAAA, 65535]);
-    let read = book::read(&book).ok().and_then(|b| b.cue(&cue).ok().map(|c| (b, c)));
-    let (limit, room, record) = match &read {
+    let read = book::read(&book).ok();
+    let (limit, room, record) = match read.as_ref().and_then(|b| b.cue(&cue).ok().map(|c| (b, c))) {
         Some((b, c)) => {
-            let (limit, o) = limit(r, scale, b, c);
-            (limit, room(r, &o, limit), record(r, b, c, &o))
+            let (limit, o) = limit(r, scale, b, &c);
+            (limit, room(r, &o, limit), record(r, b, &c, &o))
         }
         None => (r.below(10) as u32, r.below(10), noise(r)),
     };
     let (again_words, spare_words) = buffers(r);
-    Case { book, cue, limit, out_words, work_words, dirt, room, record, again_words, spare_words }
+    let weights = weights(r, &read.map_or(d, |b| Draft::of(&b)));
+    Case { book, cue, limit, out_words, work_words, dirt, room, record, again_words, spare_words, weights }
 }
 
 /// An allowance that is met by one more or less, or far from being met, and an expansion with at least that.
