@@ -44,6 +44,9 @@ fn smaller(case: &Case) -> Vec<Case> {
     for record in shorter(&case.record) {
         put(&|c| c.record = record.clone());
     }
+    for weights in lighter(&case.weights) {
+        put(&|c| c.weights = weights.clone());
+    }
     if let Ok(b) = book::read(&case.book) {
         let d = Draft::of(&b);
         // rules, and their numbers in the record
@@ -55,14 +58,14 @@ fn smaller(case: &Case) -> Vec<Case> {
                 c.record.iter_mut().skip(1).step_by(2).filter(|w| (k + 1..128).contains(&(**w as usize))).for_each(|w| *w -= 1);
             });
         }
-        // the last name, where nothing uses it
-        let last = d.counts.len() as u16 - 1;
-        let used = |ws: &[u16]| ws.contains(&last);
-        if last > 0 && !used(&case.cue) && !d.rules.iter().any(|(l, r)| used(l) || used(r)) {
-            let mut e = d.clone();
-            e.counts.pop();
-            e.orders.pop();
-            put(&|c| c.book = e.write());
+        // names that nothing uses, and their weights
+        for k in (1..d.counts.len()).rev() {
+            if let Some((e, cue)) = without(&d, &case.cue, k as u16) {
+                put(&|c| {
+                    (c.book, c.cue) = (e.write(), cue.clone());
+                    c.weights = c.weights.iter().enumerate().filter(|w| w.0 != k).map(|w| *w.1).collect();
+                });
+            }
         }
         // a name for another without arguments, in cue and rules
         for f in 1..d.counts.len() as u16 {
@@ -87,11 +90,16 @@ fn smaller(case: &Case) -> Vec<Case> {
                 put(&|c| c.book = e.write());
             }
         }
-        // parts of right sides
+        // parts of right sides, and of left sides where there are few
         for k in 0..d.rules.len() {
             for w in parts(&d, &d.rules[k].1, 1) {
                 let mut e = d.clone();
                 e.rules[k].1 = w;
+                put(&|c| c.book = e.write());
+            }
+            for w in parts(&d, &d.rules[k].0, 1).into_iter().filter(|_| d.rules.len() < 4) {
+                let mut e = d.clone();
+                e.rules[k].0 = w;
                 put(&|c| c.book = e.write());
             }
         }
@@ -147,6 +155,32 @@ fn shorter(record: &[u16]) -> Vec<Vec<u16>> {
         }
     }
     all
+}
+
+/// Lists of smaller weights, all at once or one, and with one weight less.
+fn lighter(weights: &[u16]) -> Vec<Vec<u16>> {
+    let less = |w: u16| [w.min(1), w / 2, w.saturating_sub(1)];
+    let mut all: Vec<Vec<u16>> = (0..3).map(|i| weights.iter().map(|&w| less(w)[i]).collect()).collect();
+    for at in 0..weights.len() {
+        all.extend(less(weights[at]).map(|w| [&weights[..at], &[w], &weights[at + 1..]].concat()));
+        all.push([&weights[..at], &weights[at + 1..]].concat());
+    }
+    all.retain(|w| w != weights);
+    all
+}
+
+/// A draft and a cue without a name that neither uses: the names above it move down.
+fn without(d: &Draft, cue: &[u16], name: u16) -> Option<(Draft, Vec<u16>)> {
+    if cue.contains(&name) || d.rules.iter().any(|(l, r)| l.contains(&name) || r.contains(&name)) {
+        return None;
+    }
+    let above = name..d.counts.len() as u16;
+    let down = |ws: &[u16]| ws.iter().map(|w| w - above.contains(w) as u16).collect::<Vec<u16>>();
+    let mut e = d.clone();
+    e.counts.remove(name as usize);
+    e.orders.remove(name as usize);
+    e.rules = d.rules.iter().map(|(l, r)| (down(l), down(r))).collect();
+    Some((e, down(cue)))
 }
 
 /// A cue and its record with the first pair done already, or with an argument for the whole cue.
