@@ -15,6 +15,7 @@ mod compare_weights;
 mod demand3;
 mod evaluate;
 mod paper;
+mod paper_weights;
 mod product;
 mod random;
 mod random_long;
@@ -252,6 +253,7 @@ fn all() -> i32 {
         faults.extend(paper::records());
         faults.extend(paper::curve());
         faults.extend(paper::lengths());
+        faults.extend(paper_weights::weights());
         if !o.plain {
             faults.extend(paper::repeats());
         }
@@ -261,7 +263,7 @@ fn all() -> i32 {
         if !faults.is_empty() {
             return 1;
         }
-        println!("second: the paper's cases C1 to C15, F-2's to F-5's{} hold for both", if o.plain { "" } else { ", and nested repeats," });
+        println!("second: the paper's cases C1 to C15, F-2's to F-6's{} hold for both", if o.plain { "" } else { ", and nested repeats," });
     }
     let start = Instant::now();
     let (n, found) = run(&o);

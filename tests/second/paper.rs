@@ -1,5 +1,5 @@
 //! The papers' own cases (01, "Rehearsal cues"; 02, F-1 to F-5), typed in by hand: what they expect is held against the second evaluator
-//! and the product.
+//! and the product. F-6's are in paper_weights.rs.
 
 use crate::book::{self, Book, Plant, ANSWER_WORDS, WORK_WORDS};
 use crate::compare::{compare, span, Counts};
@@ -9,22 +9,22 @@ use crate::product;
 use crate::random::Case;
 use crate::replay::replay;
 
-const B: [u16; 39] = [
+pub const B: [u16; 39] = [
     5, 0, 2, 1, 1, 0, 5, 0, 1, 1, 2, 1, 0, 2, 1, 0, 1, 0, 3, 1, 4, 3, 1, 0, 4, 4, 2, 1, 32768, 32769, 1, 32768, 4, 3, 1, 32768, 32769, 1, 32769,
 ];
 
-fn changed(at: usize, old: &[u16], new: &[u16]) -> Vec<u16> {
+pub fn changed(at: usize, old: &[u16], new: &[u16]) -> Vec<u16> {
     assert_eq!(&B[at..at + old.len()], old);
     [&B[..at], new, &B[at + old.len()..]].concat()
 }
 
-fn nested(name: u16, times: usize, around: u16) -> Vec<u16> {
+pub fn nested(name: u16, times: usize, around: u16) -> Vec<u16> {
     let mut v = vec![name; times];
     v.push(around);
     v
 }
 
-fn case(book: &[u16], cue: &[u16], limit: u32) -> Case {
+pub fn case(book: &[u16], cue: &[u16], limit: u32) -> Case {
     Case {
         book: book.to_vec(),
         cue: cue.to_vec(),
@@ -41,12 +41,12 @@ fn case(book: &[u16], cue: &[u16], limit: u32) -> Case {
     }
 }
 
-struct Check {
-    faults: Vec<String>,
+pub struct Check {
+    pub faults: Vec<String>,
 }
 
 impl Check {
-    fn hold(&mut self, label: &str, expected: (u32, usize, u32), got: (u32, usize, u32)) {
+    pub fn hold(&mut self, label: &str, expected: (u32, usize, u32), got: (u32, usize, u32)) {
         if expected != got {
             self.faults.push(format!("{label}: the paper says {expected:?}, got {got:?}"));
         }
@@ -94,7 +94,7 @@ impl Check {
     }
 
     /// Every operation, with all that it leaves in the lent buffers.
-    fn compares(&mut self, label: &str, case: &Case) {
+    pub fn compares(&mut self, label: &str, case: &Case) {
         if let Err(e) = compare(case, Plant::Nothing, &mut Counts::default()) {
             self.faults.push(format!("{label}: {e}"));
         }
@@ -235,7 +235,7 @@ pub fn levels() -> Vec<String> {
 }
 
 /// A book by its rules: names 0 dark, and 1 dim with one argument and the order given.
-fn dim_book(order: &[u16], rules: &[u16]) -> Vec<u16> {
+pub fn dim_book(order: &[u16], rules: &[u16]) -> Vec<u16> {
     [&[2, 0, 1, 2, 0, order.len() as u16], order, rules].concat()
 }
 
@@ -276,7 +276,7 @@ fn sides(t: &mut Check) {
 }
 
 /// d(a) to p(a, a), rule 0 of C15's book: only d's order is not empty.
-const DOUBLES: [u16; 18] = [3, 0, 2, 1, 3, 0, 0, 2, 1, 0, 1, 2, 2, 32768, 3, 1, 32768, 32768];
+pub const DOUBLES: [u16; 18] = [3, 0, 2, 1, 3, 0, 0, 2, 1, 0, 1, 2, 2, 32768, 3, 1, 32768, 32768];
 
 /// higher of(lower of(level 255, level 3), lower of(level 200, higher of(level 0, level 2))): argument 1 first, at index 1, by rule 129.
 const GROUP: [u16; 9] = [16640, 16641, 16639, 16387, 16641, 16584, 16640, 16384, 16386];
