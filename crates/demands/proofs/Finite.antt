@@ -5,17 +5,14 @@ use native.Mathlib.Omega.{arith}
 use mathlib.Core.Path.{_≡_, refl, sym, ap, _∙_, subst, subst₂}
 use mathlib.Core.Logic.{inl, inr}
 use mathlib.Core.List.{List}
-use lib.ListN.{length}
 use Rattle.system.specs.declared.Answer.{Answer}
-use Rattle.system.specs.Limits.{termWords}
 use Rattle.system.specs.Numbers.{Limit, spent, overlong, nested, full, Verdict, numberOf, limitNumber}
 use Rattle.system.specs.System.{System}
 use Rattle.system.specs.Terms.{WellFormed}
-use Rattle.system.specs.Answers.{termAnswer}
 use Rattle.system.specs.Book.{systemOf}
 use Rattle.system.proofs.FaultNumbers.{fault-range}
 use Rattle.rewriting.specs.Evaluation.{Limits, Config, steps, unrecorded, Outcome, finished, stopped, evaluation}
-use Rattle.termination.specs.Weights.{Weights, weight, Falling, Weighs}
+use Rattle.termination.specs.Weights.{Weights, weight, Falling}
 use Rattle.termination.specs.WeightTest.{weightsAnswer, weighed}
 use Rattle.termination.specs.Tells.{FallingBook}
 use Rattle.termination.proofs.Tests.{falling-book}
@@ -23,7 +20,7 @@ use Rattle.termination.proofs.Finite.{finished-falls, stopped-falls, never-spen
 use Rattle.termination.proofs.Ranges.{weighed-fits}
 use Rattle.evaluation.specs.Expansion.{Expansion, result, expansionOf, expansion, handedBack}
 use Rattle.evaluation.proofs.Expanding.{Checks, checks, checks-well, Course, narrow, wrong, runs, course}
-use Rattle.evaluation.proofs.Handed.{limit-number, Handed, handed, handed-numbers, handed-words}
+use Rattle.evaluation.proofs.Handed.{limit-number, handed, handed-numbers, handed-words}
 use Rattle.demands.specs.Demand1.{Early, book, term, buffers}
 use Rattle.demands.specs.Finite.{Finite, IsFinite, NeverSpent}
 use Rattle.demands.proofs.Demand1.{Said, said, term-said}

@@ -16,7 +16,7 @@ use Rattle.system.specs.Terms.{Whole, WellFormed}
 use Rattle.matching.specs.Matching.{Contraction, contraction, FirstMatch}
 use Rattle.rewriting.specs.Evaluation.{Config, stepped}
 use Rattle.rewriting.specs.Rewriting.{Step}
-use Rattle.rewriting.proofs.Contractions.{first-there, none-there, replaced-whole, active-within}
+use Rattle.rewriting.proofs.Contractions.{first-there, none-there, step-there}
 use Rattle.replay.specs.Activity.{activeAt}
 use Rattle.replay.specs.Replay.{followed, mistold, exceeded, toldBy, judge, replay}
 use Rattle.replay.proofs.Activities.{activeAt-sound, activeAt-complete}
@@ -111,24 +111,7 @@ module _ (s : System) where
   module _ (wf : WellFormed s) {t : List ℕ} (h : Whole g t) where
     -- what stands and what is found at an active position
     pub right-step : {p k : ℕ} {x : Contraction} → Right t p k x → Stepping t p x
-    right-step {p} {x} r =
-        let act = activeAt-sound s t p (r .active) in
-        let f = first-there s wf h act x (r .found) in (
-          record {
-            at = p;
-            number = x .number;
-            chosen = f .chosen;
-            within = active-within s wf h act;
-            known = f .known;
-            active = act;
-            match = f .match;
-            lowest = f .lowest;
-            next = ap (replace g t p) (f .reduct);
-            left = replaced-whole s wf h act (f .left);
-          },
-          refl,
-          refl,
-        )
+    right-step {p} {x} r = (step-there s wf h (activeAt-sound s t p (r .active)) x (r .found), refl, refl)
 
     -- the rule of a step and its reduct are those that are found
     pub step-right : {t′ : List ℕ} (d : Step s t t′) → Told t (d .at) (d .number) t′

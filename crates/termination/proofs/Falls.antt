@@ -1,7 +1,7 @@
 -- A rule that falls makes every instance of it lighter, and the built-in rules fall.
-use Prim.Native.Nat.{ℕ, suc, _+_, _≤_, _<_}
+use Prim.Native.Nat.{ℕ, _+_, _≤_, _<_}
 use native.Mathlib.Omega.{arith}
-use mathlib.Core.Path.{_≡_, refl, ap, _∙_}
+use mathlib.Core.Path.{_≡_, refl, _∙_}
 use mathlib.Core.List.{List, [], _∷_}
 use lib.ListN.{length}
 use borrow.Author.Tests.{le-ltb, lt-leb}
@@ -9,7 +9,7 @@ use Rattle.system.specs.Limits.{variable, variables}
 use Rattle.system.specs.BuiltIns.{literal, literals, maximum, minimum, square, isLiteral, isBuiltIn, larger, smaller, squareLaw}
 use Rattle.system.specs.System.{System, Rule, rule, instance}
 use Rattle.system.specs.Rules.{BuiltIn, max, min, sqr, RuleOf, listed, builtIn}
-use Rattle.system.specs.Terms.{Member, WellFormedRule, WellFormed}
+use Rattle.system.specs.Terms.{Member, WellFormed}
 use Rattle.system.proofs.BuiltIns.{literal-is, above-literal, above-builtin, larger-below, smaller-below}
 use Rattle.system.proofs.SquareLaw.{square-below}
 use Rattle.system.proofs.Signatures.{few-symbols, few-listed}

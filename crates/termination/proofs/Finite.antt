@@ -1,9 +1,9 @@
 -- Where all rules fall, every rewrite makes a term lighter: the steps of an evaluation are at most what the term loses, and a step limit of the first
 -- term's weight is never used up.
-use Prim.Native.Nat.{ℕ, suc, _+_, _*_, _≤_, _<_}
+use Prim.Native.Nat.{ℕ, _+_, _≤_, _<_}
 use native.Mathlib.Omega.{arith}
 use mathlib.Core.Path.{_≡_}
-use mathlib.Core.List.{List, _++_}
+use mathlib.Core.List.{List}
 use lib.ListN.{length}
 use Rattle.system.specs.Limits.{termWords}
 use Rattle.system.specs.Numbers.{Limit, spent}
@@ -14,7 +14,7 @@ use Rattle.rewriting.specs.Evaluation.{Limits, Config, steps, finished, stopped
 use Rattle.rewriting.specs.Rewriting.{Step, Steps, done, step}
 use Rattle.rewriting.proofs.Done.{path-steps, theorem-path}
 use Rattle.rewriting.proofs.Contexts.{Rewrites, step-rewrites}
-use Rattle.rewriting.proofs.Stopped.{Halts, noSteps, noRoom, tooLong, tooDeep, Stopped, stopped-path}
+use Rattle.rewriting.proofs.Stopped.{Halts, noSteps, Stopped, stopped-path}
 use Rattle.termination.specs.Weights.{Weights, weight, Falling, Weighs}
 use Rattle.termination.proofs.Instances.{weight-patch}
 use Rattle.termination.proofs.Falls.{instance-falls}
