@@ -1,7 +1,7 @@
 #!/usr/bin/env bash
 # The checks from outside: the C interface and its header, the stack of each operation, the C example, random books against the second
-# evaluator (which must also find twenty planted faults), the words tool, the examples, the programs' files, and the steps tool. Everything is
-# written under target/outside.
+# evaluator (which must also find twenty planted faults), the words tool, the examples, the programs' files, the steps tool and the weights
+# tool. Everything is written under target/outside.
 #     tests/run.sh [CASES of the random run; 100000 if not said]
 set -euo pipefail
 cd "$(dirname "$0")/.."
