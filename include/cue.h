@@ -199,8 +199,8 @@ cue_answer cue_test_weights(const uint16_t *book, size_t book_words, const uint1
 
 /*
  * What the words of a cue weigh in all by such a list: the allowance of that promise. It looks at no book and refuses nothing: a word below
- * the list's length weighs what the list says there, and one that is neither listed nor built in weighs nothing. Where the sum is more than 32 bits hold, it is 4,294,967,295; of a whole cue, and a list
- * that cue_test_weights answers with 0, it is at most 4,096,000.
+ * the list's length weighs what the list says there, and one that is neither listed nor built in weighs nothing. Where the sum is more than
+ * 32 bits hold, it is 4,294,967,295; of a whole cue, and a list that cue_test_weights answers with 0, it is at most 4,096,000.
  */
 uint32_t cue_weigh(const uint16_t *weights, size_t weights_words, const uint16_t *term, size_t term_words);
 
