@@ -8,7 +8,7 @@ ghost use Rattle.matching.specs.Bindings.{matchIn};
 ghost use Rattle.matching.specs.Safety.{Tells};
 ghost use Rattle.matching.specs.StrategyTest.{testAnswer};
 ghost use Rattle.termination.specs.Tells.{TellsWeights};
-ghost use Rattle.termination.specs.WeightTest.{weightsAnswer, weighed};
+ghost use Rattle.termination.specs.WeightTest.{weightsAnswer, weightLimit};
 ghost use lib.ListN.{length};
 ghost use Rattle.rewriting.specs.Evaluation.{unrecorded, recorded};
 ghost use Rattle.evaluation.specs.Expansion.{result, expansion, recordAfter};
@@ -221,7 +221,7 @@ pub extern "C" fn cue_test_weights(book: &[u16], weights: &[u16]) -> CueAnswer
 // What a term weighs in all, as a step limit.
 #[no_mangle]
 pub extern "C" fn cue_weigh(weights: &[u16], term: &[u16]) -> u32
-    ensures { λ r. ⌜ r ≡ weighed (now (weights .entry)) (now (term .entry)) ⌝ }
+    ensures { λ r. ⌜ r ≡ weightLimit (now (weights .entry)) (now (term .entry)) ⌝ }
 {
     weigh(weights, term)
 }

@@ -11,13 +11,13 @@ use Rattle.system.specs.System.{System}
 use Rattle.system.specs.Terms.{WellFormed}
 use Rattle.system.specs.Book.{systemOf}
 use Rattle.system.proofs.FaultNumbers.{fault-range}
-use Rattle.rewriting.specs.Evaluation.{Limits, Config, steps, unrecorded, Outcome, finished, stopped, evaluation}
-use Rattle.termination.specs.Weights.{Weights, weight, Falling}
-use Rattle.termination.specs.WeightTest.{weightsAnswer, weighed}
+use Rattle.rewriting.specs.Evaluation.{Limits, Config, steps, Outcome, finished, stopped, evaluation}
+use Rattle.termination.specs.Weights.{Weights, weight}
+use Rattle.termination.specs.WeightTest.{weightLimit}
 use Rattle.termination.specs.Tells.{FallingBook}
 use Rattle.termination.proofs.Tests.{falling-book}
 use Rattle.termination.proofs.Finite.{finished-falls, stopped-falls, never-spent}
-use Rattle.termination.proofs.Ranges.{weighed-fits}
+use Rattle.termination.proofs.Ranges.{limit-fits}
 use Rattle.evaluation.specs.Expansion.{Expansion, result, expansionOf, expansion, handedBack}
 use Rattle.evaluation.proofs.Expanding.{Checks, checks, checks-well, Course, narrow, wrong, runs, course}
 use Rattle.evaluation.proofs.Handed.{limit-number, handed, handed-numbers, handed-words}
@@ -31,17 +31,17 @@ early-other (book f) e = elim (fault-range f) [ inl z ↦ (let h = z .1 in omega
 early-other term e = omega arith
 early-other buffers e = omega arith
 
-limit-spent : (l : Limit) → limitNumber l ≡ 11 → l ≡ spent
-limit-spent spent e = refl
-limit-spent overlong e = absurd (omega arith)
-limit-spent nested e = absurd (omega arith)
-limit-spent full e = absurd (omega arith)
+only-spent : (l : Limit) → limitNumber l ≡ 11 → l ≡ spent
+only-spent spent e = refl
+only-spent overlong e = absurd (omega arith)
+only-spent nested e = absurd (omega arith)
+only-spent full e = absurd (omega arith)
 
 run-same : {r r′ : Config} → finished r ≡ finished r′ → r ≡ r′
 run-same {r} e = ap (λ o. elim o [ finished x ↦ x | stopped l h ↦ r ]) e
 
 module _ (b : List ℕ) (m : Weights) (t : List ℕ) (limits : Limits) (out work : List ℕ) where
-  -- no term is handed back: 0 is not the number, and no step is reported or 11 is not the number
+  -- no term is handed back: the number is neither 0 nor 11, and no step is reported
   refused : (x : Expansion) → (x .numbers .number ≡ 0 → ⊥) → x .numbers .steps ≡ 0 → (x .numbers .number ≡ 11 → ⊥) → Finite m t limits x
   refused x bad none other = record { paid = λ z. absurd (bad z); bounded = omega arith; unspent = λ _. other }
 
@@ -63,7 +63,7 @@ module _ (b : List ℕ) (m : Weights) (t : List ℕ) (limits : Limits) (out work
 
     ends : (o : Outcome) → evaluation s limits t ≡ o → expansion b t limits out work ≡ expansionOf out work o → Finite m t limits (expansion b t limits out work)
     ends (finished r) q e =
-        let f = finished-falls s wf m (h .weighs) (h .falling) limits t (c .whole) (c .bounded) r q in
+        let f = finished-falls s wf m (h .falling) limits t (c .whole) (c .bounded) r q in
         let n = ap (λ y. y .numbers) e in
         let k = ap (λ y. y .steps) n in
         record {
@@ -72,18 +72,18 @@ module _ (b : List ℕ) (m : Weights) (t : List ℕ) (limits : Limits) (out work
           unspent = λ _ z. let y = sym (ap (λ y. y .number) n) ∙ z in omega arith;
         }
     ends (stopped l k) q e =
-        let f = stopped-falls s wf m (h .weighs) (h .falling) limits t (c .whole) (c .bounded) l k q in
+        let f = stopped-falls s wf m (h .falling) limits t (c .whole) (c .bounded) l k q in
         let n = ap (λ y. y .numbers) e in
         let a = ap (λ y. y .steps) n in
         record {
           paid = λ z. absurd (let y = sym (ap (λ y. y .number) n) ∙ z in omega (arith, limit-number l));
           bounded = omega arith;
-          unspent = λ w z. never-spent s wf m (h .weighs) (h .falling) limits t (c .whole) (c .bounded) w k
-              (q ∙ ap (λ l. stopped l k) (limit-spent l (sym (ap (λ y. y .number) n) ∙ z)));
+          unspent = λ w z. never-spent s wf m (h .falling) limits t (c .whole) (c .bounded) w k
+              (q ∙ ap (λ l. stopped l k) (only-spent l (sym (ap (λ y. y .number) n) ∙ z)));
         }
 
   -- FINITE, of every book, list of weights, term, limits and buffers
-  pub is-finite : IsFinite m (weightsAnswer b m) t limits (expansion b t limits out work)
+  pub is-finite : IsFinite b m t limits (expansion b t limits out work)
   is-finite z = by (course b t out work (expansionOf out work (evaluation (systemOf b) limits t)))
     where
       early : {a : Answer} → Said a → (a .number ≡ 0 → ⊥) → expansion b t limits out work ≡ result a out work → Finite m t limits (expansion b t limits out work)
@@ -106,9 +106,8 @@ module _ (b : List ℕ) (m : Weights) (t : List ℕ) (limits : Limits) (out work
       by (wrong w e) = early (term-said b t w) (sym (ap (λ y. y .numbers .number) e) ∙ z)
       by (runs p e) = checks b t (p .good)
 
--- with the term's own weight as the step limit, which fits 32 bits where anything is evaluated
-pub by-weight : (b : List ℕ) (m : Weights) (t out work : List ℕ) → NeverSpent (weightsAnswer b m) (expansion b t (unrecorded (weighed m t)) out work)
-by-weight b m t out work z e =
-    let limits = unrecorded (weighed m t) in
-    let f = weighed-fits m (systemOf b) (falling-book b m z .weighs) t (spent-checks b m t limits out work e .bounded) in
-    is-finite b m t limits out work z .unspent (omega arith) e
+  -- with the term's own weight as the step limit, which fits 32 bits where anything is evaluated
+  pub by-weight : NeverSpent b m t limits (expansion b t limits out work)
+  by-weight z q e =
+      let f = limit-fits m (systemOf b) (falling-book b m z .weighs) t (spent-checks e .bounded) in
+      is-finite z .unspent (omega arith) e

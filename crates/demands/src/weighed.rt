@@ -3,7 +3,7 @@
 ghost use mathlib.Core.Path.{_≡_};
 ghost use lib.ListN.{length};
 ghost use Rattle.rewriting.specs.Evaluation.{unrecorded, recorded};
-ghost use Rattle.termination.specs.WeightTest.{weightsAnswer, weighed};
+ghost use Rattle.termination.specs.WeightTest.{weightsAnswer, weightLimit};
 ghost use Rattle.evaluation.specs.Expansion.{result, expansion, recordAfter};
 ghost use Rattle.demands.specs.Finite.{IsFinite, NeverSpent};
 use evaluation::recording::Bounds;
@@ -32,7 +32,7 @@ pub fn expand_weighed(
     ensures tested { λ r. ⌜ r .test ≡ weightsAnswer (now (book .entry)) (now (weights .entry)) ⌝ }
     ensures expanded { λ r. ⌜ result (r .answer) (now (out .exit)) (now (work .exit))
         ≡ expansion (now (book .entry)) (now (term .entry)) (unrecorded limit) (now (out .entry)) (now (work .entry)) ⌝ }
-    ensures finite { λ r. ⌜ IsFinite (now (weights .entry)) (r .test) (now (term .entry)) (unrecorded limit)
+    ensures finite { λ r. ⌜ IsFinite (now (book .entry)) (now (weights .entry)) (now (term .entry)) (unrecorded limit)
         (result (r .answer) (now (out .exit)) (now (work .exit))) ⌝ }
 {
     let s = scan_book(book);
@@ -57,8 +57,8 @@ pub fn expand_weighed_recorded(
         (now (out .entry)) (now (work .entry)) ⌝ }
     ensures told { λ _. ⌜ now («record» .exit) ≡ recordAfter (now (book .entry)) (now (term .entry))
         (recorded limit (length (now («record» .entry)))) (now (out .entry)) (now (work .entry)) (now («record» .entry)) ⌝ }
-    ensures finite { λ r. ⌜ IsFinite (now (weights .entry)) (r .test) (now (term .entry)) (recorded limit (length (now («record» .entry))))
-        (result (r .answer) (now (out .exit)) (now (work .exit))) ⌝ }
+    ensures finite { λ r. ⌜ IsFinite (now (book .entry)) (now (weights .entry)) (now (term .entry))
+        (recorded limit (length (now («record» .entry)))) (result (r .answer) (now (out .exit)) (now (work .exit))) ⌝ }
 {
     let s = scan_book(book);
     let test = test(book, s, weights);
@@ -80,9 +80,10 @@ pub fn expand_by_weight(
 ) -> Weighed
     ensures tested { λ r. ⌜ r .test ≡ weightsAnswer (now (book .entry)) (now (weights .entry)) ⌝ }
     ensures expanded { λ r. ⌜ result (r .answer) (now (out .exit)) (now (work .exit))
-        ≡ expansion (now (book .entry)) (now (term .entry)) (unrecorded (weighed (now (weights .entry)) (now (term .entry))))
+        ≡ expansion (now (book .entry)) (now (term .entry)) (unrecorded (weightLimit (now (weights .entry)) (now (term .entry))))
         (now (out .entry)) (now (work .entry)) ⌝ }
-    ensures unspent { λ r. ⌜ NeverSpent (r .test) (result (r .answer) (now (out .exit)) (now (work .exit))) ⌝ }
+    ensures unspent { λ r. ⌜ NeverSpent (now (book .entry)) (now (weights .entry)) (now (term .entry))
+        (unrecorded (weightLimit (now (weights .entry)) (now (term .entry)))) (result (r .answer) (now (out .exit)) (now (work .exit))) ⌝ }
 {
     let limit = weigh(weights, term);
     expand_weighed(book, weights, term, limit, out, work)

@@ -3,6 +3,7 @@ ghost use mathlib.Core.Path.{_≡_};
 ghost use mathlib.Core.Bool.{true};
 ghost use Prim.Native.Nat.{_+_, _*_, _≤_, _<_};
 ghost use lib.ListN.{length};
+ghost use Rattle.system.specs.Limits.{maxSteps};
 ghost use Rattle.evaluation.specs.recording.Kept.{limitsOf, met, paired};
 use system::numbers::FULL;
 use system::numbers::SPENT;
@@ -18,7 +19,7 @@ pub struct Bounds {
 // steps can be counted on.
 pub fn limit_met(bounds: Bounds, words: usize, k: u32) -> u32
     ensures number { λ r. ⌜ r ≡ met (limitsOf bounds words) k ⌝ }
-    ensures counted { λ r. ⌜ (r ≡ 0 → k < 4294967295) ⌝ }
+    ensures counted { λ r. ⌜ (r ≡ 0 → k < maxSteps) ⌝ }
 {
     if bounds.limit <= k {
         return SPENT;

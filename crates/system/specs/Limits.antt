@@ -39,3 +39,11 @@ areaWords = 12288
 -- the deepest level ("from level 64 this is 13")
 abbrev pub levels : ℕ
 levels = 64
+
+-- the largest step limit (01: allowance), which has 32 bits
+abbrev pub maxSteps : ℕ
+maxSteps = 4294967295
+
+-- "a weight from 1 to 1,000" (02, F-6)
+abbrev pub maxWeight : ℕ
+maxWeight = 1000

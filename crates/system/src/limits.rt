@@ -28,3 +28,9 @@ pub const AREA_WORDS: usize = 12288;
 
 // The deepest level of an evaluation.
 pub const LEVELS: usize = 64;
+
+// The largest step limit.
+pub const MAX_STEPS: u32 = 4294967295;
+
+// The largest weight of a symbol.
+pub const MAX_WEIGHT: usize = 1000;

@@ -43,7 +43,7 @@ pub const FULL: u32 = 16;
 
 pub const UNTRUE: u32 = 17;
 
-// The weight test (02, F-6): the list of weights is not one of the book's, or a rule does not fall.
+// The test by weights (02, F-6): what was lent is not a list of weights for the book, or a rule does not fall.
 pub const MISWEIGHED: u32 = 18;
 
 pub const RISING: u32 = 19;

@@ -6,11 +6,11 @@ use Rattle.system.specs.Parser.{read, readSystem, readRules, readEnd, readRule,
 use Rattle.system.specs.Cases.{Hold, bookB}
 use Rattle.matching.specs.StrategyTest.{firstFailing}
 use Rattle.termination.specs.Weights.{builtInWeight, wordWeight, weight, occurs}
-use Rattle.termination.specs.WeightTest.{keepsAt, below, falls, inRange, weighs, weighing, weightsAnswer, weighed}
+use Rattle.termination.specs.WeightTest.{keepsAt, below, falls, inRange, weighs, systemAnswer, weightsAnswer, weightLimit}
 use Rattle.termination.specs.Cases.{withRules, weightCases}
 
 pub weight-cases : Hold weightCases
-unfolding weightCases withRules bookB weightsAnswer weighing weighs inRange firstFailing falls below keepsAt occurs weight wordWeight builtInWeight weighed
+unfolding weightCases withRules bookB weightsAnswer systemAnswer weighs inRange firstFailing falls below keepsAt occurs weight wordWeight builtInWeight weightLimit
     read readSystem readRules readEnd readRule readSide readWords readStrategy number word learn sideFault
     symbolFault variableFault outside each times isSymbol arity isLiteral isBuiltIn isBinary builtInArity smaller
 weight-cases = refl

@@ -12,57 +12,54 @@ use Rattle.system.specs.Rules.{BuiltIn, max, min, sqr, RuleOf, listed, builtIn}
 use Rattle.system.specs.Terms.{Member, WellFormed}
 use Rattle.system.proofs.BuiltIns.{literal-is, above-literal, above-builtin, larger-below, smaller-below}
 use Rattle.system.proofs.SquareLaw.{square-below}
-use Rattle.system.proofs.Signatures.{few-symbols, few-listed}
 use Rattle.system.proofs.Members.{numbered-below}
 use Rattle.system.proofs.Rules.{built-plain, rule-formed}
-use Rattle.termination.specs.Weights.{Weights, builtInWeight, wordWeight, weight, occurs, Falls, Falling, Weighs}
-use Rattle.termination.proofs.Words.{weight-unlisted, weight-literal, weight-none, weight-cons, weight-nil}
+use Rattle.termination.specs.Weights.{Weights, builtInWeight, wordWeight, weight, Falls, Falling}
+use Rattle.termination.proofs.Words.{weight-builtin, builtin-literal, builtin-none, weight-cons, weight-nil}
 use Rattle.termination.proofs.Instances.{shared-le, weight-instance}
 use Rattle.termination.proofs.Occurrences.{occurs-none}
 
 -- a variable weighs nothing
-pub weight-variable : (m : Weights) → length m ≤ variable → (w : ℕ) → variable ≤ w → wordWeight m w ≡ 0
-weight-variable m h w l =
-    weight-none m w (omega arith) (above-literal w (omega arith) ∙ le-ltb w maximum (omega arith)) (above-builtin w (omega arith) ∙ lt-leb w square (omega arith))
-
-pub weighs-light : (m : Weights) (s : System) → WellFormed s → Weighs m s → (w : ℕ) → variable ≤ w → wordWeight m w ≡ 0
-weighs-light m s wf h = weight-variable m (let z = few-symbols s wf in let z′ = h .total in omega arith)
+pub weight-variable : (m : Weights) (w : ℕ) → variable ≤ w → wordWeight m w ≡ 0
+weight-variable m w l =
+    weight-builtin m w (omega arith)
+    ∙ builtin-none w (above-literal w (omega arith) ∙ le-ltb w maximum (omega arith)) (above-builtin w (omega arith) ∙ lt-leb w square (omega arith))
 
 -- ---- an instance of the right side is lighter than that of the left side
 
 -- of sides whose variables are numbered below n: no more is asked of the left side, which may hold a variable twice (F-7)
-sides-fall : (m : Weights) → ((w : ℕ) → variable ≤ w → wordWeight m w ≡ 0) → (n : ℕ) → n ≤ variables → (r : Rule) →
+sides-fall : (m : Weights) (n : ℕ) → n ≤ variables → (r : Rule) →
     ((w : ℕ) → Member w (r .lhs) → w < variable + n) → ((w : ℕ) → Member w (r .rhs) → w < variable + n) → Falls m r → (σ : ℕ → List ℕ) →
     weight m (instance σ (r .rhs)) < weight m (instance σ (r .lhs))
-sides-fall m light n few r left right f σ =
-    let a = weight-instance m σ light n (r .lhs) left in
-    let b = weight-instance m σ light n (r .rhs) right in
+sides-fall m n few r left right f σ =
+    let a = weight-instance m σ (weight-variable m) n (r .lhs) left in
+    let b = weight-instance m σ (weight-variable m) n (r .rhs) right in
     let c = shared-le m σ n (r .rhs) (r .lhs) (λ v k. f .kept v (omega arith)) in
     let d = f .lighter in
     omega arith
 
-module _ (m : Weights) (s : System) (wf : WellFormed s) (fit : Weighs m s) where
+module _ (m : Weights) (s : System) (wf : WellFormed s) where
   pub instance-falls : {k : ℕ} {r : Rule} → RuleOf s k r → Falls m r → (σ : ℕ → List ℕ) → weight m (instance σ (r .rhs)) < weight m (instance σ (r .lhs))
   instance-falls {k} {r} d f σ =
       let law = rule-formed s wf d in
-      sides-fall m (weighs-light m s wf fit) (law .count) (law .variableBound) r (λ w st. numbered-below (law .numbered) st) (law .known) f σ
+      sides-fall m (law .count) (law .variableBound) r (λ w st. numbered-below (law .numbered) st) (law .known) f σ
 
 -- ---- the built-in rules
 
-module _ (m : Weights) (few : length m ≤ literal) where
+module _ (m : Weights) where
   -- an operator weighs one, literals nothing
   literal-light : (n : ℕ) → n < literals → wordWeight m (literal + n) ≡ 0
-  literal-light n h = weight-literal m (literal + n) (omega arith) (literal-is n h)
+  literal-light n h = weight-builtin m (literal + n) (omega arith) ∙ builtin-literal (literal + n) (literal-is n h)
 
   two-literals : (f a b : ℕ) → literal ≤ f → builtInWeight f ≡ 1 → a < literals → b < literals → weight m (f ∷ (literal + a) ∷ (literal + b) ∷ []) ≡ 1
   two-literals f a b l e h k =
       rw (weight-cons m f ((literal + a) ∷ (literal + b) ∷ []), weight-cons m (literal + a) ((literal + b) ∷ []), weight-cons m (literal + b) [], weight-nil m)
-      (let z = weight-unlisted m f (omega arith) ∙ e in let y = literal-light a h in let x = literal-light b k in omega arith)
+      (let z = weight-builtin m f l ∙ e in let y = literal-light a h in let x = literal-light b k in omega arith)
 
   one-literal : (f a : ℕ) → literal ≤ f → builtInWeight f ≡ 1 → a < literals → weight m (f ∷ (literal + a) ∷ []) ≡ 1
   one-literal f a l e h =
       rw (weight-cons m f ((literal + a) ∷ []), weight-cons m (literal + a) [], weight-nil m)
-      (let z = weight-unlisted m f (omega arith) ∙ e in let y = literal-light a h in omega arith)
+      (let z = weight-builtin m f l ∙ e in let y = literal-light a h in omega arith)
 
   literal-alone : (n : ℕ) → n < literals → weight m ((literal + n) ∷ []) ≡ 0
   literal-alone n h = rw (weight-cons m (literal + n) [], weight-nil m) (let z = literal-light n h in omega arith)
@@ -85,7 +82,7 @@ module _ (m : Weights) (few : length m ≤ literal) where
       let r = literal-alone (squareLaw n) (square-below n h) in
       omega arith
 
-  -- BUILT-IN RULES FALL, under every list that is no longer than a book's
+  -- BUILT-IN RULES FALL, whatever the list
   pub builtin-falls : {k : ℕ} {r : Rule} → BuiltIn k r → Falls m r
   builtin-falls {k} {r} d = record {
     lighter = built-lighter d;
@@ -93,10 +90,6 @@ module _ (m : Weights) (few : length m ≤ literal) where
   }
 
 -- so all rules fall where the listed ones do
-module _ (m : Weights) (s : System) (wf : WellFormed s) (fit : Weighs m s) where
-  pub also-falls : {k : ℕ} {r : Rule} → BuiltIn k r → Falls m r
-  also-falls d = builtin-falls m (let z = few-listed s wf in let z′ = fit .total in omega arith) d
-
-  pub all-fall : ((k : ℕ) → k < length (s .rules) → Falls m (rule s k)) → Falling m s
-  all-fall h k r (listed l) = h k l
-  all-fall h k r (builtIn d) = also-falls d
+pub all-fall : (m : Weights) (s : System) → ((k : ℕ) → k < length (s .rules) → Falls m (rule s k)) → Falling m s
+all-fall m s h k r (listed l) = h k l
+all-fall m s h k r (builtIn d) = builtin-falls m d

@@ -15,15 +15,15 @@ use Rattle.rewriting.specs.Rewriting.{Step, Steps, done, step}
 use Rattle.rewriting.proofs.Done.{path-steps, theorem-path}
 use Rattle.rewriting.proofs.Contexts.{Rewrites, step-rewrites}
 use Rattle.rewriting.proofs.Stopped.{Halts, noSteps, Stopped, stopped-path}
-use Rattle.termination.specs.Weights.{Weights, weight, Falling, Weighs}
+use Rattle.termination.specs.Weights.{Weights, weight, Falling}
 use Rattle.termination.proofs.Instances.{weight-patch}
 use Rattle.termination.proofs.Falls.{instance-falls}
 
-module _ (s : System) (wf : WellFormed s) (m : Weights) (fit : Weighs m s) (falling : Falling m s) where
+module _ (s : System) (wf : WellFormed s) (m : Weights) (falling : Falling m s) where
   -- any rewrite, anywhere, by any rule
   pub rewrite-falls : {t t′ : List ℕ} → Rewrites s t t′ → weight m t′ < weight m t
   rewrite-falls x =
-      let f = instance-falls m s wf fit (x .known) (falling (x .number) (x .chosen) (x .known)) (x .σ) in
+      let f = instance-falls m s wf (x .known) (falling (x .number) (x .chosen) (x .known)) (x .σ) in
       rw (x .here, x .there) (weight-patch m (x .before) (x .behind) (instance (x .σ) (x .chosen .lhs)) (instance (x .σ) (x .chosen .rhs)) f)
 
   pub step-falls : {t t′ : List ℕ} → Whole (s .arities) t → Step s t t′ → weight m t′ < weight m t

@@ -4,12 +4,13 @@ use Prim.Native.Nat.{ℕ, suc, _+_, _≤_, _<_}
 use native.Mathlib.Omega.{arith}
 use native.Mathlib.Decide.{decLt, ℕ-discrete}
 use mathlib.Core.Path.{_≡_, refl, ap, _∙_}
+use mathlib.Core.Logic.{_⊎_, inl, inr, ⊎-elim, _↔_}
 use mathlib.Core.List.{List, [], _∷_}
 use Rattle.system.specs.Limits.{variable, variables}
 use Rattle.system.specs.Signature.{Signature}
 use Rattle.system.specs.System.{Rule}
 use Rattle.system.specs.Terms.{Member, first, later, Numbered, end, symbol, next, WellFormedRule}
-use Rattle.termination.specs.Weights.{occurs}
+use Rattle.termination.specs.Weights.{Weights, weight, occurs, Falls, Once}
 use Rattle.termination.proofs.Words.{occurs-same, occurs-other}
 
 -- a word that does not stand there
@@ -37,25 +38,17 @@ occurs-once (next {n = n} {w = w} {ws = ws} e nb) v h l = elim (ℕ-discrete v n
   | no q ↦ occurs-other (variable + v) w ws (λ y. q (omega arith)) ∙ occurs-once nb v (omega arith) l
 ]
 
--- "no placeholder is on the right twice", and none is there more often than on the left
-abbrev Once : Rule → Type 0
-Once r = (v : ℕ) → v < variables → occurs (variable + v) (r .rhs) ≤ 1
-
-abbrev Kept : Rule → Type 0
-Kept r = (v : ℕ) → v < variables → occurs (variable + v) (r .rhs) ≤ occurs (variable + v) (r .lhs)
-
 module _ (g : Signature) (r : Rule) (law : WellFormedRule g r) where
-  absent : (v : ℕ) → law .count ≤ v → occurs (variable + v) (r .rhs) ≡ 0
-  absent v h = occurs-none (variable + v) (r .rhs) (λ st. let z = law .known (variable + v) st in omega arith)
-
-  pub once-kept : Once r → Kept r
-  once-kept h v l = elim (decLt v (law .count)) [
-    | yes k ↦ let z = occurs-once (law .numbered) v (omega arith) k in let z′ = h v l in omega arith
-    | no k ↦ let z = absent v (omega arith) in omega arith
+  -- how often a variable of a well-formed rule is on the left: once, and where it is not, it is not on the right either
+  left-or-none : (v : ℕ) → (occurs (variable + v) (r .lhs) ≡ 1) ⊎ (occurs (variable + v) (r .rhs) ≡ 0)
+  left-or-none v = elim (decLt v (law .count)) [
+    | yes k ↦ inl (occurs-once (law .numbered) v (omega arith) k)
+    | no k ↦ inr (occurs-none (variable + v) (r .rhs) (λ st. let z = law .known (variable + v) st in omega arith))
   ]
 
-  pub kept-once : Kept r → Once r
-  kept-once h v l = elim (decLt v (law .count)) [
-    | yes k ↦ let z = occurs-once (law .numbered) v (omega arith) k in let z′ = h v l in omega arith
-    | no k ↦ let z = absent v (omega arith) in omega arith
-  ]
+  -- so "no placeholder is on the right twice" says the same as: none is there more often than on the left
+  pub falls-once : (m : Weights) → Falls m r ↔ ((weight m (r .rhs) < weight m (r .lhs)) × Once r)
+  falls-once m = (
+    λ f. (f .lighter, λ v l. let z = f .kept v l in ⊎-elim (λ e. omega arith) (λ e. omega arith) (left-or-none v)),
+    λ f. record { lighter = f .0; kept = λ v l. let z = f .1 v l in ⊎-elim (λ e. omega arith) (λ e. omega arith) (left-or-none v) },
+  )

@@ -6,17 +6,17 @@ use native.Mathlib.Decide.{decLt}
 use mathlib.Core.Path.{_≡_, refl, sym, ap, _∙_}
 use mathlib.Core.Bool.{Bool, true, false, cond, _&&_}
 use mathlib.Core.List.{List, [], _∷_}
-use lib.ListN.{length, getD, drop}
+use lib.ListN.{length, getD, drop, List·getD-eq-default}
 use lib.Seq.{drop-cons}
 use lib.Dec.{leb}
 use borrow.Author.Tests.{le-leb, lt-leb, leb-true, eqb-true, eq-eqb}
-use Rattle.system.specs.Limits.{sideWords, termWords}
-use Rattle.system.specs.BuiltIns.{isLiteral, isBuiltIn}
+use Rattle.system.specs.Limits.{sideWords, termWords, maxWeight}
+use Rattle.system.specs.BuiltIns.{literal, isLiteral, isBuiltIn}
 use Rattle.system.specs.System.{System}
 use Rattle.system.proofs.BuiltIns.{both}
-use Rattle.termination.specs.Weights.{Weights, maxWeight, builtInWeight, wordWeight, weight, Weighs}
-use Rattle.termination.specs.WeightTest.{inRange, weighs, weighed}
-use Rattle.termination.proofs.Words.{weight-listed, weight-unlisted, weighed-small}
+use Rattle.termination.specs.Weights.{Weights, builtInWeight, wordWeight, weight, Weighs}
+use Rattle.termination.specs.WeightTest.{inRange, weighs, weightLimit}
+use Rattle.termination.proofs.Words.{weight-name, weight-builtin, limit-small}
 
 -- ---- the range of the weights
 
@@ -84,10 +84,16 @@ builtin-light w = go (isLiteral w) (isBuiltIn w)
     go false false = omega arith
 
 module _ (m : Weights) (range : inRange m ≡ true) where
+  entry-bounded : (w : ℕ) → getD m w 0 ≤ maxWeight
+  entry-bounded w = elim (decLt w (length m)) [
+    | yes l ↦ range-at m range w l .1
+    | no l ↦ (let z = List·getD-eq-default m 0 {n = w} (omega arith) in omega arith)
+  ]
+
   pub word-bounded : (w : ℕ) → wordWeight m w ≤ maxWeight
-  word-bounded w = elim (decLt w (length m)) [
-    | yes l ↦ (let z = range-at m range w l in rw (weight-listed m w l) (z .1))
-    | no l ↦ (let z = builtin-light w in rw (weight-unlisted m w (omega arith)) (omega arith))
+  word-bounded w = elim (decLt w literal) [
+    | yes l ↦ rw (weight-name m w l) (entry-bounded w)
+    | no l ↦ (let z = builtin-light w in rw (weight-builtin m w (omega arith)) (omega arith))
   ]
 
   pub weight-bounded : (ws : List ℕ) → weight m ws ≤ maxWeight * length ws
@@ -96,13 +102,13 @@ module _ (m : Weights) (range : inRange m ≡ true) where
   weight-bounded (w ∷ ws) = let z = word-bounded w in let z′ = weight-bounded ws in omega arith
 
   -- a side of a rule fits 32 bits
-  pub side-weighed : (ws : List ℕ) → length ws ≤ sideWords → weighed m ws ≡ weight m ws
-  side-weighed ws h = weighed-small m ws (let z = weight-bounded ws in omega arith)
+  pub side-limit : (ws : List ℕ) → length ws ≤ sideWords → weightLimit m ws ≡ weight m ws
+  side-limit ws h = limit-small m ws (let z = weight-bounded ws in omega arith)
 
 -- the weight of a term, under a list for its system
 module _ (m : Weights) (s : System) (h : Weighs m s) (t : List ℕ) (l : length t ≤ termWords) where
   pub weight-fits : weight m t ≤ maxWeight * termWords
   weight-fits = let z = weight-bounded m (range-complete m (h .range)) t in omega arith
 
-  pub weighed-fits : weighed m t ≡ weight m t
-  weighed-fits = weighed-small m t (let z = weight-fits in omega arith)
+  pub limit-fits : weightLimit m t ≡ weight m t
+  limit-fits = limit-small m t (let z = weight-fits in omega arith)

@@ -21,9 +21,9 @@ use Rattle.system.proofs.FaultNumbers.{fault-range, fault-not-zero}
 use Rattle.system.proofs.layout.Accepting.{reads-system}
 use Rattle.matching.proofs.FirstFailing.{none-all, all-none, some-lowest, lowest-some}
 use Rattle.termination.specs.Weights.{Weights, Falls, Falling, RisesFirst, Weighs}
-use Rattle.termination.specs.WeightTest.{falls, weighs, firstRising, fallAnswer, misweighedAnswer, weighing, weightsAnswer}
+use Rattle.termination.specs.WeightTest.{falls, weighs, firstRising, fallAnswer, misweighedAnswer, systemAnswer, weightsAnswer, PassedWeights}
 use Rattle.termination.specs.Tells.{FallingBook, RisingBook, MisweighedBook, TellsWeights}
-use Rattle.termination.proofs.Falls.{also-falls, all-fall}
+use Rattle.termination.proofs.Falls.{builtin-falls, all-fall}
 use Rattle.termination.proofs.Decides.{falls-sound, falls-complete}
 use Rattle.termination.proofs.Ranges.{weighs-sound, weighs-complete}
 
@@ -42,7 +42,7 @@ module _ (m : Weights) (s : System) (wf : WellFormed s) (fit : Weighs m s) where
 
   -- all fall exactly if none is found that does not
   none-falling : firstRising m s ≡ none → Falling m s
-  none-falling e = all-fall m s wf fit (λ k l. falls-sound m (rule s k) (none-all (λ k. falls m (rule s k)) 0 (length (s .rules)) e k (omega arith) (omega arith)))
+  none-falling e = all-fall m s (λ k l. falls-sound m (rule s k) (none-all (λ k. falls m (rule s k)) 0 (length (s .rules)) e k (omega arith) (omega arith)))
 
   falling-none : Falling m s → firstRising m s ≡ none
   falling-none h =
@@ -63,7 +63,7 @@ module _ (m : Weights) (s : System) (wf : WellFormed s) (fit : Weighs m s) where
     where
       go : {j : ℕ} {r : Rule} → RuleOf s j r → j < k → (j < k → falls m (rule s j) ≡ true) → Falls m r
       go (listed {k = j} l) b f = falls-sound m (rule s j) (f b)
-      go (builtIn d) b f = also-falls m s wf fit d
+      go (builtIn d) b f = builtin-falls m d
 
   rises-some : {k : ℕ} → RisesFirst m s k → firstRising m s ≡ some k
   rises-some {k} h =
@@ -88,12 +88,12 @@ module _ (b : List ℕ) (m : Weights) where
 
   module _ {s : System} {i : ℕ} (e : read b ≡ ok s i) where
     pub weights-misweighed : weighs m (length (s .arities)) ≡ false → weightsAnswer b m ≡ misweighedAnswer
-    unfolding weightsAnswer weighing
-    weights-misweighed q = rw (e, weightsAnswer, q, weighing)
+    unfolding weightsAnswer systemAnswer
+    weights-misweighed q = rw (e, weightsAnswer, q, systemAnswer)
 
     pub weights-tested : weighs m (length (s .arities)) ≡ true → weightsAnswer b m ≡ fallAnswer (firstRising m s)
-    unfolding weightsAnswer weighing
-    weights-tested q = rw (e, weightsAnswer, q, weighing)
+    unfolding weightsAnswer systemAnswer
+    weights-tested q = rw (e, weightsAnswer, q, systemAnswer)
 
   -- the four ways that the test ends
   data Ends : Answer → Type 0 where
@@ -157,7 +157,7 @@ module _ (b : List ℕ) (m : Weights) where
   book-rising h = accepted-fits (h .accepted) (h .weighs) ∙ ap fallAnswer (rises-some m (systemOf b) (formed (h .accepted)) (h .weighs) (h .first))
 
   -- 0: all fall; and every such pair gets it
-  pub falling-book : weightsAnswer b m .number ≡ numberOf taken → FallingBook b m
+  pub falling-book : PassedWeights b m → FallingBook b m
   falling-book z = go ends z
     where
       go : {r : Answer} → Ends r → r .number ≡ 0 → FallingBook b m

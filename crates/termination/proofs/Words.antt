@@ -5,42 +5,42 @@ use native.Mathlib.Omega.{arith}
 use mathlib.Core.Path.{_≡_, refl, ap, _∙_}
 use mathlib.Core.Bool.{Bool, true, false, cond}
 use mathlib.Core.List.{List, [], _∷_, _++_}
-use lib.ListN.{length, getD, take, List·getD-eq-default}
+use lib.ListN.{length, getD, take}
 use lib.Seq.{take-suc}
 use lib.Dec.{eqb}
-use borrow.Author.Tests.{eq-eqb, ne-eqb}
-use Rattle.system.specs.BuiltIns.{isLiteral, isBuiltIn}
+use borrow.Author.Tests.{eq-eqb, ne-eqb, lt-ltb, le-ltb}
+use Rattle.system.specs.Limits.{maxSteps}
+use Rattle.system.specs.BuiltIns.{literal, isLiteral, isBuiltIn}
 use Rattle.system.proofs.BuiltIns.{smaller-first, smaller-second}
-use Rattle.system.proofs.Signatures.{getD-within}
 use Rattle.termination.specs.Weights.{Weights, builtInWeight, wordWeight, weight, occurs}
-use Rattle.termination.specs.WeightTest.{largest, weighed}
+use Rattle.termination.specs.WeightTest.{weightLimit}
 
 -- ---- what one word weighs
 
 module _ (m : Weights) (w : ℕ) where
-  -- a listed one
-  pub weight-listed : w < length m → wordWeight m w ≡ getD m w 0
+  -- a name: what the list says
+  pub weight-name : w < literal → wordWeight m w ≡ getD m w 0
   unfolding wordWeight
-  weight-listed h = getD-within m (builtInWeight w) 0 w h
+  weight-name h = rw (lt-ltb w literal h)
 
-  -- one that is not listed: a literal, an operator, or no symbol
-  module _ (unlisted : length m ≤ w) where
-    pub weight-unlisted : wordWeight m w ≡ builtInWeight w
-    unfolding wordWeight
-    weight-unlisted = List·getD-eq-default m (builtInWeight w) {n = w} unlisted
+  -- a word behind them, whatever the list: the built-in weight
+  pub weight-builtin : literal ≤ w → wordWeight m w ≡ builtInWeight w
+  unfolding wordWeight
+  weight-builtin h = rw (le-ltb w literal h)
 
-    pub weight-literal : isLiteral w ≡ true → wordWeight m w ≡ 0
+module _ (w : ℕ) where
+  pub builtin-literal : isLiteral w ≡ true → builtInWeight w ≡ 0
+  unfolding builtInWeight
+  builtin-literal e = rw e
+
+  module _ (other : isLiteral w ≡ false) where
+    pub builtin-operator : isBuiltIn w ≡ true → builtInWeight w ≡ 1
     unfolding builtInWeight
-    weight-literal e = weight-unlisted ∙ rw e
+    builtin-operator e = rw (other, e)
 
-    module _ (other : isLiteral w ≡ false) where
-      pub weight-operator : isBuiltIn w ≡ true → wordWeight m w ≡ 1
-      unfolding builtInWeight
-      weight-operator e = weight-unlisted ∙ rw (other, e)
-
-      pub weight-none : isBuiltIn w ≡ false → wordWeight m w ≡ 0
-      unfolding builtInWeight
-      weight-none e = weight-unlisted ∙ rw (other, e)
+    pub builtin-none : isBuiltIn w ≡ false → builtInWeight w ≡ 0
+    unfolding builtInWeight
+    builtin-none e = rw (other, e)
 
 -- ---- what words weigh
 
@@ -66,13 +66,13 @@ module _ (m : Weights) where
   weight-take (suc k) (w ∷ ws) = let z = weight-take k ws in omega arith
 
   -- as a step limit: the weight where it fits, else the largest
-  pub weighed-small : (ws : List ℕ) → weight m ws ≤ largest → weighed m ws ≡ weight m ws
-  unfolding weighed
-  weighed-small ws h = smaller-first (weight m ws) largest h
+  pub limit-small : (ws : List ℕ) → weight m ws ≤ maxSteps → weightLimit m ws ≡ weight m ws
+  unfolding weightLimit
+  limit-small ws h = smaller-first (weight m ws) maxSteps h
 
-  pub weighed-large : (ws : List ℕ) → largest < weight m ws → weighed m ws ≡ largest
-  unfolding weighed
-  weighed-large ws h = smaller-second (weight m ws) largest h
+  pub limit-large : (ws : List ℕ) → maxSteps < weight m ws → weightLimit m ws ≡ maxSteps
+  unfolding weightLimit
+  limit-large ws h = smaller-second (weight m ws) maxSteps h
 
 -- ---- how often a word stands there
 

@@ -1,9 +1,10 @@
--- Cases of the test by weights (02, F-6), over book B of 01 and books made of it. What is expected is written from 02, and worked out by hand.
+-- Cases of the test by weights (02, F-6, whose number is their label), over book B of 01 and books made of it. What is expected is written from
+-- 02, and worked out by hand.
 use Prim.Native.Nat.{ℕ}
 use mathlib.Core.List.{List, [], _∷_, _++_}
 use lib.ListN.{take, drop}
 use Rattle.system.specs.Cases.{Case, numbers, bookB, cutB}
-use Rattle.termination.specs.WeightTest.{weightsAnswer, weighed}
+use Rattle.termination.specs.WeightTest.{weightsAnswer, weightLimit}
 
 -- B with other rules: its names are flash 0, then 1 (two arguments), head 2, rest 3 (one each) and chase 4
 unfoldable pub withRules : List ℕ → List ℕ
@@ -45,7 +46,7 @@ weightCases =
     -- chase becomes then(flash, chase): whatever the list, that weighs more
     record { label = 6; got = weighingOf bookB ones; expected = 19 ∷ 0 ∷ 0 ∷ [] }
     ∷ record { label = 6; got = weighingOf bookB (1 ∷ 1 ∷ 1 ∷ 1 ∷ 1000 ∷ []); expected = 19 ∷ 0 ∷ 0 ∷ [] }
-    -- "placeholders nothing": 2 against 0, for both rules; one may be left out
+    -- "placeholders nothing": 2 against 0, for both rules; a placeholder may be dropped
     ∷ record { label = 6; got = weighingOf partsB ones; expected = 0 ∷ 0 ∷ 0 ∷ [] }
     -- "18 if the list's length is not S or a weight is out of range", "from 1 to 1,000"
     ∷ record { label = 6; got = weighingOf partsB (1 ∷ 1 ∷ 1 ∷ 1 ∷ []); expected = 18 ∷ 0 ∷ 0 ∷ [] }
@@ -72,7 +73,7 @@ weightCases =
     -- no rule, and so none that does not fall
     ∷ record { label = 6; got = weighingOf (withRules (0 ∷ [])) ones; expected = 0 ∷ 0 ∷ 0 ∷ [] }
     -- "the first cue's total weight": head(rest(chase)); higher of(level 3, level 200); what is no symbol
-    ∷ record { label = 6; got = weighed headTwo (2 ∷ 3 ∷ 4 ∷ []) ∷ []; expected = 4 ∷ [] }
-    ∷ record { label = 6; got = weighed headTwo (16640 ∷ 16387 ∷ 16584 ∷ []) ∷ []; expected = 1 ∷ [] }
-    ∷ record { label = 6; got = weighed headTwo (5 ∷ 16643 ∷ 32768 ∷ []) ∷ []; expected = 0 ∷ [] }
+    ∷ record { label = 6; got = weightLimit headTwo (2 ∷ 3 ∷ 4 ∷ []) ∷ []; expected = 4 ∷ [] }
+    ∷ record { label = 6; got = weightLimit headTwo (16640 ∷ 16387 ∷ 16584 ∷ []) ∷ []; expected = 1 ∷ [] }
+    ∷ record { label = 6; got = weightLimit headTwo (5 ∷ 16643 ∷ 32768 ∷ []) ∷ []; expected = 0 ∷ [] }
     ∷ []

@@ -2,14 +2,16 @@
 use Prim.Native.Nat.{ℕ}
 use mathlib.Core.Path.{_≡_}
 use mathlib.Core.Logic.{_↔_}
+use mathlib.Core.Option.{none, some}
 use mathlib.Core.List.{List}
 use lib.ListN.{length}
 use Rattle.system.specs.declared.Answer.{Answer}
-use Rattle.system.specs.Numbers.{Fault, taken, misweighed, rising, numberOf}
+use Rattle.system.specs.Numbers.{Fault}
 use Rattle.system.specs.Book.{systemOf}
 use Rattle.system.specs.Parser.{ok, fault, read}
 use Rattle.system.specs.Answers.{answerOf}
 use Rattle.termination.specs.Weights.{Weights, Falling, RisesFirst, Weighs}
+use Rattle.termination.specs.WeightTest.{fallAnswer, misweighedAnswer}
 
 -- of a book: it is accepted, and the list is one of weights for its system, under which all rules fall
 pub record FallingBook (b : List ℕ) (m : Weights) : Type 0 where
@@ -23,7 +25,7 @@ pub record RisingBook (b : List ℕ) (m : Weights) (k : ℕ) : Type 0 where
   pub weighs : Weighs m (systemOf b)
   pub first : RisesFirst m (systemOf b) k
 
--- or the list is none of weights for it
+-- or it is not a list of weights for the book
 pub record MisweighedBook (b : List ℕ) (m : Weights) : Type 0 where
   pub accepted : read b ≡ ok (systemOf b) (length b)
   pub misweighed : Weighs m (systemOf b) → ⊥
@@ -32,9 +34,9 @@ pub record MisweighedBook (b : List ℕ) (m : Weights) : Type 0 where
 pub record TellsWeights (b : List ℕ) (m : Weights) (r : Answer) : Type 0 where
   -- a book that the reader refuses gets the reader's answer
   pub refused : (f : Fault) (i : ℕ) → read b ≡ fault f i → r ≡ answerOf (fault f i)
-  -- 18 exactly for an accepted book and a list that is none for it
-  pub misweighed : (r ≡ record { number = numberOf misweighed; place = 0; steps = 0 }) ↔ MisweighedBook b m
+  -- 18 exactly for an accepted book and what is not a list of weights for it
+  pub misweighed : (r ≡ misweighedAnswer) ↔ MisweighedBook b m
   -- 19 at k exactly if k is "the lowest rule that doesn't fall"
-  pub rising : (k : ℕ) → (r ≡ record { number = numberOf rising; place = k; steps = 0 }) ↔ RisingBook b m k
+  pub rising : (k : ℕ) → (r ≡ fallAnswer (some k)) ↔ RisingBook b m k
   -- 0 exactly if all fall
-  pub falling : (r ≡ record { number = numberOf taken; place = 0; steps = 0 }) ↔ FallingBook b m
+  pub falling : (r ≡ fallAnswer none) ↔ FallingBook b m

@@ -1,19 +1,20 @@
 -- The termination test by weights as a computation, and what it answers.
 use Prim.Native.Nat.{ℕ, zero, suc, _+_}
+use mathlib.Core.Path.{_≡_}
 use mathlib.Core.Bool.{Bool, true, false, _&&_}
 use mathlib.Core.Option.{Option, none, some}
 use mathlib.Core.List.{List, [], _∷_}
 use lib.ListN.{length}
 use lib.Dec.{ltb, leb, eqb}
 use Rattle.system.specs.declared.Answer.{Answer}
-use Rattle.system.specs.Limits.{variable, variables}
+use Rattle.system.specs.Limits.{variable, variables, maxSteps, maxWeight}
 use Rattle.system.specs.Numbers.{taken, misweighed, rising, numberOf}
 use Rattle.system.specs.BuiltIns.{smaller}
 use Rattle.system.specs.System.{System, Rule, rule}
 use Rattle.system.specs.Parser.{ok, fault, read}
 use Rattle.system.specs.Answers.{answerOf}
 use Rattle.matching.specs.StrategyTest.{firstFailing}
-use Rattle.termination.specs.Weights.{Weights, maxWeight, weight, occurs}
+use Rattle.termination.specs.Weights.{Weights, weight, occurs}
 
 -- whether variable v is on the right at most as often as on the left
 unfoldable pub keepsAt : Rule → ℕ → Bool
@@ -52,20 +53,20 @@ fallAnswer (some k) = record { number = numberOf rising; place = k; steps = 0 }
 abbrev pub misweighedAnswer : Answer
 misweighedAnswer = record { number = numberOf misweighed; place = 0; steps = 0 }
 
--- over a system
-unfoldable pub weighing : Weights → System → Answer
-weighing m s = elim (weighs m (length (s .arities))) [ false ↦ misweighedAnswer | true ↦ fallAnswer (firstRising m s) ]
+-- the test of a system that was read
+unfoldable pub systemAnswer : Weights → System → Answer
+systemAnswer m s = elim (weighs m (length (s .arities))) [ false ↦ misweighedAnswer | true ↦ fallAnswer (firstRising m s) ]
 
 -- "Turned away: after the book, 18 ..; then 19"
 unfoldable pub weightsAnswer : List ℕ → Weights → Answer
-weightsAnswer book m = elim (read book) [ fault f i ↦ answerOf (fault f i) | ok s i ↦ weighing m s ]
+weightsAnswer book m = elim (read book) [ fault f i ↦ answerOf (fault f i) | ok s i ↦ systemAnswer m s ]
+
+-- a list by which a book passed: the test answers 0
+abbrev pub PassedWeights : List ℕ → Weights → Type 0
+PassedWeights book m = weightsAnswer book m .number ≡ numberOf taken
 
 -- ---- the weight of a term as a step limit ("an allowance of the first cue's weight")
 
--- the most that 32 bits hold
-abbrev pub largest : ℕ
-largest = 4294967295
-
 -- the weight, where it fits 32 bits, and else the largest step limit. (Of a term that is expanded it fits: `weight-fits`.)
-unfoldable pub weighed : Weights → List ℕ → ℕ
-weighed m ws = smaller (weight m ws) largest
+unfoldable pub weightLimit : Weights → List ℕ → ℕ
+weightLimit m ws = smaller (weight m ws) maxSteps

@@ -4,9 +4,9 @@ use mathlib.Core.Path.{_≡_}
 use mathlib.Core.Bool.{cond}
 use mathlib.Core.List.{List, [], _∷_}
 use lib.ListN.{length, getD}
-use lib.Dec.{eqb}
-use Rattle.system.specs.Limits.{variable, variables}
-use Rattle.system.specs.BuiltIns.{isLiteral, isBuiltIn}
+use lib.Dec.{ltb, eqb}
+use Rattle.system.specs.Limits.{variable, variables, maxWeight}
+use Rattle.system.specs.BuiltIns.{literal, isLiteral, isBuiltIn}
 use Rattle.system.specs.System.{System, Rule, rule}
 use Rattle.system.specs.Rules.{RuleOf}
 
@@ -14,17 +14,14 @@ use Rattle.system.specs.Rules.{RuleOf}
 abbrev pub Weights : Type 0
 Weights = List ℕ
 
--- "from 1 to 1,000"
-abbrev pub maxWeight : ℕ
-maxWeight = 1000
-
 -- "levels weigh 0, the built-in words 1"
 unfoldable pub builtInWeight : ℕ → ℕ
 builtInWeight w = cond (isLiteral w) 0 (cond (isBuiltIn w) 1 0)
 
--- what a word weighs: of a word that is not listed the built-in weight, and what is no symbol ("placeholders nothing") has none
+-- what a word weighs: below the literals, where the names are, what the list says, and nothing where it has no entry; from there on the
+-- built-in weight. What is no symbol weighs nothing ("placeholders nothing")
 unfoldable pub wordWeight : Weights → ℕ → ℕ
-wordWeight m w = getD m w (builtInWeight w)
+wordWeight m w = cond (ltb w literal) (getD m w 0) (builtInWeight w)
 
 -- what the words of a side weigh "in all", and "the first cue's total weight"
 unfoldable pub weight : Weights → List ℕ → ℕ
@@ -37,11 +34,15 @@ occurs v [] = 0
 occurs v (w ∷ ws) = cond (eqb w v) 1 0 + occurs v ws
 
 -- "A rule falls if its left side's words weigh more in all than its right side's (placeholders nothing) and no placeholder is on the right
--- twice". As a left side holds each variable once, that is: none is on the right more often than on the left (`kept-once`, `once-kept`),
--- which is what F-7, where a left side may hold one twice, asks for: "a placeholder may be on the right as often as on the left"
+-- twice". As a left side holds each variable once, that is: none is on the right more often than on the left (`falls-once`), which is what F-7,
+-- where a left side may hold one twice, asks for: "a placeholder may be on the right as often as on the left"
 pub record Falls (m : Weights) (r : Rule) : Type 0 where
   pub lighter : weight m (r .rhs) < weight m (r .lhs)
   pub kept : (v : ℕ) → v < variables → occurs (variable + v) (r .rhs) ≤ occurs (variable + v) (r .lhs)
+
+-- "no placeholder is on the right twice"
+abbrev pub Once : Rule → Type 0
+Once r = (v : ℕ) → v < variables → occurs (variable + v) (r .rhs) ≤ 1
 
 -- "If all fall", the built-in rules too
 abbrev pub Falling : Weights → System → Type 0

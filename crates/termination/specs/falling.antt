@@ -1,2 +1,2 @@
 -- Whether a rule falls: inner.
-pub mod Sides
+pub mod Counts

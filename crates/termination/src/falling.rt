@@ -6,7 +6,7 @@ ghost use lib.ListN.{length};
 ghost use Rattle.system.specs.Limits.{variables};
 ghost use Rattle.termination.specs.WeightTest.{keepsAt, below, falls, inRange};
 ghost use Rattle.matching.specs.rules.Searches.{NumberedSide};
-ghost use Rattle.termination.specs.falling.Sides.{Counts, covers};
+ghost use Rattle.termination.specs.falling.Counts.{Counts, covers};
 use crate::weighing::weigh;
 use system::limits::VARIABLE;
 use system::limits::VARIABLES;

@@ -9,14 +9,12 @@ use crate::falling::falls;
 use system::Answer;
 use system::Shape;
 use system::layout::rules::rule_at;
+use system::limits::MAX_WEIGHT;
 use system::numbers::MISWEIGHED;
 use system::numbers::RISING;
 use system::numbers::TAKEN;
 use system::reader::Scan;
 use system::words::wide;
-
-// The largest weight.
-const MAX_WEIGHT: usize = 1000;
 
 // Whether each weight is from 1 to 1,000.
 fn in_range(weights: &[u16]) -> bool

@@ -15,7 +15,7 @@ use Rattle.system.specs.System.{Rule}
 use Rattle.termination.specs.Weights.{occurs}
 use Rattle.termination.specs.WeightTest.{keepsAt, below}
 use Rattle.matching.specs.rules.Searches.{NumberedSide}
-use Rattle.termination.specs.falling.Sides.{Counts, covers}
+use Rattle.termination.specs.falling.Counts.{Counts, covers}
 use Rattle.termination.proofs.Words.{occurs-nil, occurs-next, occurs-skip, occurs-take, occurs-length}
 use Rattle.termination.proofs.Decides.{below-fails, all-below, below-same}
 

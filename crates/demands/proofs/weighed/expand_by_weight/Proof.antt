@@ -1,7 +1,8 @@
 -- `weighed::expand_by_weight` meets its contract.
-use mathlib.Core.Path.{sym, ap, _∙_, subst₂}
+use mathlib.Core.Path.{sym, ap, _∙_, subst}
 use borrow.Author.Needs.{needs}
 use Rattle.rewriting.specs.Evaluation.{unrecorded}
+use Rattle.termination.specs.WeightTest.{weightLimit}
 use Rattle.evaluation.specs.Expansion.{expansion}
 use Rattle.demands.specs.Finite.{NeverSpent}
 use Rattle.demands.proofs.Finite.{by-weight}
@@ -16,8 +17,8 @@ lent c = c .before .before .before
 abbrev entry : tie.After-weigh → tie.Start
 entry c = lent c .before .before .before
 
-abbrev weighed : tie.After-expand-weighed → tie.After-weigh
-weighed c = c .before .before .before
+abbrev limited : tie.After-expand-weighed → tie.After-weigh
+limited c = c .before .before .before
 
 abbrev expanded : tie.After-slice-known4 → tie.After-expand-weighed
 expanded c = c .before .before .before .before
@@ -25,15 +26,17 @@ expanded c = c .before .before .before .before
 returns : tie.Need-returns
 returns c =
     let k = expanded c in
-    let w = weighed k in
+    let w = limited k in
     let a = entry w .args in
     let x = k .expand-weighed .ensures in
     let b = a .book .now in
     let t = a .term .now in
     let o = a .out .now in
     let s = a .work .now in
+    let m = a .weights .now in
+    let l = unrecorded (weightLimit m t) in
     let e = x .1 .0 ∙ ap (λ n. expansion b t (unrecorded n) o s) (w .weigh .ensures) in
-    (x .0, (e, subst₂ NeverSpent (sym (x .0)) (sym e) (by-weight b (a .weights .now) t o s)))
+    (x .0, (e, subst (NeverSpent b m t l) (sym e) (by-weight b m t l o s)))
 
 pub expand-by-weight-spec : {M : Type 1} → statement M
 expand-by-weight-spec =

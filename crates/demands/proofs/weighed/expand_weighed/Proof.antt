@@ -1,5 +1,5 @@
 -- `weighed::expand_weighed` meets its contract.
-use mathlib.Core.Path.{sym, subst₂}
+use mathlib.Core.Path.{sym, subst}
 use borrow.Author.Needs.{needs}
 use Rattle.rewriting.specs.Evaluation.{unrecorded}
 use Rattle.demands.specs.Finite.{IsFinite}
@@ -27,7 +27,7 @@ returns c =
     let m = a .weights .now in
     let v = a .term .now in
     let l = unrecorded (a .limit) in
-    let finite = subst₂ (λ y x. IsFinite m y v l x) (sym t) (sym e) (is-finite (a .book .now) m v l (a .out .now) (a .work .now)) in
+    let finite = subst (IsFinite (a .book .now) m v l) (sym e) (is-finite (a .book .now) m v l (a .out .now) (a .work .now)) in
     (t, (e, finite))
 
 pub expand-weighed-spec : {M : Type 1} → statement M

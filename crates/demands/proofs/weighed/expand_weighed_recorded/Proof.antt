@@ -1,5 +1,5 @@
 -- `weighed::expand_weighed_recorded` meets its contract.
-use mathlib.Core.Path.{sym, subst₂}
+use mathlib.Core.Path.{sym, subst}
 use lib.ListN.{length}
 use borrow.Author.Needs.{needs}
 use Rattle.rewriting.specs.Evaluation.{recorded}
@@ -34,7 +34,7 @@ returns c =
     let m = a .weights .now in
     let v = a .term .now in
     let l = recorded (a .limit) (length (a .«record» .now)) in
-    let finite = subst₂ (λ y x. IsFinite m y v l x) (sym t) (sym (e .0)) (is-finite (a .book .now) m v l (a .out .now) (a .work .now)) in
+    let finite = subst (IsFinite (a .book .now) m v l) (sym (e .0)) (is-finite (a .book .now) m v l (a .out .now) (a .work .now)) in
     (t, (e .0, (e .1, finite)))
 
 pub expand-weighed-recorded-spec : {M : Type 1} → statement M

@@ -7,7 +7,7 @@ use lib.ListN.{length, getD, take}
 use lib.Seq.{take-all}
 use borrow.Author.Needs.{needs}
 use Rattle.system.specs.Limits.{variable, variables}
-use Rattle.termination.specs.falling.Sides.{Counts}
+use Rattle.termination.specs.falling.Counts.{Counts}
 use Rattle.termination.proofs.falling.Counting.{numbered, counts-symbol, counts-variable, count-small}
 use Rattle.termination.proofs.falling.count_up.Statement.{statement}
 use Rattle.termination.proofs.falling.count_up.Tie as tie

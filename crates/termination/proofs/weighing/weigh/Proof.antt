@@ -6,13 +6,13 @@ use lib.ListN.{length, take}
 use lib.Seq.{take-all}
 use borrow.Author.Needs.{needs}
 use Rattle.termination.specs.Weights.{weight}
-use Rattle.termination.specs.WeightTest.{largest}
-use Rattle.termination.proofs.Words.{weight-nil, weight-next, weight-take, weighed-small, weighed-large}
+use Rattle.system.specs.Limits.{maxSteps}
+use Rattle.termination.proofs.Words.{weight-nil, weight-next, weight-take, limit-small, limit-large}
 use Rattle.termination.proofs.weighing.weigh.Statement.{statement}
 use Rattle.termination.proofs.weighing.weigh.Tie as tie
 
 abbrev Inv-loop : tie.InvT-loop
-Inv-loop weights words j₀ sum₀ j sum = (j ≤ length words) × (sum ≤ largest) × (sum ≡ weight weights (take j words))
+Inv-loop weights words j₀ sum₀ j sum = (j ≤ length words) × (sum ≤ maxSteps) × (sum ≡ weight weights (take j words))
 
 abbrev μ-loop : tie.MeasureT-loop
 μ-loop weights words j₀ sum₀ j sum = length words - j
@@ -54,7 +54,7 @@ returns c =
     let a = entry h .args in
     let z = next w in
     let z′ = weight-take (a .weights .now) (h .loop .j + 1) (a .words .now) in
-    sym (weighed-large (a .weights .now) (a .words .now) (omega arith))
+    sym (limit-large (a .weights .now) (a .words .now) (omega arith))
 
 add-sum : tie.Need-add-sum Inv-loop μ-loop
 add-sum c = search needs
@@ -67,7 +67,7 @@ returns-2 c =
     let h = c .before in
     let a = entry h .args in
     let all = ap (weight (a .weights .now)) (take-all (h .loop .j) (a .words .now) (omega arith)) in
-    h .loop .inv .2 ∙ all ∙ sym (weighed-small (a .weights .now) (a .words .now) (omega arith))
+    h .loop .inv .2 ∙ all ∙ sym (limit-small (a .weights .now) (a .words .now) (omega arith))
 
 pub weigh-spec : {M : Type 1} → statement M
 weigh-spec =

@@ -1,9 +1,9 @@
 -- `weighing::word_weight` meets its contract.
 use mathlib.Core.Path.{sym, ap, _∙_}
 use native.Mathlib.Omega.{arith}
-use lib.ListN.{getD}
+use lib.ListN.{getD, List·getD-eq-default}
 use borrow.Author.Needs.{needs}
-use Rattle.termination.proofs.Words.{weight-listed, weight-literal, weight-operator, weight-none}
+use Rattle.termination.proofs.Words.{weight-name, weight-builtin}
 use Rattle.termination.proofs.weighing.word_weight.Statement.{statement}
 use Rattle.termination.proofs.weighing.word_weight.Tie as tie
 
@@ -15,31 +15,28 @@ returns : tie.Need-returns
 returns c =
     let w = c .before .before in
     let a = entry w .args in
-    ap (λ i. getD (a .weights .now) i 0) (w .wide .ensures .0) ∙ sym (weight-listed (a .weights .now) (a .w) (omega arith))
+    c .built-in-weight .ensures ∙ sym (weight-builtin (a .weights .now) (a .w) (let e = w .wide .ensures .0 in let l = c .before .if1 .taken in omega arith))
 
 returns-2 : tie.Need-returns-2
 returns-2 c =
-    let w = c .before .before .before in
+    let n = c .before .before in
+    let w = n .before in
     let a = entry w .args in
-    sym (weight-literal (a .weights .now) (a .w) (omega arith) (sym (c .before .is-literal .ensures) ∙ c .if2 .taken))
+    let e = w .wide .ensures .0 in
+    ap (λ i. getD (a .weights .now) i 0) e ∙ sym (weight-name (a .weights .now) (a .w) (let l = n .if1 .left in omega arith))
 
 returns-3 : tie.Need-returns-3
 returns-3 c =
-    let l = c .before .before .before in
-    let w = l .before .before in
+    let n = c .before in
+    let w = n .before in
     let a = entry w .args in
-    sym (weight-operator (a .weights .now) (a .w) (omega arith) (sym (l .is-literal .ensures) ∙ c .before .before .if2 .left) (sym (c .before .is-built-in .ensures) ∙ c .if3 .taken))
-
-returns-4 : tie.Need-returns-4
-returns-4 c =
-    let l = c .before .before .before in
-    let w = l .before .before in
-    let a = entry w .args in
-    sym (weight-none (a .weights .now) (a .w) (omega arith) (sym (l .is-literal .ensures) ∙ c .before .before .if2 .left) (sym (c .before .is-built-in .ensures) ∙ c .if3 .left))
+    let e = w .wide .ensures .0 in
+    let l = n .if1 .left in
+    let h = c .if2 .left in
+    sym (weight-name (a .weights .now) (a .w) (omega arith) ∙ List·getD-eq-default (a .weights .now) 0 {n = a .w} (omega arith))
 
 pub word-weight-spec : {M : Type 1} → statement M
 word-weight-spec =
     tie.close
     (tie.spec
-    (λ c κs. search needs) (λ c. search needs) (λ c. search needs) returns (λ c κs. search needs) returns-2 (λ c κs. search needs)
-    returns-3 returns-4)
+    (λ c κs. search needs) (λ c κs. search needs) returns (λ c. search needs) (λ c. search needs) returns-2 returns-3)
