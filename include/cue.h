@@ -198,9 +198,10 @@ cue_answer cue_test_strategies(const uint16_t *book, size_t book_words);
 cue_answer cue_test_weights(const uint16_t *book, size_t book_words, const uint16_t *weights, size_t weights_words);
 
 /*
- * What the words of a cue weigh in all by such a list: the allowance of that promise. It looks at no book and refuses nothing: a word below
- * the list's length weighs what the list says there, and one that is neither listed nor built in weighs nothing. Where the sum is more than
- * 32 bits hold, it is 4,294,967,295; of a whole cue, and a list that cue_test_weights answers with 0, it is at most 4,096,000.
+ * What the words of a cue weigh in all by such a list: the allowance of that promise. It looks at no book and refuses nothing: a name, which
+ * is any word below CUE_LEVEL, weighs what the list says, nothing where it has no entry; the built-in words weigh one, levels, placeholders
+ * and all others nothing, however long the list is. Where the sum is more than 32 bits hold, it is 4,294,967,295; of a whole cue, and a list
+ * that cue_test_weights answers with 0, it is at most 4,096,000.
  */
 uint32_t cue_weigh(const uint16_t *weights, size_t weights_words, const uint16_t *term, size_t term_words);
 

@@ -261,21 +261,26 @@ fn weighed(t: &mut Check) {
     t.weighs("F-6, no words of a book", &list, &[5, 256, 16383, 16643, 32767, 32768, 32783, 65535], 0);
     t.weighs("F-6, no list", &[], &[0, 4, 16384, 16640], 1);
     t.weighs("F-6, weights out of range", &[0, 65535, 1001], &[0, 1, 2, 3], 65535 + 1001);
-    // a longer list than a book's reaches the levels, the built-in words and all others, and is asked first
-    let edges = [16383, 16384, 16639, 16640, 16642, 16643, 32768, 65535];
-    for (length, reached, others) in [
-        (16383, 0, 2),
-        (16384, 1, 2),
-        (16385, 2, 2),
-        (16640, 3, 2),
-        (16641, 4, 1),
-        (16643, 5, 0),
-        (16644, 6, 0),
-        (65535, 7, 0),
-        (65536, 8, 0),
+    // two words below the levels, 7 each where the list reaches them; then two levels, the three built-in words and four others, which a list
+    // longer than any book's reaches too: 0, 1 and nothing each all the same
+    let edges = [16382, 16383, 16384, 16639, 16640, 16641, 16642, 16643, 32767, 32768, 65535];
+    for (length, sum) in [
+        (16382, 3),
+        (16383, 7 + 3),
+        (16384, 7 + 7 + 3),
+        (16385, 17),
+        (16640, 17),
+        (16641, 17),
+        (16642, 17),
+        (16643, 17),
+        (16644, 17),
+        (32769, 17),
+        (65535, 17),
+        (65536, 17),
     ] {
-        t.weighs(&format!("F-6, a list of {length}"), &vec![7; length], &edges, 7 * reached + others);
+        t.weighs(&format!("F-6, a list of {length}"), &vec![7; length], &edges, sum);
     }
+    t.weighs("F-6, a list of nothing but 0", &[0; 65536], &edges, 3);
     // 65,537 times 65,535 is 4,294,967,295, which 32 bits just hold
     let heavy = |words: usize| vec![0; words];
     t.weighs("F-6, 65,536 heavy words", &[65535], &heavy(65536), 4_294_901_760);

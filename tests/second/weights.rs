@@ -1,6 +1,7 @@
-//! The test for finite shows, and what words weigh, straight from the paper's text (02, F-6).
+//! The test for finite shows, and what words weigh, straight from the paper's text (02, F-6). Two things that `weigh` needs are not 02's, but
+//! the header's text for cue_weigh: the cap at 32 bits, and that a word with no entry weighs nothing.
 
-use crate::book::{built_in, is_level, Book, Plant, Rule, Side};
+use crate::book::{built_in, is_level, Book, Plant, Rule, Side, LEVEL};
 
 /// "A lent list that gives each name a weight from 1 to 1,000."
 pub const LIGHTEST: u16 = 1;
@@ -19,13 +20,14 @@ impl Weights<'_> {
         Weights { list, level: 0, built_in: 1 }
     }
 
-    /// Any word, of a book or not, under any list: what the list says of it comes first.
+    /// Any word, of a book or not, under any list. "Levels weigh 0, the built-in words 1" and "placeholders nothing" hold of every list, so the
+    /// words from the levels on never look at it.
     fn word(&self, w: u16) -> u64 {
-        match self.list.get(w as usize) {
-            Some(&weight) => u64::from(weight),
-            None if is_level(w) => self.level,
-            None if built_in(w).is_some() => self.built_in,
-            None => 0,
+        match w {
+            _ if w < LEVEL => self.list.get(w as usize).map_or(0, |&weight| u64::from(weight)),
+            _ if is_level(w) => self.level,
+            _ if built_in(w).is_some() => self.built_in,
+            _ => 0,
         }
     }
 
@@ -85,8 +87,7 @@ pub fn test(book: &Book, list: &[u16], plant: Plant) -> (u32, usize) {
     }
 }
 
-/// What words weigh in all, at most what 32 bits hold. Nothing is asked of the list or of the words: a word that is neither in the list nor
-/// built in weighs nothing.
+/// What words weigh in all, at most what 32 bits hold. Nothing is asked of the list or of the words.
 pub fn weigh(list: &[u16], words: &[u16]) -> u32 {
     let weights = Weights::of(list);
     let sum: u64 = words.iter().map(|&w| weights.word(w)).sum();
