@@ -48,7 +48,7 @@ extern "C" {
 #define CUE_VARIABLES 16 /* the most placeholders of a rule */
 #define CUE_VARIABLE 32768 /* placeholder k is the word 32768 + k */
 #define CUE_LEVELS 64 /* the deepest level at which an argument is evaluated; the whole cue is level 1 */
-#define CUE_WEIGHT 1000 /* the largest weight of a name */
+#define CUE_MAX_WEIGHT 1000 /* the largest weight of a name */
 
 /*
  * Dimmer levels, and the built-in words for them. They may stand in cues and on both sides of rules, but a left side does not start with
@@ -83,7 +83,7 @@ enum {
   CUE_BUILTIN = 15,   /* a left side starts with a level or a built-in word */
   CUE_RECORD_FULL = 16, /* a step finds fewer than two words left in the record */
   CUE_NO_STEP = 17,   /* a pair of a record is half, or tells of no step */
-  CUE_WEIGHTS = 18,   /* the list of weights does not have one weight from 1 to 1,000 for each name */
+  CUE_MISWEIGHED = 18, /* the list of weights does not have one weight from 1 to 1,000 for each name */
   CUE_RISING = 19     /* a rule does not fall */
 };
 
@@ -179,9 +179,8 @@ cue_answer cue_test_strategies(const uint16_t *book, size_t book_words);
 
 /*
  * The test by weights: whether a book can't run on. The list has a weight from 1 to 1,000 for each name of the book, name 0 first. A rule
- * falls if its left side's words weigh more in all than its right side's, and no placeholder is on the right more often than on the left,
- * which is: twice. A name weighs what the list says, a placeholder or a level nothing, "higher of", "lower of" and "curve" one each. So the
- * built-in rules always fall.
+ * falls if its left side's words weigh more in all than its right side's, and no placeholder is on the right twice. A name weighs what the
+ * list says, a placeholder or a level nothing, "higher of", "lower of" and "curve" one each. So the built-in rules always fall.
  *
  *   number    place                        what it says
  *   0         0                            every rule falls

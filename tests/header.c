@@ -243,21 +243,21 @@ static void tight(const char *what, size_t term_words, uint32_t steps, uint32_t 
 /* 02, F-6: the test by weights, and what a cue weighs */
 static void weights(void) {
   size_t i;
-  check("the largest weight", weighs(3, 1, CUE_WEIGHT, 3), CUE_TAKEN);
-  check("a weight too large", weighs(3, 1, CUE_WEIGHT + 1, 3), CUE_WEIGHTS);
-  check("a weight too large, of the first name", weighs(3, CUE_WEIGHT + 1, 1, 3), CUE_WEIGHTS);
-  check("no weight", weighs(3, 1, 0, 3), CUE_WEIGHTS);
-  check("a weight too few", weighs(3, 1, 1, 2), CUE_WEIGHTS);
-  check("a weight too many", weighs(3, 1, 1, 4), CUE_WEIGHTS);
-  check("an empty list", weighs(3, 1, 1, 0), CUE_WEIGHTS);
-  check("a weight for each of the most names", weighs(CUE_SYMBOLS, CUE_WEIGHT, 1, CUE_SYMBOLS), CUE_TAKEN);
+  check("the largest weight", weighs(3, 1, CUE_MAX_WEIGHT, 3), CUE_TAKEN);
+  check("a weight too large", weighs(3, 1, CUE_MAX_WEIGHT + 1, 3), CUE_MISWEIGHED);
+  check("a weight too large, of the first name", weighs(3, CUE_MAX_WEIGHT + 1, 1, 3), CUE_MISWEIGHED);
+  check("no weight", weighs(3, 1, 0, 3), CUE_MISWEIGHED);
+  check("a weight too few", weighs(3, 1, 1, 2), CUE_MISWEIGHED);
+  check("a weight too many", weighs(3, 1, 1, 4), CUE_MISWEIGHED);
+  check("an empty list", weighs(3, 1, 1, 0), CUE_MISWEIGHED);
+  check("a weight for each of the most names", weighs(CUE_SYMBOLS, CUE_MAX_WEIGHT, 1, CUE_SYMBOLS), CUE_TAKEN);
 
   /* rule 0 puts name 0 for name 1, rule 1 name 1 for itself */
   one_step();
   falls("a rule that stays as heavy", 1, 2, CUE_RISING, 1);
   falls("a rule that stays as heavy, the lowest", 2, 2, CUE_RISING, 0);
-  falls("a rule that gets heavier", CUE_WEIGHT, 1, CUE_RISING, 0);
-  falls("the list comes before the rules", 0, 1, CUE_WEIGHTS, 0);
+  falls("a rule that gets heavier", CUE_MAX_WEIGHT, 1, CUE_RISING, 0);
+  falls("the list comes before the rules", 0, 1, CUE_MISWEIGHED, 0);
   words--;
   falls("the book comes before the list", 0, 1, CUE_SHORT, words);
   words -= 3;
@@ -275,16 +275,16 @@ static void weights(void) {
   higher(0);
   falls("a placeholder that is dropped", 1, 2, CUE_TAKEN, 0);
   higher(2);
-  falls("a placeholder that is twice on the right", 1, CUE_WEIGHT, CUE_RISING, 0);
+  falls("a placeholder that is twice on the right", 1, CUE_MAX_WEIGHT, CUE_RISING, 0);
 
   /* of words that no list of a book names the built-in ones alone weigh; and the most that a sum is told */
   record[0] = CUE_LEVEL, record[1] = CUE_LEVEL + 255, record[2] = CUE_CURVE + 1, record[3] = CUE_VARIABLE, record[4] = 1, record[5] = 65535;
-  check("words that weigh nothing", heaps(CUE_WEIGHT, 6), 0);
+  check("words that weigh nothing", heaps(CUE_MAX_WEIGHT, 6), 0);
   record[1] = CUE_HIGHER_OF, record[2] = CUE_LOWER_OF, record[3] = CUE_CURVE, record[5] = 0;
-  check("the three built-in words and a name", heaps(CUE_WEIGHT, 6), 3 + CUE_WEIGHT);
-  check("no words", heaps(CUE_WEIGHT, 0), 0);
+  check("the three built-in words and a name", heaps(CUE_MAX_WEIGHT, 6), 3 + CUE_MAX_WEIGHT);
+  check("no words", heaps(CUE_MAX_WEIGHT, 0), 0);
   for (i = 0; i < 65538; i++) record[i] = 0;
-  check("the heaviest cue", heaps(CUE_WEIGHT, CUE_TERM_WORDS), 4096000);
+  check("the heaviest cue", heaps(CUE_MAX_WEIGHT, CUE_TERM_WORDS), 4096000);
   check("a sum that 32 bits hold", heaps(65535, 65536), 4294901760UL);
   check("the largest that they hold", heaps(65535, 65537), 4294967295UL);
   check("a sum that they do not hold", heaps(65535, 65538), 4294967295UL);

@@ -64,7 +64,8 @@ static void print_list(void) {
     return;
   }
   for (f = 0; f < names; f++) {
-    if (list[f] < 1 || list[f] > CUE_WEIGHT) printf("name %lu weighs %u, not 1 to %d\n", (unsigned long)f, (unsigned)list[f], CUE_WEIGHT);
+    if (list[f] >= 1 && list[f] <= CUE_MAX_WEIGHT) continue;
+    printf("name %lu weighs %u, not 1 to %d\n", (unsigned long)f, (unsigned)list[f], CUE_MAX_WEIGHT);
   }
 }
 
@@ -135,7 +136,7 @@ int main(int argc, char **argv) {
   }
   test = cue_test_weights(book, book_words, list, list_words);
   if (test.number == CUE_TAKEN || test.number == CUE_RISING) print_rules(test);
-  if (test.number == CUE_WEIGHTS) print_list();
+  if (test.number == CUE_MISWEIGHED) print_list();
   print_numbers(test);
   if (test.number != CUE_TAKEN) return 1;
   return argc == 4 && print_expansion() != CUE_TAKEN;
