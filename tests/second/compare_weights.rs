@@ -98,8 +98,8 @@ fn lists(case: &Case, read: &Result<Book, Fault>, number: u32) -> [bool; WEIGHED
 }
 
 /// "If all fall, the steps reported are at most the first cue's total weight less the answer's, and an allowance of the first cue's weight is
-/// never answered with 11": of the product's own answers, with the case's allowance, with its record too, and with that weight allowed. Only
-/// where the expansion ends in time.
+/// never answered with 11": of the product's own answers, with the case's allowance and with that weight allowed, each without and with a
+/// record. Only where the expansion ends in time.
 fn promised(case: &Case, b: &Book, c: &Rc<Cue>, n: &mut Counts) -> Checked {
     let first = weight(case, "the cue", &case.cue)?;
     let o = evaluate(b, c, first, Plant::Nothing, true, PATIENCE);
@@ -114,10 +114,16 @@ fn promised(case: &Case, b: &Book, c: &Rc<Cue>, n: &mut Counts) -> Checked {
     bounded(case, "expanding with a record where all rules fall", first, recorded, &out)?;
     let enough = product::expand(&case.book, &case.cue, first, &mut out, &mut work);
     let left = bounded(case, "expanding with the cue's weight allowed", first, enough, &out)?;
-    if enough.number == 11 {
-        return Err(format!("all rules fall, but an allowance of {first}, the first cue's weight, is answered with 11"));
+    // a record with room for the steps and for the one that 12 stops, which looks for its room first: it is no limit
+    let mut roomy = vec![0; 2 * (o.trace.len() + usize::from(o.next.is_some()))];
+    let kept = product::expand_recorded(&case.book, &case.cue, first, [&mut out, &mut work, &mut roomy]);
+    for (what, a) in [("without a record", enough), ("with a record that has room", kept)] {
+        if a.number == 11 || a.number == 16 {
+            return Err(format!("all rules fall, but {what} an allowance of {first}, the first cue's weight, is answered with {}", a.number));
+        }
     }
     same("expanding with the cue's weight allowed", expected, enough)?;
+    same("expanding with the cue's weight allowed and a record that has room", enough, kept)?;
     if !b.rules.is_empty() {
         let stepped = enough.number == 0 && enough.steps > 0;
         let met: [bool; FALLING.len()] = [
