@@ -6,10 +6,12 @@
  */
 #include <errno.h>
 #include <stdio.h>
-#include <stdlib.h>
 #include <string.h>
 
 #include "cue.h"
+
+#define TOOL "steps"
+#include "files.h"
 
 #define STEPS 65535 /* the most: the allowance in a cue file is one word */
 
@@ -30,27 +32,6 @@ static uint16_t now[CUE_TERM_WORDS];
 static uint16_t out[CUE_TERM_WORDS];
 static uint16_t work[CUE_WORK_WORDS];
 static size_t book_words, cue_words, record_words;
-
-static void refuse(const char *path, const char *why) {
-  fprintf(stderr, "steps: %s: %s\n", path, why);
-  exit(2);
-}
-
-/* how many words a file has, which go where `words` has room */
-static size_t load(const char *path, uint16_t *words, size_t room) {
-  FILE *f = fopen(path, "rb");
-  size_t n = 0;
-  int low, high = 0;
-  if (!f) refuse(path, strerror(errno));
-  while ((low = getc(f)) != EOF && (high = getc(f)) != EOF) {
-    if (n == room) refuse(path, "it has too many words");
-    words[n++] = (uint16_t)(low + 256 * high);
-  }
-  if (ferror(f)) refuse(path, strerror(errno));
-  if (low != EOF) refuse(path, "it has an odd number of bytes, so it is no file of words");
-  fclose(f);
-  return n;
-}
 
 static void save(const char *path, const uint16_t *words, size_t n) {
   FILE *f = fopen(path, "wb");

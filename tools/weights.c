@@ -4,12 +4,13 @@
  *
  *     gcc -std=c99 -Iinclude tools/weights.c target/staticlib/libcue.a -o target/weights
  */
-#include <errno.h>
 #include <stdio.h>
-#include <stdlib.h>
 #include <string.h>
 
 #include "cue.h"
+
+#define TOOL "weights"
+#include "files.h"
 
 static const char help[] =
     "weights BOOK WEIGHTS        tests the book by the weights, and prints what the sides of its rules weigh\n"
@@ -28,27 +29,6 @@ static uint16_t cue[1 + CUE_TERM_WORDS];
 static uint16_t out[CUE_TERM_WORDS];
 static uint16_t work[CUE_WORK_WORDS];
 static size_t book_words, list_words, cue_words;
-
-static void refuse(const char *path, const char *why) {
-  fprintf(stderr, "weights: %s: %s\n", path, why);
-  exit(2);
-}
-
-/* how many words a file has, which go where `words` has room */
-static size_t load(const char *path, uint16_t *words, size_t room) {
-  FILE *f = fopen(path, "rb");
-  size_t n = 0;
-  int low, high = 0;
-  if (!f) refuse(path, strerror(errno));
-  while ((low = getc(f)) != EOF && (high = getc(f)) != EOF) {
-    if (n == room) refuse(path, "it has too many words");
-    words[n++] = (uint16_t)(low + 256 * high);
-  }
-  if (ferror(f)) refuse(path, strerror(errno));
-  if (low != EOF) refuse(path, "it has an odd number of bytes, so it is no file of words");
-  fclose(f);
-  return n;
-}
 
 static unsigned long weight(const uint16_t *words, size_t n) { return cue_weigh(list, list_words, words, n); }
 
