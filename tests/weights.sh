@@ -1,6 +1,6 @@
 #!/usr/bin/env bash
-# What tools/weights.c prints (02, F-6), its lines written by hand from 01 and 02: rules that fall and rules that do not, lists that are none for
-# their book, cues with their weight as the allowance, and files that it can't use.
+# What tools/weights.c prints (02, F-6), its lines written by hand from 01 and 02: rules that fall and rules that do not, lists that are not lists
+# of weights for their book, cues with their weight as the allowance, and files that it can't use.
 #     tests/weights.sh PROGRAM
 set -euo pipefail
 . "$(dirname "$0")/files.sh"
@@ -137,7 +137,7 @@ list "${weights[@]}" 128 1
 lines[127]=' 127   128   128  not lighter'
 shows 'the last rule' 1 "$bare" "$heading" "${lines[@]}" "$numbers" '19 127 0 rising'
 
-# lists that are none for their book, before the rules are looked at
+# lists that are not lists of weights for their book, before the rules are looked at
 toggle; cue 9 2 0
 list 3 7
 shows 'a weight too few' 1 "$full" 'names 3, weights 2' "$numbers" '18 0 0 weights'

@@ -36,7 +36,7 @@ static void print_numbers(cue_answer a) {
   printf("number place steps\n%lu %lu %lu %s\n", (unsigned long)a.number, (unsigned long)a.place, (unsigned long)a.steps, cue_word(a.number));
 }
 
-/* what is wrong with a list that is not one of the book's: the test has no place for it */
+/* what is wrong with a list that is not a list of weights for the book: the test has no place for it */
 static void print_list(void) {
   size_t f, names = cue_shape_of(book, book_words).symbols;
   if (list_words != names) {
