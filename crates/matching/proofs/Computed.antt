@@ -16,7 +16,7 @@ use Rattle.system.specs.Signature.{Signature, Symbol, arity}
 use Rattle.system.specs.System.{Rule, head}
 use Rattle.system.specs.Rules.{BuiltIn, max, min, sqr, maximumRule, minimumRule, squareRule}
 use Rattle.system.specs.Terms.{Forest, more, Whole}
-use Rattle.system.proofs.BuiltIns.{literal-is, is-literal, number-of, binary, unary, nullary, operands, arity-two, arity-one, arity-none}
+use Rattle.system.proofs.BuiltIns.{literal-is, is-literal, number-of, binary, unary, nullary, operands, arity-two, arity-one, arity-none, clash}
 use Rattle.system.proofs.BuiltIns.{larger-words, smaller-words, larger-below, smaller-below}
 use Rattle.system.proofs.SquareLaw.{square-below}
 use Rattle.system.proofs.Signatures.{arity-unlisted}
@@ -113,9 +113,6 @@ module _ (ws : List ℕ) where
       go : (o : Option Computation) → computed ws ≡ o → computed ws ≡ none
       go none e = e
       go (some x) e = absurd (un x (operates x e))
-
-  clash : {b : Bool} → b ≡ true → b ≡ false → ⊥
-  clash u v = let z : _≡_ {A = ℕ} 0 1 = cc in omega arith
 
   pub computed-first : isLiteral (getD ws 1 0) ≡ false → computed ws ≡ none
   computed-first l = unless (λ x. elim [ by-max q u v e ↦ clash u l | by-min q u v e ↦ clash u l | by-square q u e ↦ clash u l ])

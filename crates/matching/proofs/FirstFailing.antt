@@ -9,6 +9,7 @@ use mathlib.Core.Bool.{Bool, true, false, cond}
 use mathlib.Core.Option.{Option, none, some}
 use lib.Dec.{ltb}
 use borrow.Author.Tests.{lt-ltb, le-ltb}
+use Rattle.system.proofs.BuiltIns.{clash}
 use Rattle.matching.specs.StrategyTest.{firstFailing}
 
 -- what was found, or else `first` where it is below n
@@ -65,9 +66,6 @@ module _ (test : ℕ → Bool) where
       go : (b : Bool) → test k ≡ b → Finds (suc k) n (firstFailing test (suc k) n) → Finds k (suc n) (firstFailing test k (suc n))
       go true e h = rw (first-passes k n e) (finds-later k n e h)
       go false e h = rw (first-fails k n e) (finds-here k n e)
-
-  clash : {j : ℕ} → test j ≡ true → test j ≡ false → ⊥
-  clash e q = let z : _≡_ {A = ℕ} 0 1 = cc in omega arith
 
   module _ (k n : ℕ) where
     -- none is found exactly if all pass

@@ -3,7 +3,7 @@ use Prim.Native.Nat.{ℕ, _<_}
 use native.Mathlib.Omega.{arith}
 use mathlib.Core.Path.{_≡_, refl, sym, ap, _∙_, subst}
 use mathlib.Core.Logic.{inl, inr}
-use mathlib.Core.Bool.{Bool, true, false}
+use mathlib.Core.Bool.{true, false}
 use mathlib.Core.Option.{Option, none, some}
 use mathlib.Core.List.{List}
 use lib.ListN.{length}
@@ -18,7 +18,7 @@ use Rattle.system.specs.Answers.{answerOf}
 use Rattle.system.specs.reader.Sections.{scanOf}
 use Rattle.system.proofs.Accepts.{read-sound}
 use Rattle.system.proofs.FaultNumbers.{fault-range, fault-not-zero}
-use Rattle.system.proofs.BuiltIns.{range-builtin}
+use Rattle.system.proofs.BuiltIns.{range-builtin, refuted}
 use Rattle.system.proofs.Signatures.{symbol-lt, symbol-cases}
 use Rattle.system.specs.Book.{systemOf}
 use Rattle.system.proofs.layout.Accepting.{reads-system, scan-accepted}
@@ -37,11 +37,7 @@ module _ (s : System) (wf : WellFormed s) where
   complete {f} l = passes-complete s f (listed-plain s wf f l)
 
   fails-false : {f : ℕ} → Listed (s .arities) f → (Passes s f → ⊥) → passes s f ≡ false
-  fails-false {f} l h = go (passes s f) refl
-    where
-      go : (b : Bool) → passes s f ≡ b → b ≡ false
-      go true e = absurd (h (sound l e))
-      go false e = refl
+  fails-false {f} l h = refuted (passes s f) (λ e. h (sound l e))
 
   -- all pass exactly if none is found that fails
   pub none-safe : firstUnsafe s ≡ none → Safe s

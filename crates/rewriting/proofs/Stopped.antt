@@ -1,5 +1,5 @@
 -- Theorem "stopped": an evaluation that a limit stops took the steps of its trace, and stopped for want of what that limit counts. It is told
--- by the machine's rounds, and of every end (`evaluation-ends`).
+-- by the machine's rounds, and of every end (`evaluation-ends`); of a finished one `theorem-path` says the same by the walk, without the machine.
 use Prim.Native.Nat.{ℕ, zero, suc, _+_, _≤_, _<_}
 use native.Mathlib.Omega.{arith}
 use native.Mathlib.Decide.{decLt, decLe}
@@ -26,7 +26,7 @@ use Rattle.rewriting.proofs.Iterate.{scan-pass, scan-fire, Reached, rea
 use Rattle.rewriting.proofs.MachineTheorem.{iterate-final, iterate-deep, iterate-spent, iterate-full, iterate-long, iterate-goes, evaluation-iterate}
 
 -- why an evaluation stops at the term t after the trace h: a step could be taken, but the step limit is used up, or the record has no room for
--- its pair, or it would leave a term above 4,096 words; or an argument would be opened too deep
+-- its pair, or it would leave a term above 4,096 words; or an argument would be opened too deep (of which nothing more is told here)
 pub data Halts (s : System) (limits : Limits) (t : List ℕ) (h : Trace) : Limit → Type 0 where
   noSteps : (t′ : List ℕ) → Step s t t′ → limits .steps ≤ length h → Halts s limits t h spent
   noRoom : (t′ : List ℕ) → Step s t t′ → length h < limits .steps → hasRoom (limits .room) (length h) ≡ false → Halts s limits t h full

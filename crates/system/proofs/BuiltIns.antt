@@ -18,6 +18,14 @@ pub both : (a b : Bool) → (a && b) ≡ true → (a ≡ true) × (b ≡ true)
 both true b e = (refl, e)
 both false b e = absurd (let z : _≡_ {A = ℕ} 0 1 = cc in omega arith)
 
+-- a test that does not pass fails, and does not do both
+pub refuted : (b : Bool) → (b ≡ true → ⊥) → b ≡ false
+refuted true h = absurd (h refl)
+refuted false h = refl
+
+pub clash : {b : Bool} → b ≡ true → b ≡ false → ⊥
+clash e q = let z : _≡_ {A = ℕ} 0 1 = cc in omega arith
+
 -- ---- which words they are
 
 -- between the first literal and the last operator

@@ -6,7 +6,7 @@ use native.Mathlib.Decide.{decLt, ℕ-discrete}
 use mathlib.Core.Path.{_≡_, refl, ap, _∙_}
 use mathlib.Core.Logic.{_⊎_, inl, inr, ⊎-elim, _↔_}
 use mathlib.Core.List.{List, [], _∷_}
-use Rattle.system.specs.Limits.{variable, variables}
+use Rattle.system.specs.Limits.{variable}
 use Rattle.system.specs.Signature.{Signature}
 use Rattle.system.specs.System.{Rule}
 use Rattle.system.specs.Terms.{Member, first, later, Numbered, end, symbol, next, WellFormedRule}

@@ -1,5 +1,5 @@
 -- What the answer of the test by weights tells: 0 exactly where all rules fall, 19 at k exactly if k is the lowest rule that does not, 18 exactly
--- where the list is none of weights for the book.
+-- where the list is not one of weights for the book.
 use Prim.Native.Nat.{ℕ, _≤_, _<_}
 use native.Mathlib.Omega.{arith}
 use mathlib.Core.Path.{_≡_, refl, ap, _∙_, subst}
@@ -9,7 +9,7 @@ use mathlib.Core.Option.{Option, none, some}
 use mathlib.Core.List.{List}
 use lib.ListN.{length}
 use Rattle.system.specs.declared.Answer.{Answer}
-use Rattle.system.specs.Numbers.{Fault, taken, misweighed, rising, numberOf}
+use Rattle.system.specs.Numbers.{Fault, misweighed, rising, numberOf}
 use Rattle.system.specs.System.{System, Rule, rule}
 use Rattle.system.specs.Rules.{RuleOf, listed, builtIn}
 use Rattle.system.specs.Terms.{WellFormed}
@@ -17,6 +17,7 @@ use Rattle.system.specs.Parser.{Parsed, ok, fault, read}
 use Rattle.system.specs.Answers.{answerOf}
 use Rattle.system.specs.Book.{systemOf}
 use Rattle.system.proofs.Accepts.{read-sound}
+use Rattle.system.proofs.BuiltIns.{refuted, clash}
 use Rattle.system.proofs.FaultNumbers.{fault-range, fault-not-zero}
 use Rattle.system.proofs.layout.Accepting.{reads-system}
 use Rattle.matching.proofs.FirstFailing.{none-all, all-none, some-lowest, lowest-some}
@@ -27,18 +28,11 @@ use Rattle.termination.proofs.Falls.{builtin-falls, all-fall}
 use Rattle.termination.proofs.Decides.{falls-sound, falls-complete}
 use Rattle.termination.proofs.Ranges.{weighs-sound, weighs-complete}
 
-clash : {b : Bool} → b ≡ true → b ≡ false → ⊥
-clash e q = let z : _≡_ {A = ℕ} 0 1 = cc in omega arith
-
 -- ---- of a system, and a list of weights for it
 
 module _ (m : Weights) (s : System) (wf : WellFormed s) (fit : Weighs m s) where
   rises-false : (k : ℕ) → (Falls m (rule s k) → ⊥) → falls m (rule s k) ≡ false
-  rises-false k h = go (falls m (rule s k)) refl
-    where
-      go : (b : Bool) → falls m (rule s k) ≡ b → b ≡ false
-      go true e = absurd (h (falls-sound m (rule s k) e))
-      go false e = refl
+  rises-false k h = refuted (falls m (rule s k)) (λ e. h (falls-sound m (rule s k) e))
 
   -- all fall exactly if none is found that does not
   none-falling : firstRising m s ≡ none → Falling m s
@@ -119,10 +113,11 @@ module _ (b : List ℕ) (m : Weights) where
       go (fault f i) e = rw (weights-refused e) (refused f i)
       go (ok s i) e = accepted-ends (reads-system b e) (weighs m (length (systemOf b .arities))) refl
 
+  -- no fault of a book has a number from 18 on
   high : (f : Fault) (n : ℕ) → 18 ≤ n → answerOf (fault f 0) .number ≡ n → ⊥
   high f n l e = elim (fault-range f) [ inl z ↦ (let h = z .1 in omega arith) | inr z ↦ (omega arith) ]
 
-  -- 18: the book is accepted, and the list is none of weights for it; and every such pair gets it
+  -- 18: the book is accepted, and the list is not one of weights for it; and every such pair gets it
   pub misweighed-book : weightsAnswer b m .number ≡ numberOf misweighed → MisweighedBook b m
   misweighed-book z = go ends z
     where
@@ -133,11 +128,7 @@ module _ (b : List ℕ) (m : Weights) where
       go (failed k h) z = absurd (omega arith)
 
   pub book-misweighed : MisweighedBook b m → weightsAnswer b m ≡ misweighedAnswer
-  book-misweighed h = weights-misweighed (h .accepted) (go (weighs m (length (systemOf b .arities))) refl)
-    where
-      go : (o : Bool) → weighs m (length (systemOf b .arities)) ≡ o → o ≡ false
-      go true e = absurd (h .misweighed (weighs-sound m (systemOf b) e))
-      go false e = refl
+  book-misweighed h = weights-misweighed (h .accepted) (refuted (weighs m (length (systemOf b .arities))) (λ e. h .misweighed (weighs-sound m (systemOf b) e)))
 
   -- 19: the place is the lowest rule that does not fall; and every such pair gets it
   pub rising-book : weightsAnswer b m .number ≡ numberOf rising → RisingBook b m (weightsAnswer b m .place)
