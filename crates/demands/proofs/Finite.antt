@@ -13,7 +13,6 @@ use Rattle.system.specs.Book.{systemOf}
 use Rattle.system.proofs.FaultNumbers.{fault-range}
 use Rattle.rewriting.specs.Evaluation.{Limits, Config, steps, Outcome, finished, stopped, evaluation}
 use Rattle.termination.specs.Weights.{Weights, weight}
-use Rattle.termination.specs.WeightTest.{weightLimit}
 use Rattle.termination.specs.Tells.{FallingBook}
 use Rattle.termination.proofs.Tests.{falling-book}
 use Rattle.termination.proofs.Finite.{finished-falls, stopped-falls, never-spent}

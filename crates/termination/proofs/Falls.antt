@@ -4,26 +4,19 @@ use native.Mathlib.Omega.{arith}
 use mathlib.Core.Path.{_≡_, refl, _∙_}
 use mathlib.Core.List.{List, [], _∷_}
 use lib.ListN.{length}
-use borrow.Author.Tests.{le-ltb, lt-leb}
 use Rattle.system.specs.Limits.{variable, variables}
 use Rattle.system.specs.BuiltIns.{literal, literals, maximum, minimum, square, isLiteral, isBuiltIn, larger, smaller, squareLaw}
 use Rattle.system.specs.System.{System, Rule, rule, instance}
 use Rattle.system.specs.Rules.{BuiltIn, max, min, sqr, RuleOf, listed, builtIn}
 use Rattle.system.specs.Terms.{Member, WellFormed}
-use Rattle.system.proofs.BuiltIns.{literal-is, above-literal, above-builtin, larger-below, smaller-below}
+use Rattle.system.proofs.BuiltIns.{literal-is, larger-below, smaller-below}
 use Rattle.system.proofs.SquareLaw.{square-below}
 use Rattle.system.proofs.Members.{numbered-below}
 use Rattle.system.proofs.Rules.{built-plain, rule-formed}
 use Rattle.termination.specs.Weights.{Weights, builtInWeight, wordWeight, weight, Falls, Falling}
-use Rattle.termination.proofs.Words.{weight-builtin, builtin-literal, builtin-none, weight-cons, weight-nil}
+use Rattle.termination.proofs.Words.{weight-builtin, builtin-literal, weight-cons, weight-nil}
 use Rattle.termination.proofs.Instances.{shared-le, weight-instance}
 use Rattle.termination.proofs.Occurrences.{occurs-none}
-
--- a variable weighs nothing
-pub weight-variable : (m : Weights) (w : ℕ) → variable ≤ w → wordWeight m w ≡ 0
-weight-variable m w l =
-    weight-builtin m w (omega arith)
-    ∙ builtin-none w (above-literal w (omega arith) ∙ le-ltb w maximum (omega arith)) (above-builtin w (omega arith) ∙ lt-leb w square (omega arith))
 
 -- ---- an instance of the right side is lighter than that of the left side
 
@@ -32,8 +25,8 @@ sides-fall : (m : Weights) (n : ℕ) → n ≤ variables → (r : Rule) →
     ((w : ℕ) → Member w (r .lhs) → w < variable + n) → ((w : ℕ) → Member w (r .rhs) → w < variable + n) → Falls m r → (σ : ℕ → List ℕ) →
     weight m (instance σ (r .rhs)) < weight m (instance σ (r .lhs))
 sides-fall m n few r left right f σ =
-    let a = weight-instance m σ (weight-variable m) n (r .lhs) left in
-    let b = weight-instance m σ (weight-variable m) n (r .rhs) right in
+    let a = weight-instance m σ n (r .lhs) left in
+    let b = weight-instance m σ n (r .rhs) right in
     let c = shared-le m σ n (r .rhs) (r .lhs) (λ v k. f .kept v (omega arith)) in
     let d = f .lighter in
     omega arith

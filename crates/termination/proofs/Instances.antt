@@ -9,8 +9,8 @@ use Rattle.system.specs.Limits.{variable}
 use Rattle.system.specs.System.{instance}
 use Rattle.system.specs.Terms.{Member, first, later}
 use Rattle.matching.proofs.Matched.{instance-nil, instance-symbol, instance-variable}
-use Rattle.termination.specs.Weights.{Weights, wordWeight, weight, occurs}
-use Rattle.termination.proofs.Words.{occurs-same, occurs-other, weight-append, weight-cons, weight-nil}
+use Rattle.termination.specs.Weights.{Weights, weight, occurs}
+use Rattle.termination.proofs.Words.{weight-variable, weight-append, weight-cons, weight-nil, occurs-same, occurs-other}
 
 -- ---- a sum over the numbers below n
 
@@ -92,12 +92,11 @@ module _ (m : Weights) (σ : ℕ → List ℕ) where
   unfolding share shared
   shared-le n a b h = sum-le n (share a) (share b) (λ v l. mul-le-mul-right (weight m (σ v)) (h v l))
 
-  -- an instance of a side whose variables are numbered below n, where variables weigh nothing
-  pub weight-instance : ((w : ℕ) → variable ≤ w → wordWeight m w ≡ 0) → (n : ℕ) (ws : List ℕ) → ((w : ℕ) → Member w ws → w < variable + n) →
-      weight m (instance σ ws) ≡ weight m ws + shared n ws
-  weight-instance light n [] h = rw (instance-nil σ, weight-nil m, shared-none n) (omega arith)
-  weight-instance light n (w ∷ ws) h =
-      let ih = weight-instance light n ws (λ x st. h x (later st)) in
+  -- an instance of a side whose variables are numbered below n
+  pub weight-instance : (n : ℕ) (ws : List ℕ) → ((w : ℕ) → Member w ws → w < variable + n) → weight m (instance σ ws) ≡ weight m ws + shared n ws
+  weight-instance n [] h = rw (instance-nil σ, weight-nil m, shared-none n) (omega arith)
+  weight-instance n (w ∷ ws) h =
+      let ih = weight-instance n ws (λ x st. h x (later st)) in
       elim (decLt w variable) [
         | yes l ↦ rw (instance-symbol σ w ws l, weight-cons m w (instance σ ws), weight-cons m w ws, shared-symbol n w ws l) (omega arith)
         | no l ↦
@@ -105,5 +104,5 @@ module _ (m : Weights) (σ : ℕ → List ℕ) where
             let e : w ≡ variable + k = omega arith in
             let b : k < n = (let z = h w first in omega arith) in
             rw (instance-variable σ w k ws e, weight-append m (σ k) (instance σ ws), weight-cons m w ws, shared-variable n k w ws e b)
-            (let z = light w (omega arith) in omega arith)
+            (let z = weight-variable m w (omega arith) in omega arith)
       ]

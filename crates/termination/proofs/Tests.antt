@@ -12,11 +12,9 @@ use Rattle.system.specs.declared.Answer.{Answer}
 use Rattle.system.specs.Numbers.{Fault, misweighed, rising, numberOf}
 use Rattle.system.specs.System.{System, Rule, rule}
 use Rattle.system.specs.Rules.{RuleOf, listed, builtIn}
-use Rattle.system.specs.Terms.{WellFormed}
 use Rattle.system.specs.Parser.{Parsed, ok, fault, read}
 use Rattle.system.specs.Answers.{answerOf}
 use Rattle.system.specs.Book.{systemOf}
-use Rattle.system.proofs.Accepts.{read-sound}
 use Rattle.system.proofs.BuiltIns.{refuted, clash}
 use Rattle.system.proofs.FaultNumbers.{fault-range, fault-not-zero}
 use Rattle.system.proofs.layout.Accepting.{reads-system}
@@ -28,9 +26,9 @@ use Rattle.termination.proofs.Falls.{builtin-falls, all-fall}
 use Rattle.termination.proofs.Decides.{falls-sound, falls-complete}
 use Rattle.termination.proofs.Ranges.{weighs-sound, weighs-complete}
 
--- ---- of a system, and a list of weights for it
+-- ---- of a system
 
-module _ (m : Weights) (s : System) (wf : WellFormed s) (fit : Weighs m s) where
+module _ (m : Weights) (s : System) where
   rises-false : (k : ℕ) → (Falls m (rule s k) → ⊥) → falls m (rule s k) ≡ false
   rises-false k h = refuted (falls m (rule s k)) (λ e. h (falls-sound m (rule s k) e))
 
@@ -72,9 +70,6 @@ module _ (m : Weights) (s : System) (wf : WellFormed s) (fit : Weighs m s) where
 -- ---- of a book
 
 module _ (b : List ℕ) (m : Weights) where
-  formed : read b ≡ ok (systemOf b) (length b) → WellFormed (systemOf b)
-  formed a = read-sound b a .0
-
   -- a book that the reader refuses gets the reader's answer
   pub weights-refused : {f : Fault} {i : ℕ} → read b ≡ fault f i → weightsAnswer b m ≡ answerOf (fault f i)
   unfolding weightsAnswer
@@ -98,8 +93,8 @@ module _ (b : List ℕ) (m : Weights) where
 
   module _ (a : read b ≡ ok (systemOf b) (length b)) where
     falls-ends : Weighs m (systemOf b) → (o : Option ℕ) → firstRising m (systemOf b) ≡ o → Ends (fallAnswer o)
-    falls-ends w none e = passed (record { accepted = a; weighs = w; falling = none-falling m (systemOf b) (formed a) w e })
-    falls-ends w (some k) e = failed k (record { accepted = a; weighs = w; first = some-rises m (systemOf b) (formed a) w e })
+    falls-ends w none e = passed (record { accepted = a; weighs = w; falling = none-falling m (systemOf b) e })
+    falls-ends w (some k) e = failed k (record { accepted = a; weighs = w; first = some-rises m (systemOf b) e })
 
     accepted-ends : (o : Bool) → weighs m (length (systemOf b .arities)) ≡ o → Ends (weightsAnswer b m)
     accepted-ends true e = rw (weights-tested a e) (falls-ends (weighs-sound m (systemOf b) e) (firstRising m (systemOf b)) refl)
@@ -145,7 +140,7 @@ module _ (b : List ℕ) (m : Weights) where
     accepted-fits = weights-tested a (weighs-complete m (systemOf b) w)
 
   pub book-rising : {k : ℕ} → RisingBook b m k → weightsAnswer b m ≡ fallAnswer (some k)
-  book-rising h = accepted-fits (h .accepted) (h .weighs) ∙ ap fallAnswer (rises-some m (systemOf b) (formed (h .accepted)) (h .weighs) (h .first))
+  book-rising h = accepted-fits (h .accepted) (h .weighs) ∙ ap fallAnswer (rises-some m (systemOf b) (h .first))
 
   -- 0: all fall; and every such pair gets it
   pub falling-book : PassedWeights b m → FallingBook b m
@@ -158,7 +153,7 @@ module _ (b : List ℕ) (m : Weights) where
       go (failed k h) z = absurd (omega arith)
 
   pub book-falling : FallingBook b m → weightsAnswer b m ≡ fallAnswer none
-  book-falling h = accepted-fits (h .accepted) (h .weighs) ∙ ap fallAnswer (falling-none m (systemOf b) (formed (h .accepted)) (h .weighs) (h .falling))
+  book-falling h = accepted-fits (h .accepted) (h .weighs) ∙ ap fallAnswer (falling-none m (systemOf b) (h .falling))
 
   -- THE TEST BY WEIGHTS: all that its answer tells
   pub weights-tell : TellsWeights b m (weightsAnswer b m)

@@ -8,10 +8,10 @@ use mathlib.Core.List.{List, [], _∷_, _++_}
 use lib.ListN.{length, getD, take}
 use lib.Seq.{take-suc}
 use lib.Dec.{eqb}
-use borrow.Author.Tests.{eq-eqb, ne-eqb, lt-ltb, le-ltb}
-use Rattle.system.specs.Limits.{maxSteps}
-use Rattle.system.specs.BuiltIns.{literal, isLiteral, isBuiltIn}
-use Rattle.system.proofs.BuiltIns.{smaller-first, smaller-second}
+use borrow.Author.Tests.{eq-eqb, ne-eqb, lt-ltb, le-ltb, lt-leb}
+use Rattle.system.specs.Limits.{variable, maxSteps}
+use Rattle.system.specs.BuiltIns.{literal, maximum, square, isLiteral, isBuiltIn}
+use Rattle.system.proofs.BuiltIns.{above-literal, above-builtin, smaller-first, smaller-second}
 use Rattle.termination.specs.Weights.{Weights, builtInWeight, wordWeight, weight, occurs}
 use Rattle.termination.specs.WeightTest.{weightLimit}
 
@@ -41,6 +41,12 @@ module _ (w : ℕ) where
     pub builtin-none : isBuiltIn w ≡ false → builtInWeight w ≡ 0
     unfolding builtInWeight
     builtin-none e = rw (other, e)
+
+-- a variable weighs nothing
+pub weight-variable : (m : Weights) (w : ℕ) → variable ≤ w → wordWeight m w ≡ 0
+weight-variable m w l =
+    weight-builtin m w (omega arith)
+    ∙ builtin-none w (above-literal w (omega arith) ∙ le-ltb w maximum (omega arith)) (above-builtin w (omega arith) ∙ lt-leb w square (omega arith))
 
 -- ---- what words weigh
 
