@@ -15,6 +15,9 @@ mod evaluate;
 #[path = "../second/product.rs"]
 #[allow(dead_code)]
 mod product;
+#[path = "../second/weights.rs"]
+#[allow(dead_code)]
+mod weights;
 mod archives;
 mod maude;
 mod records;
@@ -24,7 +27,7 @@ use archives::{Archive, OTHER, PRODUCT};
 use book::{Book, Plant, ANSWER_WORDS, WORK_WORDS};
 use evaluate::{evaluate, End};
 use std::time::Instant;
-use works::{largest, Work};
+use works::{largest, Work, FALLING};
 
 type Call<'a> = Box<dyn FnMut() + 'a>;
 
@@ -132,14 +135,16 @@ fn in_maude(w: &Work, b: &Book, words: &[u16], steps: u32, agree: &mut bool) -> 
     }
 }
 
-/// An operation on the largest book, by each archive and by the second evaluator.
-fn largest_book(label: &str, least: f64, operation: fn(&Archive, &[u16]) -> product::Answer, second: fn(&[u16]) -> bool, place: usize) -> bool {
+type Operation = fn(&Archive, &[u16]) -> product::Answer;
+
+/// An operation on the largest book, by each of the archives and by the second evaluator.
+fn largest_book(label: &str, least: f64, archives: Vec<Archive>, operation: Operation, second: fn(&[u16]) -> bool, place: usize) -> bool {
     let book = &largest();
     let mut calls: Vec<Call> = vec![Box::new(|| {
         std::hint::black_box(second(book));
     })];
     let mut agree = second(book);
-    for archive in [Some(PRODUCT), OTHER].into_iter().flatten() {
+    for archive in archives {
         agree &= operation(&archive, book) == product::Answer { number: 0, place, steps: 0 };
         calls.push(Box::new(move || {
             std::hint::black_box(operation(&archive, book));
@@ -157,8 +162,13 @@ fn all() -> i32 {
     for w in &works {
         expansion(w, least, &mut agree);
     }
-    agree &= largest_book("reading, largest book", least, Archive::read, |b| book::read(b).is_ok(), largest().len());
-    agree &= largest_book("order test, largest book", least, Archive::test, |b| book::read(b).unwrap().test(Plant::Nothing) == (0, 0), 0);
+    let archives = || [Some(PRODUCT), OTHER].into_iter().flatten().collect();
+    let passes = |b: &[u16]| book::read(b).unwrap().test(Plant::Nothing) == (0, 0);
+    let falls = |b: &[u16]| weights::test(&book::read(b).unwrap(), &FALLING, Plant::Nothing) == (0, 0);
+    agree &= largest_book("reading, largest book", least, archives(), Archive::read, |b| book::read(b).is_ok(), largest().len());
+    agree &= largest_book("order test, largest book", least, archives(), Archive::test, passes, 0);
+    // the other archive may be older than this test
+    agree &= largest_book("weights, largest book", least, vec![PRODUCT], |_, b| product::test_weights(b, &FALLING), falls, 0);
     println!("(ratio: the product's time by the second evaluator's, which works on shared trees with a heap; both from words to words.");
     println!(" new/other: the product's steps for each second by the other archive's, or where there are no steps its time by the product's. A");
     println!(" nest of repeats that the other would not end is left out there, and so are levels and the curve, if it does not know them.");

@@ -293,3 +293,14 @@ pub fn largest() -> Vec<u16> {
     assert_eq!(w.len(), 21_251);
     w
 }
+
+/// Weights under which all its rules fall, so that the test by weights has to look at every rule: the names that rules start with are heavy.
+pub const FALLING: [u16; 256] = {
+    let mut w = [1; 256];
+    let mut k = 128;
+    while k < 256 {
+        w[k] = 1000;
+        k += 1;
+    }
+    w
+};
