@@ -1,4 +1,4 @@
--- The bounds that 01 sets.
+-- The bounds that 01 and 02 set.
 use Prim.Native.Nat.{ℕ}
 
 -- "a count S, 1 to 256, then S argument counts, each 0 to 8"

@@ -1,4 +1,4 @@
-// The bounds that 01 sets, as specs/Limits.antt names them.
+// The bounds that 01 and 02 set, as specs/Limits.antt names them.
 
 // The most symbols of a book, and the most arguments of a symbol.
 pub const MAX_SYMBOLS: usize = 256;

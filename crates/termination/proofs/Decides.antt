@@ -1,8 +1,9 @@
 -- Whether a rule falls, by computing: the test of its variables, one after the other, and of its weights.
 use Prim.Native.Nat.{ℕ, zero, suc, _+_, _≤_, _<_}
+use native.Mathlib.Numerals.{add-one}
 use native.Mathlib.Omega.{arith}
 use native.Mathlib.Decide.{ℕ-discrete}
-use mathlib.Core.Path.{_≡_, refl, _∙_}
+use mathlib.Core.Path.{_≡_, refl, ap, _∙_}
 use mathlib.Core.Bool.{Bool, true, false, and-false}
 use borrow.Author.Tests.{ltb-true, lt-ltb, le-ltb, leb-true, le-leb}
 use Rattle.system.specs.Limits.{variable, variables}
@@ -14,6 +15,15 @@ use Rattle.termination.specs.WeightTest.{keepsAt, below, falls}
 -- ---- a test of the numbers below n
 
 module _ (test : ℕ → Bool) where
+  -- there is none below 0; one more
+  pub below-none : below test 0 ≡ true
+  unfolding below
+  below-none = refl
+
+  pub below-next : (n : ℕ) → below test n ≡ true → test n ≡ true → below test (n + 1) ≡ true
+  unfolding below
+  below-next n h t = ap (below test) (add-one n) ∙ rw (h, t) refl
+
   -- where one fails, so does every n above it
   pub below-fails : (k n : ℕ) → k < n → test k ≡ false → below test n ≡ false
   unfolding below

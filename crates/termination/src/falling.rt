@@ -1,8 +1,6 @@
 // Whether a rule falls.
 ghost use mathlib.Core.Path.{_≡_};
 ghost use mathlib.Core.Bool.{true};
-ghost use mathlib.Core.List.{[]};
-ghost use lib.ListN.{length};
 ghost use Rattle.system.specs.Limits.{variables};
 ghost use Rattle.termination.specs.WeightTest.{keepsAt, below, falls, inRange};
 ghost use Rattle.matching.specs.rules.Searches.{NumberedSide};
@@ -12,11 +10,12 @@ use system::limits::VARIABLE;
 use system::limits::VARIABLES;
 use system::words::wide;
 
-// How often each variable stands in the words, counted from nothing.
-fn count_up(words: &[u16], counts: &mut [u16])
-    requires { ⌜ NumberedSide (now words) × Counts [] (now counts) ⌝ }
-    ensures { λ _. ⌜ Counts (now (words .entry)) (now (counts .exit)) ⌝ }
+// How often each variable stands in the words.
+fn count(words: &[u16]) -> [u16; VARIABLES]
+    requires { ⌜ NumberedSide (now words) ⌝ }
+    ensures { λ r. ⌜ Counts (now (words .entry)) r ⌝ }
 {
+    let mut counts = [0u16; VARIABLES];
     let mut j = 0;
     while j < words.len() {
         let w = wide(words[j]);
@@ -26,24 +25,19 @@ fn count_up(words: &[u16], counts: &mut [u16])
         }
         j += 1;
     }
+    counts
 }
 
-// Whether no variable stands in the words more often than it was counted. The counts are used up.
-fn count_down(words: &[u16], counts: &mut [u16]) -> bool
-    requires { ⌜ NumberedSide (now words) × (length (now counts) ≡ variables) ⌝ }
-    ensures { λ r. ⌜ r ≡ covers (now (counts .entry)) (now (words .entry)) ⌝ }
+// Whether no count is above the most.
+fn covers(most: [u16; VARIABLES], counts: [u16; VARIABLES]) -> bool
+    ensures { λ r. ⌜ r ≡ covers most counts ⌝ }
 {
-    let mut j = 0;
-    while j < words.len() {
-        let w = wide(words[j]);
-        if VARIABLE <= w {
-            let v = w - VARIABLE;
-            if counts[v] == 0 {
-                return false;
-            }
-            counts[v] -= 1;
+    let mut v = 0;
+    while v < VARIABLES {
+        if most[v] < counts[v] {
+            return false;
         }
-        j += 1;
+        v += 1;
     }
     true
 }
@@ -53,9 +47,9 @@ fn keeps(lhs: &[u16], rhs: &[u16]) -> bool
     requires { ⌜ NumberedSide (now lhs) × NumberedSide (now rhs) ⌝ }
     ensures { λ r. ⌜ r ≡ below (keepsAt (record { lhs = now (lhs .entry); rhs = now (rhs .entry) })) variables ⌝ }
 {
-    let mut counts = [0u16; VARIABLES];
-    count_up(lhs, &mut counts);
-    count_down(rhs, &mut counts)
+    let left = count(lhs);
+    let right = count(rhs);
+    covers(left, right)
 }
 
 // Whether the rule with these sides falls, under weights that are in range.

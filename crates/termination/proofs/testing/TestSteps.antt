@@ -41,7 +41,7 @@ fallsAt b m k = falls m (rule (systemOf b) k)
 
 -- the rules from number k on stand from the index `at` on; those before `first` are still to be looked at, and `first`, if it is a rule, does not fall. The
 -- book has n rules
-pub record Fallen (b : List ℕ) (n : ℕ) (m : Weights) (k at first : ℕ) : Type 0 where
+pub record Through (b : List ℕ) (n : ℕ) (m : Weights) (k at first : ℕ) : Type 0 where
   pub inside : first ≤ n
   pub rest : Rest b k at
   pub goes : sought (fallsAt b m) n k first ≡ firstRising m (systemOf b)
@@ -70,14 +70,14 @@ pub record Sides (b : List ℕ) (k : ℕ) (p : RuleSpan) : Type 0 where
   pub same : record { lhs = between b (p .lhs) (p .lhs + p .width); rhs = between b (p .rhs) (p .next) } ≡ rule (systemOf b) k
 
 module _ {b : List ℕ} {sh : Shape} (m : Weights) (acc : Accepted b sh) where
-  pub test-starts : Fallen b (sh .rules) m 0 (sh .«first_rule») (sh .rules)
+  pub test-starts : Through b (sh .rules) m 0 (sh .«first_rule») (sh .rules)
   test-starts = record {
     inside = omega arith;
     rest = first-rest b sh acc;
     goes = rw (rule-count b sh acc) (sought-starts (fallsAt b m) (length (systemOf b .rules)));
   }
 
-  module _ {k at first : ℕ} (so : Fallen b (sh .rules) m k at first) where
+  module _ {k at first : ℕ} (so : Through b (sh .rules) m k at first) where
     -- all were looked at, or one was found
     module _ (h : first ≤ k) where
       ended : cond (ltb first (sh .rules)) (some first) none ≡ firstRising m (systemOf b)
@@ -117,14 +117,14 @@ module _ {b : List ℕ} {sh : Shape} (m : Weights) (acc : Accepted b sh) where
         after : Rest b (k + 1) (p .next)
         after = turn-of acc more (so .rest) e .here .rest
 
-        pub goes-rising : x ≡ false → Fallen b (sh .rules) m (k + 1) (p .next) k
+        pub goes-rising : x ≡ false → Through b (sh .rules) m (k + 1) (p .next) k
         goes-rising q = record {
           inside = (let z = more in omega arith);
           rest = after;
           goes = sought-fails (fallsAt b m) (sh .rules) k first seeking (so .inside) (found q) ∙ so .goes;
         }
 
-        pub goes-falling : x ≡ true → Fallen b (sh .rules) m (k + 1) (p .next) first
+        pub goes-falling : x ≡ true → Through b (sh .rules) m (k + 1) (p .next) first
         goes-falling q = record {
           inside = so .inside;
           rest = after;

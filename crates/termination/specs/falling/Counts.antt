@@ -1,4 +1,4 @@
--- How often each variable stands in a side of a rule: counted on the left, and the count used up on the right.
+-- How often each variable stands in a side of a rule.
 use Prim.Native.Nat.{ℕ, _+_, _<_}
 use mathlib.Core.Path.{_≡_}
 use mathlib.Core.Bool.{Bool}
@@ -14,6 +14,6 @@ pub record Counts (ws counts : List ℕ) : Type 0 where
   pub total : length counts ≡ variables
   pub each : (v : ℕ) → v < variables → getD counts v 0 ≡ occurs (variable + v) ws
 
--- whether no variable stands in the words more often than it was counted
+-- whether no variable's count is above its most
 unfoldable pub covers : List ℕ → List ℕ → Bool
-covers counts ws = below (λ v. leb (occurs (variable + v) ws) (getD counts v 0)) variables
+covers most counts = below (λ v. leb (getD counts v 0) (getD most v 0)) variables

@@ -5,12 +5,12 @@ use mathlib.Core.Logic.{⊎-elim}
 use borrow.Author.Needs.{needs}
 use borrow.Author.Tests.{not-true, not-false}
 use Rattle.system.proofs.layout.Books.{room}
-use Rattle.termination.proofs.testing.TestSteps.{Fallen, Sides, sides, test-starts, test-rises, test-falls, goes-rising, goes-falling}
+use Rattle.termination.proofs.testing.TestSteps.{Through, Sides, sides, test-starts, test-rises, test-falls, goes-rising, goes-falling}
 use Rattle.termination.proofs.testing.tested.Statement.{statement}
 use Rattle.termination.proofs.testing.tested.Tie as tie
 
 abbrev Inv-loop : tie.InvT-loop
-Inv-loop book weights rules k₀ at₀ first₀ k at first = Fallen book rules weights k at first
+Inv-loop book weights rules k₀ at₀ first₀ k at first = Through book rules weights k at first
 
 abbrev μ-loop : tie.MeasureT-loop
 μ-loop book weights rules k₀ at₀ first₀ k at first = rules - k
