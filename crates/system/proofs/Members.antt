@@ -7,7 +7,7 @@ use mathlib.Core.Logic.{_⊎_, inl, inr}
 use mathlib.Core.List.{List, [], _∷_, _++_}
 use lib.ListN.{length, getD}
 use Rattle.system.specs.Limits.{variable}
-use Rattle.system.specs.Terms.{Member, first, later, Numbered, end, symbol, next}
+use Rattle.system.specs.Terms.{Member, first, later, Numbered, end, symbol, next, again}
 
 pub member-nil {ℓ} : {X : Type ℓ} {e : ℕ} → Member e [] → X
 member-nil h = elim h [ ]
@@ -44,33 +44,12 @@ pub numbered-le : {n m : ℕ} {ls : List ℕ} → Numbered n m ls → n ≤ m
 numbered-le end = omega arith
 numbered-le (symbol l nb) = numbered-le nb
 numbered-le (next e nb) = let h = numbered-le nb in omega arith
-
--- a variable of a list of numbered ones stands there once
-record Cut (n m : ℕ) (a b : List ℕ) : Type 0 where
-  known : ℕ
-  front : Numbered n known a
-  back : Numbered known m b
-
-numbered-cut : {n m : ℕ} (a b : List ℕ) → Numbered n m (a ++ b) → Cut n m a b
-numbered-cut [] b nb = record { known = _; front = end; back = nb }
-numbered-cut (w ∷ a) b (symbol l nb) = let c = numbered-cut a b nb in record { known = c .known; front = symbol l (c .front); back = c .back }
-numbered-cut (w ∷ a) b (next e nb) = let c = numbered-cut a b nb in record { known = c .known; front = next e (c .front); back = c .back }
-
-numbered-above : {n m w : ℕ} {ls : List ℕ} → Numbered n m ls → Member w ls → variable ≤ w → variable + n ≤ w
-numbered-above (symbol l nb) first h = absurd (omega arith)
-numbered-above (symbol l nb) (later st) h = numbered-above nb st h
-numbered-above (next e nb) first h = omega arith
-numbered-above (next e nb) (later st) h = let z = numbered-above nb st h in omega arith
+numbered-le (again e l nb) = numbered-le nb
 
 pub numbered-below : {n m w : ℕ} {ls : List ℕ} → Numbered n m ls → Member w ls → w < variable + m
 numbered-below (symbol l nb) first = omega arith
 numbered-below (symbol l nb) (later st) = numbered-below nb st
 numbered-below (next e nb) first = let h = numbered-le nb in omega arith
 numbered-below (next e nb) (later st) = numbered-below nb st
-
-pub numbered-once : {n m x : ℕ} (a b : List ℕ) → Numbered n m (a ++ x ∷ b) → variable ≤ x → (Member x a → ⊥) × (Member x b → ⊥)
-numbered-once {x} a b nb h = let c = numbered-cut a (x ∷ b) nb in go (c .front) (c .back)
-  where
-    go : {n k m : ℕ} → Numbered n k a → Numbered k m (x ∷ b) → (Member x a → ⊥) × (Member x b → ⊥)
-    go f (symbol l t) = absurd (omega arith)
-    go f (next e t) = (λ st. let z = numbered-below f st in omega arith, λ st. let z = numbered-above t st h in omega arith)
+numbered-below (again e l nb) first = let h = numbered-le nb in omega arith
+numbered-below (again e l nb) (later st) = numbered-below nb st

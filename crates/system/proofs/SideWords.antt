@@ -1,7 +1,7 @@
 -- One word of a side: what its check answers in each case, and so what a word is that passes.
 use Prim.Native.Nat.{ℕ, zero, suc, _+_, _-_, _≤_, _<_}
 use native.Mathlib.Omega.{arith}
-use native.Mathlib.Decide.{decLt, ℕ-discrete}
+use native.Mathlib.Decide.{decLt}
 use mathlib.Core.Path.{_≡_, refl, sym, _∙_}
 use mathlib.Core.Logic.{_⊎_, inl, inr}
 use mathlib.Core.Bool.{Bool, true, false}
@@ -24,13 +24,13 @@ module _ (role : SideRole) (first : Bool) (known k : ℕ) where
   unfolding variableFault
   variable-head p q = rw (p, q)
 
-  pub variable-next : role ≡ Left → first ≡ false → k ≡ known → variableFault role first known k ≡ none
+  pub variable-next : role ≡ Left → first ≡ false → k ≤ known → variableFault role first known k ≡ none
   unfolding variableFault
-  variable-next p q e = rw (p, q, eq-eqb k known e)
+  variable-next p q h = rw (p, q, le-leb k known h)
 
-  pub variable-skips : role ≡ Left → first ≡ false → (k ≡ known → ⊥) → variableFault role first known k ≡ some unbound
+  pub variable-skips : role ≡ Left → first ≡ false → known < k → variableFault role first known k ≡ some unbound
   unfolding variableFault
-  variable-skips p q e = rw (p, q, ne-eqb k known e)
+  variable-skips p q h = rw (p, q, lt-leb k known h)
 
   pub variable-known : role ≡ Right → k < known → variableFault role first known k ≡ none
   unfolding variableFault
@@ -42,18 +42,19 @@ module _ (role : SideRole) (first : Bool) (known k : ℕ) where
 
 -- how many variables are known afterwards
 module _ (role : SideRole) (known w : ℕ) where
-  pub learn-variable : role ≡ Left → variable ≤ w → learn role known w ≡ suc known
+  pub learn-new : role ≡ Left → w ≡ variable + known → learn role known w ≡ suc known
   unfolding learn
-  learn-variable p h = rw (p, le-leb variable w h)
+  learn-new p e = rw (p, eq-eqb w (variable + known) e)
 
   pub learn-right : role ≡ Right → learn role known w ≡ known
   unfolding learn
   learn-right p = rw p
 
-pub learn-symbol : (role : SideRole) (known w : ℕ) → w < variable → learn role known w ≡ known
+-- a symbol teaches nothing, and a variable that was met before neither
+pub learn-old : (role : SideRole) (known w : ℕ) → (w ≡ variable + known → ⊥) → learn role known w ≡ known
 unfolding learn
-learn-symbol Left known w h = rw (lt-leb variable w h)
-learn-symbol Right known w h = refl
+learn-old Left known w d = rw (ne-eqb w (variable + known) d)
+learn-old Right known w d = refl
 
 -- ---- a symbol
 
@@ -180,16 +181,16 @@ head-listed g w e =
     ]
 
 -- what a variable that may stand there is, on each side
-pub left-variable : (start : Bool) (known w : ℕ) → Variable Left start known w → (start ≡ false) × (w ≡ variable + known)
+pub left-variable : (start : Bool) (known w : ℕ) → Variable Left start known w → (start ≡ false) × (w ≤ variable + known)
 left-variable true known w v = absurd (refused (sym (variable-head Left true known (w - variable) refl refl) ∙ v .passes))
 left-variable false known w v =
-    elim (ℕ-discrete (w - variable) known) [
-      | yes e ↦ (refl, let l = v .low in omega arith)
-      | no e ↦ absurd (refused (sym (variable-skips Left false known (w - variable) refl refl e) ∙ v .passes))
+    elim (decLt known (w - variable)) [
+      | yes h ↦ absurd (refused (sym (variable-skips Left false known (w - variable) refl refl h) ∙ v .passes))
+      | no h ↦ (refl, let l = v .low in omega arith)
     ]
 
-pub variable-left : (known w : ℕ) → known < variables → w ≡ variable + known → Variable Left false known w
-variable-left known w l e = record { low = omega arith; high = omega arith; passes = variable-next Left false known (w - variable) refl refl (omega arith) }
+pub variable-left : (known k w : ℕ) → k ≤ known → k < variables → w ≡ variable + k → Variable Left false known w
+variable-left known k w h l e = record { low = omega arith; high = omega arith; passes = variable-next Left false known (w - variable) refl refl (omega arith) }
 
 pub right-variable : (start : Bool) (known w : ℕ) → Variable Right start known w → w < variable + known
 right-variable start known w v =

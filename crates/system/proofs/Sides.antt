@@ -1,6 +1,7 @@
 -- The words of a side, as the reader checks them one by one and as Terms.antt describes them: the two agree.
 use Prim.Native.Nat.{ℕ, zero, suc, _+_, _-_, _≤_, _<_}
 use native.Mathlib.Omega.{arith}
+use native.Mathlib.Decide.{ℕ-discrete}
 use mathlib.Core.Path.{_≡_, refl, ap, subst, _∙_}
 use mathlib.Core.Logic.{_⊎_, inl, inr}
 use mathlib.Core.Bool.{Bool, true, false}
@@ -9,7 +10,7 @@ use mathlib.Core.List.{List, [], _∷_}
 use lib.ListN.{length, getD}
 use Rattle.system.specs.Limits.{variable, variables}
 use Rattle.system.specs.Signature.{Signature, Symbol, Listed, arity}
-use Rattle.system.specs.Terms.{Forest, empty, more, Word, Member, first, later, Numbered, end, symbol, next}
+use Rattle.system.specs.Terms.{Forest, empty, more, Word, Member, first, later, Numbered, end, symbol, next, again}
 use Rattle.system.specs.declared.reader.sides.SideRole.{SideRole}
 use Rattle.system.specs.declared.reader.sides.SideRole.the-variants.{Left, Right}
 use Rattle.system.specs.Parser.{ok, symbolFault, sideFault, learn, Reading, readWords, word}
@@ -17,7 +18,7 @@ use Rattle.system.proofs.Signatures.{symbol-below}
 use Rattle.system.proofs.Members.{numbered-le}
 use Rattle.system.proofs.SideWords.{Variable, side-symbol, variable-passes, passes-due, passes-word, passes-symbol}
 use Rattle.system.proofs.SideWords.{head-listed, symbol-listed, symbol-later, symbol-right}
-use Rattle.system.proofs.SideWords.{left-variable, variable-left, right-variable, variable-right, learn-symbol, learn-variable, learn-right}
+use Rattle.system.proofs.SideWords.{left-variable, variable-left, right-variable, variable-right, learn-new, learn-old, learn-right}
 use Rattle.system.proofs.Parsed.{ok-value, ok-place, not-fault, then-ok, Between, between-none, between-end, between-join, between-split, between-ok}
 use Rattle.system.proofs.Parses.{Reads, one, reads-word}
 
@@ -49,22 +50,32 @@ taken-cons g h start due {known} {known′} {last} {w} {ws} c e t =
     takes {last = last} {ws = ws} c (rw (d, e) t)
 
 module _ (g : Signature) (below : length g ≤ variable) where
-  -- the left side: its variables are numbered from 0, and it starts with a listed symbol
+  -- the left side: its variables are numbered from 0 as they come, and it starts with a listed symbol
   pub taken-numbered : {start : Bool} {due known last : ℕ} {ws : List ℕ} → Taken g Left start due known last ws → Numbered known last ws
   taken-numbered done = end
   taken-numbered (takes {start} {due} {known} {last} {w} {ws} c t) = step (passes-word g Left start due known w c) (taken-numbered t)
     where
       step : Symbol g w ⊎ Variable Left start known w → Numbered (learn Left known w) last ws → Numbered known last (w ∷ ws)
-      step (inl s) n = let l = symbol-below g w below s in symbol l (rw (learn-symbol Left known w l) at n)
-      step (inr v) n = next (left-variable start known w v .1) (rw (learn-variable Left known w refl (v .low)) at n)
+      step (inl s) n = let l = symbol-below g w below s in symbol l (rw (learn-old Left known w (λ e. omega arith)) at n)
+      step (inr v) n = elim (ℕ-discrete w (variable + known)) [
+        | yes e ↦ next e (rw (learn-new Left known w refl e) at n)
+        | no d ↦
+            let h = left-variable start known w v .1 in
+            let l = v .low in
+            let is : w ≡ variable + (w - variable) = omega arith in
+            again {n = known} is (omega arith) (rw (learn-old Left known w d) at n)
+      ]
 
   pub taken-few : {start : Bool} {due known last : ℕ} {ws : List ℕ} → Taken g Left start due known last ws → known ≤ variables → last ≤ variables
   taken-few done l = l
   taken-few (takes {start} {due} {known} {last} {w} {ws} c t) l = taken-few t (step (passes-word g Left start due known w c))
     where
       step : Symbol g w ⊎ Variable Left start known w → learn Left known w ≤ variables
-      step (inl s) = rw (learn-symbol Left known w (symbol-below g w below s)) l
-      step (inr v) = rw (learn-variable Left known w refl (v .low)) (let e = left-variable start known w v .1 in let h = v .high in omega arith)
+      step (inl s) = rw (learn-old Left known w (λ e. let h = symbol-below g w below s in omega arith)) l
+      step (inr v) = elim (ℕ-discrete w (variable + known)) [
+        | yes e ↦ rw (learn-new Left known w refl e) (let h = v .high in omega arith)
+        | no d ↦ rw (learn-old Left known w d) l
+      ]
 
   pub taken-headed : {due known last : ℕ} {ws : List ℕ} → Taken g Left true (suc due) known last ws → Listed g (getD ws 0 variable)
   taken-headed {due} (takes {known} {w} c t) = go (passes-word g Left true (suc due) known w c)
@@ -94,11 +105,16 @@ module _ (g : Signature) (below : length g ≤ variable) where
   symbol-of w l (inl s) = s
   symbol-of w l (inr h) = absurd (omega arith)
 
+  -- a variable that is new, or was met before
+  variable-taken : (k known v w : ℕ) (start : Bool) → (start ≡ true → Listed g w) → v ≤ known → v < variables → w ≡ variable + v → sideFault g Left start (suc k) known w ≡ none
+  variable-taken k known v w true h b few e = absurd (let l = h refl in omega arith)
+  variable-taken k known v w false h b few e = variable-passes g Left false (suc k) known w (omega arith) (variable-left known v w b few e)
+
   pub left-taken : {due known last : ℕ} {ws : List ℕ} → Forest g (Word g) due ws → Numbered known last ws → last ≤ variables →
       (start : Bool) → (start ≡ true → Listed g (getD ws 0 variable)) → Taken g Left start due known last ws
   left-taken empty end l start h = done
   left-taken (more {k} p f) (symbol {n = known} {w} b m) l start h =
-      taken-cons g Left start k (side-symbol g Left start (suc k) known w (omega arith) (symbol-of w b p) ∙ go start h) (learn-symbol Left known w b)
+      taken-cons g Left start k (side-symbol g Left start (suc k) known w (omega arith) (symbol-of w b p) ∙ go start h) (learn-old Left known w (λ e. omega arith))
       (left-taken f m l false later-word)
     where
       go : (start : Bool) → (start ≡ true → Listed g w) → symbolFault g Left start w ≡ none
@@ -106,12 +122,10 @@ module _ (g : Signature) (below : length g ≤ variable) where
       go false h = symbol-later g Left false w refl
   left-taken (more {k} p f) (next {n = known} {w} e m) l start h =
       let q = numbered-le m in
-      let c : variable ≤ w = omega arith in
-      taken-cons g Left start k (go start h e (omega arith)) (learn-variable Left known w refl c) (left-taken f m l false later-word)
-    where
-      go : (start : Bool) → (start ≡ true → Listed g w) → w ≡ variable + known → known < variables → sideFault g Left start (suc k) known w ≡ none
-      go true h e b = absurd (let l = h refl in omega arith)
-      go false h e b = variable-passes g Left false (suc k) known w (omega arith) (variable-left known w b e)
+      taken-cons g Left start k (variable-taken k known known w start h (omega arith) (omega arith) e) (learn-new Left known w refl e) (left-taken f m l false later-word)
+  left-taken (more {k} p f) (again {n = known} {v} {w} e b m) l start h =
+      let q = numbered-le m in
+      taken-cons g Left start k (variable-taken k known v w start h (omega arith) (omega arith) e) (learn-old Left known w (λ d. omega arith)) (left-taken f m l false later-word)
 
   pub right-taken : {due known : ℕ} {ws : List ℕ} → Forest g (Word g) due ws → known ≤ variables → ((w : ℕ) → Member w ws → w < variable + known) →
       (start : Bool) → Taken g Right start due known known ws

@@ -63,8 +63,8 @@ readerCases =
     ∷ record { label = 2; got = reading cutB; expected = 1 ∷ 38 ∷ 0 ∷ [] }
     -- "With one word more: 8 at 39"
     ∷ record { label = 3; got = reading longB; expected = 8 ∷ 39 ∷ 0 ∷ [] }
-    -- "Word 29 made 32768: 7 at 29"
-    ∷ record { label = 4; got = reading twiceB; expected = 7 ∷ 29 ∷ 0 ∷ [] }
+    -- "Word 29 made 32768", 02, F-7: "taken, place 39"
+    ∷ record { label = 4; got = reading twiceB; expected = 0 ∷ 39 ∷ 0 ∷ [] }
     -- "Empty book: 1 at 0"
     ∷ record { label = 5; got = reading []; expected = 1 ∷ 0 ∷ 0 ∷ [] }
     -- "Book of one word 0: 2 at 0"

@@ -55,11 +55,12 @@ pub record Reading : Type 0 where
   pub words : List ℕ
   pub known : ℕ
 
--- "A left side starts with a name, and its placeholders appear as 0, 1, 2, .. in reading order";
--- "A right side uses only placeholders of its left side". Variable k, at the first word or later, where `known` are known
+-- "A left side starts with a name, and its placeholders appear as 0, 1, 2, .. in reading order"; 02, F-7: "Number 7 in a left side is now for
+-- a placeholder above the count of different ones before it"; "A right side uses only placeholders of its left side". Variable k, at the
+-- first word or later, where `known` are known
 unfoldable pub variableFault : SideRole → Bool → ℕ → ℕ → Option Fault
 variableFault Left true known k = some variableHead
-variableFault Left false known k = cond (eqb k known) none (some unbound)
+variableFault Left false known k = cond (leb k known) none (some unbound)
 variableFault Right first known k = cond (ltb k known) none (some unbound)
 
 -- a symbol, at the first word or later. 02, F-2: 15 "where a left side starts with a level or either of these words, checked where 6 is"
@@ -79,9 +80,9 @@ sideFault g h first due known w =
       ]
     ]
 
--- how many variables are known after a word
+-- how many different variables are known after a word: one more where it is the next new one
 unfoldable pub learn : SideRole → ℕ → ℕ → ℕ
-learn Left known w = cond (leb variable w) (suc known) known
+learn Left known w = cond (eqb w (variable + known)) (suc known) known
 learn Right known w = known
 
 module _ (ws : List ℕ) where

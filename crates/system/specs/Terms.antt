@@ -37,12 +37,13 @@ unfoldable pub among : ℕ → List ℕ → Bool
 among e [] = false
 among e (d ∷ ds) = eqb e d || among e ds
 
--- `Numbered n m ws`: the variables of ws are number n, n + 1, .. up to m - 1, in this order, each once
--- ("its placeholders appear as 0, 1, 2, .. in reading order, each once")
+-- `Numbered n m ws`: after n different variables, ws leads to m: each of its variables is the next new one or again one from before
+-- ("its placeholders appear as 0, 1, 2, .. in reading order"; 02, F-7: "A left side may now repeat a placeholder")
 pub data Numbered : ℕ → ℕ → List ℕ → Type 0 where
   end : {n : ℕ} → Numbered n n []
   symbol : {n m w : ℕ} {ws : List ℕ} → w < variable → Numbered n m ws → Numbered n m (w ∷ ws)
   next : {n m w : ℕ} {ws : List ℕ} → w ≡ variable + n → Numbered (suc n) m ws → Numbered n m (w ∷ ws)
+  again : {n m v w : ℕ} {ws : List ℕ} → w ≡ variable + v → v < n → Numbered n m ws → Numbered n m (w ∷ ws)
 
 -- a rule that 01 allows: "a length 1 to 64 and its left side, then a length 1 to 64 and its right side";
 -- "A left side starts with a name" (here any symbol, so that the built-in rules are well formed too; of the book's own rules see `ownRules`);

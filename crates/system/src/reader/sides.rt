@@ -46,7 +46,7 @@ fn variable_fault(role: SideRole, first: bool, known: usize, k: usize) -> u32
             if first {
                 return VARIABLE_HEAD;
             }
-            if k == known {
+            if k <= known {
                 return 0;
             }
             UNBOUND
@@ -98,14 +98,14 @@ fn side_fault(book: &[u16], role: SideRole, first: bool, due: usize, known: usiz
     variable_fault(role, first, known, x - VARIABLE)
 }
 
-// How many variables are known after word w.
+// How many different variables are known after word w.
 fn learn(role: SideRole, known: usize, w: u16) -> usize
     requires { ⌜ known ≤ 65535 ⌝ }
     ensures { λ r. ⌜ (r ≡ learn role known w) × (r ≤ known + 1) ⌝ }
 {
     match role {
         SideRole::Left => {
-            if VARIABLE <= w as usize {
+            if w as usize == VARIABLE + known {
                 return known + 1;
             }
             known
