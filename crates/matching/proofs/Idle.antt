@@ -14,12 +14,12 @@ use borrow.Author.Tests.{eq-eqb, ne-eqb}
 use Rattle.system.specs.Limits.{variable}
 use Rattle.system.specs.Signature.{Signature, Symbol, arity, span, argument, subterm}
 use Rattle.system.specs.System.{System, Rule, head, instance}
-use Rattle.system.specs.Terms.{Forest, more, Word, Whole, Side, Member, later, Numbered, WellFormedRule, WellFormed}
+use Rattle.system.specs.Terms.{Forest, more, Word, Whole, Side, Member, later, occurs, WellFormedRule, WellFormed}
 use Rattle.matching.specs.Matching.{Matches, contraction}
-use Rattle.matching.specs.Safety.{Idle, Constructor}
+use Rattle.matching.specs.Safety.{argumentWord, HeldOnce, Idle, Constructor}
 use Rattle.system.proofs.Signatures.{arity-variable, symbol-below, few-symbols}
 use Rattle.system.proofs.Rules.{rule-formed}
-use Rattle.system.proofs.Members.{numbered-once}
+use Rattle.system.proofs.Occurrences.{occurs-once}
 use Rattle.system.proofs.Forests.{forest-none, span-forest, Wholes, parts-of, forest-take, flatten-set, focus-here, Node, node-whole, node-set}
 use Rattle.system.proofs.Places.{root-argument, at-head, at-subterm}
 use Rattle.matching.proofs.Matched.{instance-symbol, instance-variable, instance-cong, instance-forest}
@@ -52,7 +52,7 @@ module _ (g : Signature) where
       pub equal : instance σ lhs ≡ u
 
     module _ (w : ℕ) (us ps : List (List ℕ)) (i : ℕ) (nw : w < variable) (wu : Wholes g (Symbol g) us) (wp : Wholes g (Word g) ps) (lu : i < length us) (lp : i < length ps)
-        (var : variable ≤ head (getD ps i [])) {count : ℕ} (numbered : Numbered 0 count (w ∷ flatten ps)) where
+        (var : variable ≤ head (getD ps i [])) (once : occurs (head (getD ps i [])) (w ∷ flatten ps) ≡ 1) where
       x : ℕ
       x = head (getD ps i [])
 
@@ -77,7 +77,7 @@ module _ (g : Signature) where
       absent : (Member x before → ⊥) × (Member x behind → ⊥)
       unfolding x
       absent =
-          let c = numbered-once (w ∷ before) behind (subst (λ ls. Numbered 0 count (w ∷ ls)) side-parts numbered) var in
+          let c = occurs-once x (w ∷ before) behind (ap (λ ls. occurs x (w ∷ ls)) (sym side-parts) ∙ once) in
           (λ m. c .0 (later m), c .1)
 
       -- an instance, part by part
@@ -125,24 +125,24 @@ module _ (g : Signature) where
                 ∙ ap (λ r. w ∷ r) (sym (rw (set-getD us i []) at (flatten-set us i (getD us i []) lu)));
           }
 
-    -- an instance of a side after a change of an argument that is a variable: the side has an instance before the change
-    idle-fills : (us : List (List ℕ)) (i : ℕ) (v : List ℕ) {count : ℕ} {lhs : List ℕ} → Side g lhs → Numbered 0 count lhs → Symbol g (head lhs) → Node g (head lhs) us →
-        i < length us → Whole g v → variable ≤ getD lhs (argument g lhs 0 i) 0 → Fills lhs (head lhs ∷ flatten (set us i v)) → Fills lhs (head lhs ∷ flatten us)
-    idle-fills us i v {count} (more {w} {k} {ws} _ f) nb nm d l h z e =
+    -- an instance of a side after a change of an argument that is a variable held once: the side has an instance before the change
+    idle-fills : (us : List (List ℕ)) (i : ℕ) (v : List ℕ) {lhs : List ℕ} → Side g lhs → Symbol g (head lhs) → Node g (head lhs) us →
+        i < length us → Whole g v → HeldOnce g lhs i → Fills lhs (head lhs ∷ flatten (set us i v)) → Fills lhs (head lhs ∷ flatten us)
+    idle-fills us i v (more {w} {k} {ws} _ f) nm d l h z e =
         let c = parts-of g (Word g) (0 + arity g w) f in
-        rw (c .equal) (go (c .parts) (c .count) (c .wholes) (rw (c .equal) at z) (rw (c .equal) at nb) (rw (c .equal) at e))
+        rw (c .equal) (go (c .parts) (c .count) (c .wholes) (rw (c .equal) at (z .placeholder)) (rw (c .equal) at (z .once)) (rw (c .equal) at e))
       where
-        go : (ps : List (List ℕ)) → length ps ≡ 0 + arity g w → Wholes g (Word g) ps → variable ≤ getD (w ∷ flatten ps) (argument g (w ∷ flatten ps) 0 i) 0 →
-            Numbered 0 count (w ∷ flatten ps) →
+        go : (ps : List (List ℕ)) → length ps ≡ 0 + arity g w → Wholes g (Word g) ps → variable ≤ argumentWord g (w ∷ flatten ps) i →
+            occurs (argumentWord g (w ∷ flatten ps) i) (w ∷ flatten ps) ≡ 1 →
             Fills (w ∷ flatten ps) (w ∷ flatten (set us i v)) → Fills (w ∷ flatten ps) (w ∷ flatten us)
-        go ps c wp var nb e =
+        go ps c wp var once e =
             let m : i < length ps = (let n = d .count in omega arith) in
             let q : w ∷ flatten ps ≡ (w ∷ flatten (take i ps)) ++ (getD ps i [] ++ (flatten (drop (suc i) ps) ++ [])) =
             sym (append-nil (w ∷ flatten ps)) ∙ focus-here [] [] w ps i m in
             let y : getD (w ∷ flatten ps) (argument g (w ∷ flatten ps) 0 i) 0 ≡ head (getD ps i []) =
             ap (λ j. getD (w ∷ flatten ps) j 0) (root-argument g (Word g) w ps i m wp) ∙ ap (λ r. getD r (length (w ∷ flatten (take i ps))) 0) q
             ∙ at-head g (Word g) (w ∷ flatten (take i ps)) (flatten (drop (suc i) ps) ++ []) (wp i m) in
-            fills-before w us ps i (symbol-below g w few nm) (d .wholes) wp l m (rw y at var) nb v h e
+            fills-before w us ps i (symbol-below g w few nm) (d .wholes) wp l m (rw y at var) (rw y at once) v h e
 
     -- a rule that matches begins with the term's symbol
     filled-head : {lhs : List ℕ} (σ : ℕ → List ℕ) → Side g lhs → Symbol g (getD lhs 0 variable) → head (instance σ lhs) ≡ head lhs
@@ -156,7 +156,7 @@ module _ (g : Signature) where
 
     -- the idle law: a rule that matches after a change of an idle argument matched before it
     pub idle-matches : (w : ℕ) (us : List (List ℕ)) (i : ℕ) (v : List ℕ) {r : Rule} → WellFormedRule g r → head (r .lhs) ≡ w → Node g w us → i < length us → Whole g v →
-        variable ≤ getD (r .lhs) (argument g (r .lhs) 0 i) 0 → Matches g (w ∷ flatten (set us i v)) 0 r → Matches g (w ∷ flatten us) 0 r
+        HeldOnce g (r .lhs) i → Matches g (w ∷ flatten (set us i v)) 0 r → Matches g (w ∷ flatten us) 0 r
     idle-matches w us i v {r} law q d l h z m =
         let f = go w q d (m .equal ∙ root-subterm (node-whole g w (set us i v) (node-set g w us i v d h))) in
         record { σ = f .σ; whole = f .whole; equal = f .equal ∙ sym (root-subterm (node-whole g w us d)) }
@@ -164,7 +164,7 @@ module _ (g : Signature) where
         go : (w : ℕ) → head (r .lhs) ≡ w → Node g w us → instance (m .σ) (r .lhs) ≡ w ∷ flatten (set us i v) → Fills (r .lhs) (w ∷ flatten us)
         go w q d e =
             subst (λ w. Node g w us → instance (m .σ) (r .lhs) ≡ w ∷ flatten (set us i v) → Fills (r .lhs) (w ∷ flatten us)) q
-            (λ d e. idle-fills us i v (law .left) (law .numbered) (symbol-head (law .left) (law .headed)) d l h z (record { σ = m .σ; whole = m .whole; equal = e })) d e
+            (λ d e. idle-fills us i v (law .left) (symbol-head (law .left) (law .headed)) d l h z (record { σ = m .σ; whole = m .whole; equal = e })) d e
 
 module _ (s : System) (wf : WellFormed s) where
   abbrev g : Signature

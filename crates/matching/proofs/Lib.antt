@@ -1,9 +1,11 @@
 -- Matching, and the first rule that matches
+pub mod SameWords
 pub mod Matched
 pub mod Computed
 pub mod Firsts
 -- The stretches are what `bind` finds; the reduct
 pub mod Words
+pub mod Stretches
 pub mod BindingsAgree
 pub mod Sources
 pub mod Reducts

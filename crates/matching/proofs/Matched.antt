@@ -7,18 +7,19 @@ use mathlib.Core.Path.{_≡_, refl, sym, ap, _∙_, subst}
 use mathlib.Core.Logic.{inl, inr}
 use mathlib.Core.Option.{Option, none, some}
 use mathlib.Core.List.{List, [], _∷_, _++_, append-assoc, append-nil}
-use lib.ListN.{length, getD, take, drop, length-append}
+use lib.ListN.{length, getD, take, drop, length-append, List·getD-append}
 use lib.Seq.{drop-append-seam, take-append-seam, append-snoc, getD-at}
 use borrow.Author.Tests.{lt-ltb, le-ltb, eq-eqb, ne-eqb}
 use Rattle.system.specs.Limits.{variable}
 use Rattle.system.specs.Signature.{Signature, Symbol, span, arity}
 use Rattle.system.specs.System.{Rule, instance}
-use Rattle.system.specs.Terms.{Forest, empty, more, Word, Whole, Member, first, later, Numbered, end, symbol, next, WellFormedRule}
-use Rattle.matching.specs.Matching.{Matches, bind}
+use Rattle.system.specs.Terms.{Forest, empty, more, Word, Whole, Member, first, later, Numbered, end, symbol, next, again, WellFormedRule}
+use Rattle.matching.specs.Matching.{Matches, sameWords, bind}
 use Rattle.system.proofs.Signatures.{getD-within, arity-variable, symbol-below}
 use Rattle.system.proofs.Forests.{span-forest, join, split, Split, Wholes, wholes-cons, wholes-getD}
 use Rattle.system.proofs.Members.{numbered-below}
 use Rattle.system.proofs.Places.{at-subterm}
+use Rattle.matching.proofs.SameWords.{same-self, differ-same, same-words}
 
 -- one word of a side
 pub instance-nil : (σ : ℕ → List ℕ) → instance σ [] ≡ []
@@ -66,30 +67,39 @@ module _ (g : Signature) where
   unfolding bind
   bind-differ l w ls ws σ h d = rw (lt-ltb l variable h, bind) (rw (ne-eqb l w d))
 
-  pub bind-past : (l w : ℕ) (ls ws : List ℕ) (σ : List (List ℕ)) → variable ≤ l →
+  -- a variable that is new, and one that is bound already
+  pub bind-new : (l w : ℕ) (ls ws : List ℕ) (σ : List (List ℕ)) → variable ≤ l → length σ ≤ l - variable →
       bind g (l ∷ ls) (w ∷ ws) σ ≡ bind g ls (drop (span g (w ∷ ws) 1) (w ∷ ws)) (σ ++ take (span g (w ∷ ws) 1) (w ∷ ws) ∷ [])
   unfolding bind
-  bind-past l w ls ws σ h = rw (le-ltb l variable h, bind)
+  bind-new l w ls ws σ h n = rw (le-ltb l variable h, bind) (rw (le-ltb (l - variable) (length σ) n))
 
-  pub bind-variable : (l : ℕ) (ls ws : List ℕ) {x : List ℕ} (σ : List (List ℕ)) → variable ≤ l → Whole g x →
-      bind g (l ∷ ls) (x ++ ws) σ ≡ bind g ls ws (σ ++ x ∷ [])
-  bind-variable l ls ws {x = w ∷ x} σ h f =
-      rw (bind-past l w ls (x ++ ws) σ h, span-forest g (Symbol g) ws f, drop-append-seam (w ∷ x) ws, take-append-seam (w ∷ x) ws)
+  pub bind-same : (l w : ℕ) (ls ws : List ℕ) (σ : List (List ℕ)) → variable ≤ l → l - variable < length σ →
+      getD σ (l - variable) [] ≡ take (span g (w ∷ ws) 1) (w ∷ ws) → bind g (l ∷ ls) (w ∷ ws) σ ≡ bind g ls (drop (span g (w ∷ ws) 1) (w ∷ ws)) σ
+  unfolding bind
+  bind-same l w ls ws σ h n e =
+      rw (le-ltb l variable h, bind) (rw (lt-ltb (l - variable) (length σ) n) (rw (e, same-self (take (span g (w ∷ ws) 1) (w ∷ ws)))))
 
-  -- whether a side is bound does not depend on what was bound before
-  pub bind-any : (ls ws : List ℕ) (σ σ′ : List (List ℕ)) → bind g ls ws σ ≡ none → bind g ls ws σ′ ≡ none
-  bind-any [] ws σ σ′ e = absurd (let z : _≡_ {A = ℕ} 0 1 = cc (bind-nil ws σ) in omega arith)
-  bind-any (l ∷ ls) [] σ σ′ e = unfold bind in refl
-  bind-any (l ∷ ls) (w ∷ ws) σ σ′ e =
-      elim (decLt l variable) [
-        | yes h ↦ elim (ℕ-discrete l w) [
-          | yes q ↦ rw (← q, bind-symbol l ls ws σ′ h) (bind-any ls ws σ σ′ (rw (← q, bind-symbol l ls ws σ h) at e))
-          | no d ↦ bind-differ l w ls ws σ′ h d
-        ]
-        | no h ↦
-            let v : variable ≤ l = omega arith in
-            rw (bind-past l w ls ws σ′ v) (bind-any ls _ _ _ (rw (bind-past l w ls ws σ v) at e))
-      ]
+  pub bind-other : (l w : ℕ) (ls ws : List ℕ) (σ : List (List ℕ)) → variable ≤ l → l - variable < length σ →
+      (getD σ (l - variable) [] ≡ take (span g (w ∷ ws) 1) (w ∷ ws) → ⊥) → bind g (l ∷ ls) (w ∷ ws) σ ≡ none
+  unfolding bind
+  bind-other l w ls ws σ h n d =
+      rw (le-ltb l variable h, bind) (rw (lt-ltb (l - variable) (length σ) n)
+      (rw (differ-same (getD σ (l - variable) []) (take (span g (w ∷ ws) 1) (w ∷ ws)) d)))
+
+  -- the same before a whole term
+  module _ (l : ℕ) (ls ws : List ℕ) (h : variable ≤ l) where
+    pub bind-variable : {x : List ℕ} (σ : List (List ℕ)) → length σ ≤ l - variable → Whole g x → bind g (l ∷ ls) (x ++ ws) σ ≡ bind g ls ws (σ ++ x ∷ [])
+    bind-variable {x = w ∷ x} σ n f =
+        rw (bind-new l w ls (x ++ ws) σ h n, span-forest g (Symbol g) ws f, drop-append-seam (w ∷ x) ws, take-append-seam (w ∷ x) ws)
+
+    pub bind-known : {x : List ℕ} (σ : List (List ℕ)) → l - variable < length σ → Whole g x → getD σ (l - variable) [] ≡ x → bind g (l ∷ ls) (x ++ ws) σ ≡ bind g ls ws σ
+    bind-known {x = w ∷ x} σ n f e =
+        bind-same l w ls (x ++ ws) σ h n (e ∙ sym (ap (λ k. take k (w ∷ x ++ ws)) (span-forest g (Symbol g) ws f) ∙ take-append-seam (w ∷ x) ws))
+        ∙ ap (λ r. bind g ls r σ) (ap (λ k. drop k (w ∷ x ++ ws)) (span-forest g (Symbol g) ws f) ∙ drop-append-seam (w ∷ x) ws)
+
+    pub bind-unlike : {x : List ℕ} (σ : List (List ℕ)) → l - variable < length σ → Whole g x → (getD σ (l - variable) [] ≡ x → ⊥) → bind g (l ∷ ls) (x ++ ws) σ ≡ none
+    bind-unlike {x = w ∷ x} σ n f d =
+        bind-other l w ls (x ++ ws) σ h n (λ e. d (e ∙ ap (λ k. take k (w ∷ x ++ ws)) (span-forest g (Symbol g) ws f) ∙ take-append-seam (w ∷ x) ws))
 
   module _ (few : length g ≤ variable) where
     -- the term that a variable stands for, and the rest
@@ -108,8 +118,17 @@ module _ (g : Signature) where
         ]
     bind-append ms b σ (more {w = l} {k} {ws = ls} (inr h) f) fu =
         let c = peel l k h fu in
-        rw (c .equal, append-assoc (c .front) (c .back) b, bind-variable l (ls ++ ms) (c .back ++ b) σ h (c .fronts), bind-variable l ls (c .back) σ h (c .fronts))
-        (bind-append ms b (σ ++ c .front ∷ []) f (c .backs))
+        rw (c .equal, append-assoc (c .front) (c .back) b) (elim (decLt (l - variable) (length σ)) [
+          | no n ↦
+              rw (bind-variable l (ls ++ ms) (c .back ++ b) h σ (omega arith) (c .fronts), bind-variable l ls (c .back) h σ (omega arith) (c .fronts))
+              (bind-append ms b (σ ++ c .front ∷ []) f (c .backs))
+          | yes n ↦ elim (same-words (getD σ (l - variable) []) (c .front)) [
+            | yes e ↦
+                rw (bind-known l (ls ++ ms) (c .back ++ b) h σ n (c .fronts) e, bind-known l ls (c .back) h σ n (c .fronts) e)
+                (bind-append ms b σ f (c .backs))
+            | no d ↦ rw (bind-unlike l (ls ++ ms) (c .back ++ b) h σ n (c .fronts) d, bind-unlike l ls (c .back) h σ n (c .fronts) d)
+          ]
+        ])
 
     -- what bind adds: whole terms, one for each variable, which fill the side to what was matched
     pub record Bound (σ σ′ : List (List ℕ)) (m : ℕ) (ls u : List ℕ) : Type 0 where
@@ -141,7 +160,7 @@ module _ (g : Signature) where
         let v : variable ≤ l = omega arith in
         let x = peel l k v fu in
         let d = bind-sound b (σ ++ x .front ∷ []) σ′ f nb (x .backs) (rw (length-append σ (x .front ∷ [])) (omega arith))
-        (rw (x .equal, append-assoc (x .front) (x .back) b, bind-variable l ls (x .back ++ b) σ v (x .fronts)) at e) in
+        (rw (x .equal, append-assoc (x .front) (x .back) b, bind-variable l ls (x .back ++ b) v σ (omega arith) (x .fronts)) at e) in
         let q′ = d .equal ∙ append-snoc σ (x .front) (d .added) in
         record {
           added = x .front ∷ d .added;
@@ -151,16 +170,57 @@ module _ (g : Signature) where
           filled = rw (instance-variable (λ v. getD σ′ v []) l n ls q, d .filled)
               (ap (λ r. r ++ x .back) (ap (λ r. getD r n []) q′ ∙ getD-at σ (x .front) (d .added) [] n c) ∙ sym (x .equal));
         }
+    bind-sound {n} b σ σ′ (more {k} _ f) (again {v = y} {w = l} {ws = ls} q m nb) fu c e =
+        let v : variable ≤ l = omega arith in
+        let i : l - variable ≡ y = omega arith in
+        let h : l - variable < length σ = omega arith in
+        let x = peel l k v fu in
+        let e′ : bind g (l ∷ ls) (x .front ++ (x .back ++ b)) σ ≡ some σ′ = rw (x .equal, append-assoc (x .front) (x .back) b) at e in
+        elim (same-words (getD σ (l - variable) []) (x .front)) [
+          | no d ↦ absurd (let z : _≡_ {A = ℕ} 0 1 = cc (bind-unlike l ls (x .back ++ b) v σ h (x .fronts) d) in omega arith)
+          | yes s ↦
+              let d = bind-sound b σ σ′ f nb (x .backs) c (sym (bind-known l ls (x .back ++ b) v σ h (x .fronts) s) ∙ e′) in
+              record {
+                added = d .added;
+                equal = d .equal;
+                count = d .count;
+                wholes = d .wholes;
+                filled = rw (instance-variable (λ v. getD σ′ v []) l y ls q, d .filled)
+                    (ap (λ r. r ++ x .back) (ap (λ r. getD r y []) (d .equal) ∙ List·getD-append σ (d .added) [] y (omega arith) ∙ ap (λ j. getD σ j []) (sym i) ∙ s) ∙ sym (x .equal));
+              }
+        ]
+
+    -- the values found so far are those of a substitution
+    abbrev Agrees : List (List ℕ) → (ℕ → List ℕ) → Type 0
+    Agrees σ τ = (v : ℕ) → v < length σ → getD σ v [] ≡ τ v
+
+    agrees-snoc : (σ : List (List ℕ)) (τ : ℕ → List ℕ) (n : ℕ) → length σ ≡ n → Agrees σ τ → Agrees (σ ++ τ n ∷ []) τ
+    agrees-snoc σ τ n c h v l =
+        elim (decLt v (length σ)) [
+          | yes m ↦ List·getD-append σ (τ n ∷ []) [] v m ∙ h v m
+          | no m ↦
+              let l′ = rw (length-append σ (τ n ∷ [])) at l in
+              let q : v ≡ n = omega arith in
+              getD-at σ (τ n) [] [] v (omega arith) ∙ ap τ (sym q)
+        ]
 
     -- a side whose instance stands there is bound
     pub bind-complete : {n m : ℕ} {ls : List ℕ} (b : List ℕ) (σ : List (List ℕ)) (τ : ℕ → List ℕ) → ((v : ℕ) → Whole g (τ v)) → Numbered n m ls →
-        (σ′ : List (List ℕ)) × (bind g ls (instance τ ls ++ b) σ ≡ some σ′)
-    bind-complete b σ τ h end = (σ, bind-nil _ σ)
-    bind-complete b σ τ h (symbol {w} {ws} l nb) =
-        rw (instance-symbol τ w ws l, bind-symbol w ws (instance τ ws ++ b) σ l) (bind-complete b σ τ h nb)
-    bind-complete b σ τ h (next {n} {w} {ws} e nb) =
-        rw (instance-variable τ w n ws e, append-assoc (τ n) (instance τ ws) b, bind-variable w ws (instance τ ws ++ b) σ (omega arith) (h n))
-        (bind-complete b (σ ++ τ n ∷ []) τ h nb)
+        length σ ≡ n → Agrees σ τ → (σ′ : List (List ℕ)) × (bind g ls (instance τ ls ++ b) σ ≡ some σ′)
+    bind-complete b σ τ h end c a = (σ, bind-nil _ σ)
+    bind-complete b σ τ h (symbol {w} {ws} l nb) c a =
+        rw (instance-symbol τ w ws l, bind-symbol w ws (instance τ ws ++ b) σ l) (bind-complete b σ τ h nb c a)
+    bind-complete b σ τ h (next {n} {w} {ws} e nb) c a =
+        rw (instance-variable τ w n ws e, append-assoc (τ n) (instance τ ws) b, bind-variable w ws (instance τ ws ++ b) (omega arith) σ (omega arith) (h n))
+        (bind-complete b (σ ++ τ n ∷ []) τ h nb (rw (length-append σ (τ n ∷ [])) (omega arith)) (agrees-snoc σ τ n c a))
+    bind-complete b σ τ h (again {n} {v} {w} {ws} e l nb) c a =
+        let i : w - variable ≡ v = omega arith in
+        rw (
+          instance-variable τ w v ws e,
+          append-assoc (τ v) (instance τ ws) b,
+          bind-known w ws (instance τ ws ++ b) (omega arith) σ (omega arith) (h v) (ap (λ j. getD σ j []) i ∙ a v (omega arith)),
+        )
+        (bind-complete b σ τ h nb c a)
 
     -- a side filled with whole terms is whole
     pub instance-forest : {k : ℕ} {ls : List ℕ} (τ : ℕ → List ℕ) → ((v : ℕ) → Whole g (τ v)) → Forest g (Word g) k ls → Forest g (Symbol g) k (instance τ ls)
@@ -191,7 +251,7 @@ module _ (g : Signature) where
       -- not bound: the rule does not match
       pub unmatched : bind g (r .lhs) (u ++ b) [] ≡ none → Matches g (a ++ (u ++ b)) (length a) r → ⊥
       unmatched e m =
-          let c = bind-complete b [] (m .σ) (m .whole) (law .numbered) in
+          let c = bind-complete b [] (m .σ) (m .whole) (law .numbered) refl (λ v l. absurd (not-suc-le-zero l)) in
           let q : instance (m .σ) (r .lhs) ≡ u = m .equal ∙ at-subterm g (Symbol g) a b whole in
           let q′ = c .1 in
           let z : _≡_ {A = ℕ} 0 1 = cc in omega arith

@@ -7,19 +7,20 @@ use mathlib.Core.Path.{_≡_, refl, sym, ap, _∙_, subst}
 use mathlib.Core.Logic.{_⊎_, inl, inr}
 use mathlib.Core.Option.{some}
 use mathlib.Core.List.{List, [], _∷_, _++_}
-use lib.ListN.{length, getD, take, drop, set, length-set, take-append-drop}
-use lib.Seq.{getD-set-same, getD-set-other, take-suc, take-take, take-length}
+use lib.ListN.{length, getD, take, drop, set, length-drop, take-append-drop}
+use lib.Seq.{getD-set-other, take-suc, take-take, take-length, length-take-le}
 use Rattle.system.specs.Limits.{variable, variables}
 use Rattle.system.specs.Signature.{Signature, span}
 use Rattle.system.specs.System.{Rule}
-use Rattle.system.specs.Terms.{Member, Numbered, end, symbol, next, WellFormedRule}
+use Rattle.system.specs.Terms.{Member, Numbered, end, symbol, next, again, WellFormedRule}
 use Rattle.system.proofs.Members.{member-getD, numbered-le, numbered-below}
-use Rattle.matching.specs.Bindings.{Bindings, noBindings, consumed, withBinding, bindings}
-use Rattle.matching.specs.rules.Searches.{reductLength}
-use Rattle.matching.proofs.BindingsAgree.{zero-at}
+use Rattle.matching.specs.Bindings.{Bindings, noBindings, consumed, value, taken, withBinding, bindings}
+use Rattle.matching.specs.rules.Searches.{reductLength, Within}
+use Rattle.matching.proofs.SameWords.{same-self, differ-same, same-words}
+use Rattle.matching.proofs.Stretches.{none-start, none-length, within-none, value-length, start-same, length-same, within-set}
 use Rattle.matching.proofs.Reducts.{length-done, length-symbol, length-variable}
-use Rattle.matching.proofs.rules.MatchSteps.{consumed-end, consumed-variable, consumed-differ, consumed-same, withBinding-symbol, withBinding-variable}
-use Rattle.matching.proofs.rules.MatchSteps.{words-end, words-stop, words-next}
+use Rattle.matching.proofs.rules.MatchSteps.{consumed-variable, consumed-differ, consumed-same, consumed-le, withBinding-symbol, withBinding-old, withBinding-new}
+use Rattle.matching.proofs.rules.MatchSteps.{taken-again, taken-unlike, taken-some, words-end, words-stop, words-next}
 
 -- ---- the length of a side's instance, in parts
 
@@ -68,28 +69,33 @@ module _ (g : Signature) (t : List ℕ) where
   -- the first word of the side takes some words
   record Taken (l : ℕ) (ls : List ℕ) (q : ℕ) (a a′ : Bindings) : Type 0 where
     words : ℕ
-    goes : bindings g ls (drop (q + words) t) (q + words) (withBinding l q words a) ≡ some a′
+    takes : taken g t l q a ≡ words
+    goes : bindings g t ls (q + words) (withBinding l q words a) ≡ some a′
     one : l < variable → words ≡ 1
     spans : variable ≤ l → words ≡ span g (drop q t) 1
+    some-words : 0 < words
+    fits : words ≤ length (drop q t)
 
-  taken : (l : ℕ) (ls : List ℕ) (q : ℕ) (a a′ : Bindings) → bindings g (l ∷ ls) (drop q t) q a ≡ some a′ → Taken l ls q a a′
-  taken l ls q a a′ e = go (consumed g l (drop q t)) refl
+  takes-some : (l : ℕ) (ls : List ℕ) (q : ℕ) (a a′ : Bindings) → bindings g t (l ∷ ls) q a ≡ some a′ → Taken l ls q a a′
+  takes-some l ls q a a′ e = go (taken g t l q a) refl
     where
-      go : (n : ℕ) → consumed g l (drop q t) ≡ n → Taken l ls q a a′
-      go zero c = absurd (let z : _≡_ {A = ℕ} 0 1 = cc (words-stop g (l ∷ ls) t 0 q a (omega arith) l refl 0 (sym c) refl) in omega arith)
+      go : (n : ℕ) → taken g t l q a ≡ n → Taken l ls q a a′
+      go zero c = absurd (let z : _≡_ {A = ℕ} 0 1 = cc (words-stop g t (l ∷ ls) 0 q a (omega arith) l refl 0 (sym c) refl) in omega arith)
       go (suc n) c =
-          let here : 0 < length (drop q t) = elim (decLt 0 (length (drop q t))) [
-            | yes h ↦ h
-            | no h ↦ absurd (let z = consumed-end g l (drop q t) (omega arith) in omega arith)
-          ] in
+          let k : consumed g l (drop q t) ≡ suc n = sym (taken-some g t l q a (λ z. omega arith)) ∙ c in
+          let m = consumed-le g l (drop q t) in
+          let here : 0 < length (drop q t) = omega arith in
           record {
             words = suc n;
-            goes = sym (words-next g (l ∷ ls) t 0 q a (omega arith) l refl (suc n) (sym c) (omega arith)) ∙ e;
+            takes = c;
+            goes = sym (words-next g t (l ∷ ls) 0 q a (omega arith) l refl (suc n) (sym c) (omega arith)) ∙ e;
             one = λ h. elim (ℕ-discrete l (getD (drop q t) 0 0)) [
-              | yes y ↦ sym c ∙ consumed-same g l (drop q t) here h y
+              | yes y ↦ sym k ∙ consumed-same g l (drop q t) here h y
               | no y ↦ absurd (let z = consumed-differ g l (drop q t) here h y in omega arith)
             ];
-            spans = λ h. sym c ∙ consumed-variable g l (drop q t) here h;
+            spans = λ h. sym k ∙ consumed-variable g l (drop q t) here h;
+            some-words = omega arith;
+            fits = omega arith;
           }
 
   -- the same seen from the word before
@@ -102,60 +108,95 @@ module _ (g : Signature) (t : List ℕ) where
     spans = p .spans;
   }
 
+  -- which variables have a stretch after n different ones
+  record First (a : Bindings) (n : ℕ) : Type 0 where
+    within : Within t (a .starts) (a .lengths)
+    known : (v : ℕ) → v < n → 0 < getD (a .lengths) v 0
+    others : (v : ℕ) → n ≤ v → getD (a .lengths) v 0 ≡ 0
+
   -- a binding more
   abbrev bound : ℕ → ℕ → ℕ → Bindings → Bindings
   bound n q k a = record { starts = set (a .starts) n q; lengths = set (a .lengths) n k }
 
-  taken-symbol : {l : ℕ} {ls : List ℕ} {q : ℕ} {a a′ : Bindings} (c : Taken l ls q a a′) → l < variable →
-      bindings g ls (drop (q + c .words) t) (q + c .words) a ≡ some a′
-  taken-symbol {l} {q} {a} c h = rw (withBinding-symbol l q (c .words) a h) at (c .goes)
+  module _ {l : ℕ} {ls : List ℕ} {q : ℕ} {a a′ : Bindings} (c : Taken l ls q a a′) where
+    goes-symbol : l < variable → bindings g t ls (q + c .words) a ≡ some a′
+    goes-symbol h = rw (withBinding-symbol l a q (c .words) h) at (c .goes)
 
-  taken-variable : {l : ℕ} {ls : List ℕ} {q : ℕ} {a a′ : Bindings} (c : Taken l ls q a a′) (n : ℕ) → l ≡ variable + n →
-      bindings g ls (drop (q + c .words) t) (q + c .words) (bound n q (c .words) a) ≡ some a′
-  taken-variable {l} {q} {a} c n e =
-      let i : l - variable ≡ n = omega arith in
-      rw (withBinding-variable l q (c .words) a (omega arith), i) at (c .goes)
+    module _ {n v : ℕ} (f : First a n) (e : l ≡ variable + v) where
+      index : l - variable ≡ v
+      index = omega arith
 
-  -- what is bound is kept: the variables that come are others, since each stands once, in the order of the numbers. Only here does it count that
-  -- none stands twice
+      goes-new : n ≡ v → bindings g t ls (q + c .words) (bound v q (c .words) a) ≡ some a′
+      goes-new i = rw (withBinding-new l a q (c .words) (omega arith) (f .others (l - variable) (omega (arith, index))), index) at (c .goes)
+
+      first-more : n ≡ v → v < variables → First (bound v q (c .words) a) (suc v)
+      first-more i few = record {
+        within = within-set t (f .within) v q (c .words) few (let z = c .fits in let s = c .some-words in let y = length-drop q t in omega arith);
+        known = λ u h. elim (ℕ-discrete u v) [
+          | yes z ↦ rw (z, length-same t (f .within) v q (c .words) few) (c .some-words)
+          | no d ↦ rw (getD-set-other (a .lengths) v u (c .words) 0 d) (f .known u (omega arith))
+        ];
+        others = λ u h. getD-set-other (a .lengths) v u (c .words) 0 (λ z. omega arith) ∙ f .others u (omega arith);
+      }
+
+      module _ (old : v < n) where
+        has : 0 < getD (a .lengths) (l - variable) 0
+        has = f .known (l - variable) (omega (arith, index))
+
+        goes-old : bindings g t ls (q + c .words) a ≡ some a′
+        goes-old = rw (withBinding-old l a q (c .words) (omega arith) has) at (c .goes)
+
+        -- the same words, so as many
+        as-many : getD (a .lengths) v 0 ≡ c .words
+        as-many = elim (same-words (value t a (l - variable)) (take (consumed g l (drop q t)) (drop q t))) [
+          | yes s ↦
+              let k = sym (taken-again g t l q a (omega arith) has (rw s (same-self (take (consumed g l (drop q t)) (drop q t))))) ∙ c .takes in
+              sym (ap (λ u. getD (a .lengths) u 0) index) ∙ sym (value-length t a (f .within) (l - variable)) ∙ ap length s
+              ∙ length-take-le (consumed g l (drop q t)) (drop q t) (consumed-le g l (drop q t)) ∙ k
+          | no d ↦ absurd (let z = taken-unlike g t l q a (omega arith) has (differ-same _ _ d) in let y = c .takes in let s = c .some-words in omega arith)
+        ]
+
+  -- what is bound is kept: a stretch is noted where a variable stands first
   record Kept (a a′ : Bindings) (v : ℕ) : Type 0 where
     start : getD (a′ .starts) v 0 ≡ getD (a .starts) v 0
     words : getD (a′ .lengths) v 0 ≡ getD (a .lengths) v 0
 
-  kept : {n m : ℕ} {ls : List ℕ} → Numbered n m ls → (q : ℕ) (a a′ : Bindings) → bindings g ls (drop q t) q a ≡ some a′ → (v : ℕ) → (v < n) ⊎ (m ≤ v) → Kept a a′ v
-  kept end q a a′ e v out = let z : a ≡ a′ = cc (words-end g [] t 0 q a (omega arith)) in rw z (record { start = refl; words = refl })
-  kept (symbol {w = l} {ws = ls} h nb) q a a′ e v out =
-      let c = taken l ls q a a′ e in
-      kept nb (q + c .words) a a′ (taken-symbol c h) v out
-  kept (next {n} {m} {w = l} {ws = ls} y nb) q a a′ e v out =
-      let c = taken l ls q a a′ e in
+  kept : {n m : ℕ} {ls : List ℕ} → Numbered n m ls → m ≤ variables → (q : ℕ) (a a′ : Bindings) → First a n → bindings g t ls q a ≡ some a′ →
+      (v : ℕ) → (v < n) ⊎ (m ≤ v) → Kept a a′ v
+  kept end few q a a′ f e v out = let z : a ≡ a′ = cc (words-end g t [] 0 q a (omega arith)) in rw z (record { start = refl; words = refl })
+  kept (symbol {w = l} {ws = ls} h nb) few q a a′ f e v out =
+      let c = takes-some l ls q a a′ e in
+      kept nb few (q + c .words) a a′ f (goes-symbol c h) v out
+  kept (next {n} {m} {w = l} {ws = ls} y nb) few q a a′ f e v out =
+      let c = takes-some l ls q a a′ e in
+      let z = numbered-le nb in
       let far : (v ≡ n → ⊥) × ((v < suc n) ⊎ (m ≤ v)) = elim out [
         | inl h ↦ (omega arith, inl (omega arith))
-        | inr h ↦ (let z = numbered-le nb in omega arith, inr h)
+        | inr h ↦ (omega arith, inr h)
       ] in
-      let k = kept nb (q + c .words) _ a′ (taken-variable c n y) v (far .1) in
+      let k = kept nb few (q + c .words) _ a′ (first-more c f y refl (omega arith)) (goes-new c f y refl) v (far .1) in
       record {
         start = k .start ∙ getD-set-other (a .starts) n v q 0 (far .0);
         words = k .words ∙ getD-set-other (a .lengths) n v (c .words) 0 (far .0);
       }
+  kept (again {w = l} {ws = ls} y b nb) few q a a′ f e v out =
+      let c = takes-some l ls q a a′ e in
+      kept nb few (q + c .words) a a′ f (goes-old c f y b) v out
 
-  -- room for every variable
-  record Sized (a : Bindings) : Type 0 where
-    starts : length (a .starts) ≡ variables
-    lengths : length (a .lengths) ≡ variables
-
-  placed : {n m : ℕ} {ls : List ℕ} → Numbered n m ls → m ≤ variables → (q : ℕ) (a a′ : Bindings) → Sized a → bindings g ls (drop q t) q a ≡ some a′ →
+  placed : {n m : ℕ} {ls : List ℕ} → Numbered n m ls → m ≤ variables → (q : ℕ) (a a′ : Bindings) → First a n → bindings g t ls q a ≡ some a′ →
       (v : ℕ) → n ≤ v → v < m → Placed a′ q ls v
-  placed end few q a a′ r e v from to = absurd (omega arith)
-  placed (symbol {w = l} {ws = ls} h nb) few q a a′ r e v from to =
-      let c = taken l ls q a a′ e in
-      before (reduct-symbol (a′ .lengths) l h ∙ sym (c .one h)) (placed nb few (q + c .words) a a′ r (taken-symbol c h) v from to)
-  placed (next {n} {m} {w = l} {ws = ls} y nb) few q a a′ r e v from to =
-      let c = taken l ls q a a′ e in
+  placed end few q a a′ f e v from to = absurd (omega arith)
+  placed (symbol {w = l} {ws = ls} h nb) few q a a′ f e v from to =
+      let c = takes-some l ls q a a′ e in
+      before (reduct-symbol (a′ .lengths) l h ∙ sym (c .one h)) (placed nb few (q + c .words) a a′ f (goes-symbol c h) v from to)
+  placed (next {n} {m} {w = l} {ws = ls} y nb) few q a a′ f e v from to =
+      let c = takes-some l ls q a a′ e in
+      let z = numbered-le nb in
       let x = bound n q (c .words) a in
-      let k = kept nb (q + c .words) x a′ (taken-variable c n y) n (inl (omega arith)) in
-      let st : getD (a′ .starts) n 0 ≡ q = k .start ∙ getD-set-same (a .starts) n q 0 (let z = numbered-le nb in omega (arith, r .starts)) in
-      let ln : getD (a′ .lengths) n 0 ≡ c .words = k .words ∙ getD-set-same (a .lengths) n (c .words) 0 (let z = numbered-le nb in omega (arith, r .lengths)) in
+      let f′ = first-more c f y refl (omega arith) in
+      let k = kept nb few (q + c .words) x a′ f′ (goes-new c f y refl) n (inl (omega arith)) in
+      let st : getD (a′ .starts) n 0 ≡ q = k .start ∙ start-same t (f .within) n q (c .words) (omega arith) in
+      let ln : getD (a′ .lengths) n 0 ≡ c .words = k .words ∙ length-same t (f .within) n q (c .words) (omega arith) in
       elim (ℕ-discrete v n) [
         | yes i ↦ subst (Placed a′ q (l ∷ ls)) (sym i) (record {
           index = 0;
@@ -164,10 +205,12 @@ module _ (g : Signature) (t : List ℕ) where
           start = st ∙ omega (arith, reduct-none (a′ .lengths));
           spans = ln ∙ c .spans (omega arith) ∙ ap (λ y. span g (drop y t) 1) (sym st);
         })
-        | no i ↦
-            let r′ : Sized x = record { starts = length-set (a .starts) n q ∙ r .starts; lengths = length-set (a .lengths) n (c .words) ∙ r .lengths } in
-            before (reduct-variable (a′ .lengths) l n y ∙ ln) (placed nb few (q + c .words) x a′ r′ (taken-variable c n y) v (omega arith) to)
+        | no i ↦ before (reduct-variable (a′ .lengths) l n y ∙ ln) (placed nb few (q + c .words) x a′ f′ (goes-new c f y refl) v (omega arith) to)
       ]
+  placed (again {v = u} {w = l} {ws = ls} y b nb) few q a a′ f e v from to =
+      let c = takes-some l ls q a a′ e in
+      let k = kept nb few (q + c .words) a a′ f (goes-old c f y b) u (inl b) in
+      before (reduct-variable (a′ .lengths) l u y ∙ k .words ∙ as-many c f y b) (placed nb few (q + c .words) a a′ f (goes-old c f y b) v from to)
 
   -- ---- what that tells
 
@@ -200,22 +243,13 @@ module _ (g : Signature) (t : List ℕ) where
     pub placed-later : getD ls 0 variable < variable → 0 < getD (a .starts) v 0
     placed-later h = let z = reduct-first (a .lengths) ls (p .index) (p .inside) h (omega (arith, p .word)) in omega (arith, p .start)
 
-  sized-none : Sized noBindings
-  unfolding noBindings
-  sized-none = record { starts = refl; lengths = refl }
-
-  none-start : (v : ℕ) → getD (noBindings .starts) v 0 ≡ 0
-  unfolding noBindings
-  none-start v = zero-at variables v
-
-  none-length : (v : ℕ) → getD (noBindings .lengths) v 0 ≡ 0
-  unfolding noBindings
-  none-length v = zero-at variables v
+  first-none : First noBindings 0
+  first-none = record { within = within-none t; known = λ v h. absurd (omega arith); others = λ v h. none-length v }
 
   -- the left side of a rule
-  module _ {r : Rule} (law : WellFormedRule g r) {a : Bindings} (e : bindings g (r .lhs) t 0 noBindings ≡ some a) where
+  module _ {r : Rule} (law : WellFormedRule g r) {a : Bindings} (e : bindings g t (r .lhs) 0 noBindings ≡ some a) where
     pub below-placed : (v : ℕ) → v < law .count → Placed a 0 (r .lhs) v
-    below-placed v h = placed (law .numbered) (law .variableBound) 0 noBindings a sized-none e v (omega arith) h
+    below-placed v h = placed (law .numbered) (law .variableBound) 0 noBindings a first-none e v (omega arith) h
 
     pub member-placed : (v : ℕ) → Member (variable + v) (r .lhs) → Placed a 0 (r .lhs) v
     member-placed v st = below-placed v (let z = numbered-below (law .numbered) st in omega arith)
@@ -224,5 +258,5 @@ module _ (g : Signature) (t : List ℕ) where
     pub any-placed : (v : ℕ) → Placed a 0 (r .lhs) v ⊎ ((getD (a .starts) v 0 ≡ 0) × (getD (a .lengths) v 0 ≡ 0))
     any-placed v = elim (decLt v (law .count)) [
       | yes h ↦ inl (below-placed v h)
-      | no h ↦ let k = kept (law .numbered) 0 noBindings a e v (inr (omega arith)) in inr (k .start ∙ none-start v, k .words ∙ none-length v)
+      | no h ↦ let k = kept (law .numbered) (law .variableBound) 0 noBindings a first-none e v (inr (omega arith)) in inr (k .start ∙ none-start v, k .words ∙ none-length v)
     ]

@@ -28,6 +28,7 @@ use Rattle.matching.specs.rules.Searches.{reductLength, RightSideAt, Wit
 use Rattle.matching.proofs.Matched.{instance-nil, instance-symbol, instance-variable, instance-cong, instance-ground, bind-sound}
 use Rattle.matching.proofs.Computed.{Redex, computed-built, computed-rest, computed-value}
 use Rattle.matching.proofs.Firsts.{contraction-rest, fired, unfired}
+use Rattle.matching.proofs.Stretches.{value-length}
 use Rattle.matching.proofs.BindingsAgree.{Chosen}
 use Rattle.matching.proofs.Sources.{found, all-within, match-listed, match-computed, match-contraction}
 use Rattle.system.proofs.layout.Books.{well, signature}
@@ -74,12 +75,7 @@ module _ (lengths : List ℕ) where
       pub length-variable : variable ≤ w → reductLength lengths (drop j side) ≡ getD lengths (w - variable) 0 + reductLength lengths (drop (j + 1) side)
       length-variable h = ap (reductLength lengths) split ∙ length-cons-variable w (drop (j + 1) side) h
 
--- what a variable stands for is as long as its stretch
-pub value-length : (ws : List ℕ) (a : Bindings) → Within ws (a .starts) (a .lengths) → (v : ℕ) → length (value ws a v) ≡ getD (a .lengths) v 0
-unfolding value
-value-length ws a h v = let i = h .inside v in length-take-le (getD (a .lengths) v 0) (drop (getD (a .starts) v 0) ws) (rw (length-drop (getD (a .starts) v 0) ws) (omega arith))
-
--- so the reduct is as long as the lengths say
+-- what a variable stands for is as long as its stretch, so the reduct is as long as the lengths say
 pub reduct-length : (ws : List ℕ) (a : Bindings) → Within ws (a .starts) (a .lengths) → (ls : List ℕ) → length (instance (value ws a) ls) ≡ reductLength (a .lengths) ls
 reduct-length ws a h ls = instance-length (a .lengths) (value ws a) (value-length ws a h) ls
 

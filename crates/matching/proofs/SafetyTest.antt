@@ -8,18 +8,18 @@ use mathlib.Core.Logic.{inl, inr}
 use mathlib.Core.List.{List, [], _∷_, _++_}
 use mathlib.Core.Bool.{Bool, true, false, not, _&&_, _||_, or-true}
 use lib.ListN.{length, getD}
-use lib.Dec.{eqb}
-use borrow.Author.Tests.{leb-true, le-leb, eq-eqb, ne-eqb}
+use lib.Dec.{leb, eqb}
+use borrow.Author.Tests.{leb-true, eqb-true, le-leb, eq-eqb, ne-eqb}
 use Rattle.system.specs.Limits.{variable}
 use Rattle.system.specs.BuiltIns.{isBuiltIn, builtInArity}
-use Rattle.system.specs.Signature.{Listed}
+use Rattle.system.specs.Signature.{Signature, Listed}
 use Rattle.system.specs.System.{System, Rule, strategy, rule, noRule, head}
 use Rattle.system.specs.Rules.{BuiltIn, listed, builtIn}
-use Rattle.system.specs.Terms.{Member, first, later, WellFormed}
+use Rattle.system.specs.Terms.{Member, first, later, occurs, WellFormed}
 use Rattle.system.proofs.BuiltIns.{both, BuiltInWord, builtin-range, eager, strategy-eager, arity-none}
 use Rattle.system.proofs.Rules.{built-head, listed-head, strategy-unlisted}
-use Rattle.matching.specs.Safety.{Idle, IdleEntry, idle, Guarded, Constructor, Passes}
-use Rattle.matching.specs.StrategyTest.{every, isVariable, idleTest, idles, closes, constructs, passes}
+use Rattle.matching.specs.Safety.{argumentWord, HeldOnce, Idle, IdleEntry, idle, Guarded, Constructor, Passes}
+use Rattle.matching.specs.StrategyTest.{every, heldOnce, idleTest, idles, closes, constructs, passes}
 
 both-true : (a b : Bool) → a ≡ true → b ≡ true → (a && b) ≡ true
 both-true a b p q = rw (p, q)
@@ -39,16 +39,27 @@ every-all test (r ∷ rs) h = both-true (test r) (every test rs) (h 0 (omega ari
 other : {A : Type 0} {k f : ℕ} {r : Rule} → builtInArity f ≡ 0 → BuiltIn k r → head (r .lhs) ≡ f → A
 other o b q = absurd (let z = ap builtInArity q in omega (arith, built-head b))
 
+-- the argument is a variable that is held once
+held-sound : (g : Signature) (lhs : List ℕ) (i : ℕ) → heldOnce g lhs i ≡ true → HeldOnce g lhs i
+unfolding heldOnce
+held-sound g lhs i e =
+    let p = both (leb variable (argumentWord g lhs i)) (eqb (occurs (argumentWord g lhs i) lhs) 1) e in
+    record { placeholder = leb-true variable _ (p .0); once = eqb-true _ 1 (p .1) }
+
+held-complete : (g : Signature) (lhs : List ℕ) (i : ℕ) → HeldOnce g lhs i → heldOnce g lhs i ≡ true
+unfolding heldOnce
+held-complete g lhs i h = both-true _ _ (le-leb variable _ (h .placeholder)) (eq-eqb _ 1 (h .once))
+
 module _ (s : System) (f : ℕ) (plain : builtInArity f ≡ 0) where
   pub idle-sound : (i : ℕ) → idleTest s f i ≡ true → Idle s f i
-  unfolding idleTest isVariable
+  unfolding idleTest
   idle-sound i e k r (builtIn b) q = other plain b q
-  idle-sound i e k r (listed h) q = leb-true variable _ (rw (q, eq-eqb f f refl) at (every-at _ (s .rules) e k h))
+  idle-sound i e k r (listed h) q = held-sound (s .arities) (r .lhs) i (rw (q, eq-eqb f f refl) at (every-at _ (s .rules) e k h))
 
   pub idle-complete : (i : ℕ) → Idle s f i → idleTest s f i ≡ true
-  unfolding idleTest isVariable
+  unfolding idleTest
   idle-complete i h = every-all _ (s .rules) (λ k l. elim (ℕ-discrete (head (rule s k .lhs)) f) [
-    | yes q ↦ rw (q, eq-eqb f f refl) (le-leb variable _ (h k (rule s k) (listed l) q))
+    | yes q ↦ rw (q, eq-eqb f f refl) (held-complete (s .arities) (rule s k .lhs) i (h k (rule s k) (listed l) q))
     | no d ↦ rw (ne-eqb (head (rule s k .lhs)) f d)
   ])
 

@@ -40,13 +40,13 @@ module _ (b ws : List ℕ) (g : Signature) where
     index : ℕ
     number : n ≡ k + index
     inside : index < length rs
-    bound : bindings g (getD rs index noRule .lhs) ws 0 noBindings ≡ some a
+    bound : bindings g ws (getD rs index noRule .lhs) 0 noBindings ≡ some a
     words : take size (drop rhs b) ≡ getD rs index noRule .rhs
 
   module _ (m : Match) {n rhs size : ℕ} (f : m .rule ≡ First n rhs size) where
     listing : (rs : List Rule) (k at : ℕ) → drop at b ≡ encodeRules rs → m ≡ matchFrom g rs k at ws → Listing rs k n rhs size (bindingsOf m)
     listing [] k at e q = absurd (let y = q ∙ from-nil g k at ws in let z : _≡_ {A = ℕ} 0 1 = cc in omega arith)
-    listing (r ∷ rs) k at e q = go (bindings g (r .lhs) ws 0 noBindings) refl (listing rs (suc k) next (stands .rests))
+    listing (r ∷ rs) k at e q = go (bindings g ws (r .lhs) 0 noBindings) refl (listing rs (suc k) next (stands .rests))
       where
         next : ℕ
         next = at + 1 + length (r .lhs) + 1 + length (r .rhs)
@@ -54,7 +54,7 @@ module _ (b ws : List ℕ) (g : Signature) where
         stands : RuleAt b at r rs
         stands = rule-encoded b at r rs e
 
-        go : (o : Option Bindings) → bindings g (r .lhs) ws 0 noBindings ≡ o → (m ≡ matchFrom g rs (suc k) next ws → Listing rs (suc k) n rhs size (bindingsOf m)) →
+        go : (o : Option Bindings) → bindings g ws (r .lhs) 0 noBindings ≡ o → (m ≡ matchFrom g rs (suc k) next ws → Listing rs (suc k) n rhs size (bindingsOf m)) →
             Listing (r ∷ rs) k n rhs size (bindingsOf m)
         go none y ih =
             let c = ih (q ∙ from-next g r rs k at ws y) in
@@ -113,8 +113,8 @@ module _ (b : List ℕ) (sh : Shape) (acc : Accepted b sh) where
     pub match-words : take size (drop rhs b) ≡ rule s k .rhs
     match-words = subst (λ y. take size (drop rhs b) ≡ rule s y .rhs) found-index (found-listing .words)
 
-    match-bound : bindings (s .arities) lhs (u ++ d) 0 noBindings ≡ some a
-    match-bound = subst (λ y. bindings (s .arities) (rule s y .lhs) (u ++ d) 0 noBindings ≡ some a) found-index (found-listing .bound)
+    match-bound : bindings (s .arities) (u ++ d) lhs 0 noBindings ≡ some a
+    match-bound = subst (λ y. bindings (s .arities) (u ++ d) (rule s y .lhs) 0 noBindings ≡ some a) found-index (found-listing .bound)
 
     -- so its reduct is by its right side
     pub match-contracts : contraction s (u ++ d) ≡ some (record { number = k; reduct = instance σ (rule s k .rhs) })

@@ -1,10 +1,10 @@
 -- What matching answers: the first rule that matches, and where the terms stand that its variables stand for.
 use Prim.Native.Nat.{ℕ, zero, suc, _+_, _-_}
 use mathlib.Core.List.{List, [], _∷_}
-use mathlib.Core.Bool.{cond}
+use mathlib.Core.Bool.{Bool, cond, _&&_, _||_}
 use mathlib.Core.Option.{Option, none, some}
 use lib.ListN.{length, getD, take, drop, set, replicate}
-use lib.Dec.{ltb, eqb}
+use lib.Dec.{ltb, leb, eqb}
 use Rattle.system.specs.Limits.{variable, variables}
 use Rattle.system.specs.Signature.{Signature, span}
 use Rattle.system.specs.System.{System, Rule, instance}
@@ -13,9 +13,10 @@ use Rattle.system.specs.Parser.{ok, fault, read}
 use Rattle.matching.specs.declared.Match.{Match}
 use Rattle.matching.specs.declared.FirstRule.{FirstRule}
 use Rattle.matching.specs.declared.FirstRule.the-variants.{Nothing, First, Computed}
-use Rattle.matching.specs.Matching.{Contraction, Computation, computed}
+use Rattle.matching.specs.Matching.{sameWords, Contraction, Computation, computed}
 
--- for each variable the index of the first word of its stretch of the subterm, and the number of its words; 0 and 0 where it has none
+-- for each variable the index of the first word of its stretch of the subterm, and the number of its words; 0 and 0 where it has none. Where
+-- the left side repeats it, it is the first stretch: the others have the same words
 pub record Bindings : Type 0 where
   pub starts : List ℕ
   pub lengths : List ℕ
@@ -30,17 +31,32 @@ unfoldable pub consumed : Signature → ℕ → List ℕ → ℕ
 consumed g l [] = 0
 consumed g l (w ∷ ws) = cond (ltb l variable) (cond (eqb l w) 1 0) (span g (w ∷ ws) 1)
 
--- the stretch of a variable is noted under its number
-unfoldable pub withBinding : ℕ → ℕ → ℕ → Bindings → Bindings
-withBinding l q n a = cond (ltb l variable) a (record { starts = set (a .starts) (l - variable) q; lengths = set (a .lengths) (l - variable) n })
+-- what variable v stands for
+unfoldable pub value : List ℕ → Bindings → ℕ → List ℕ
+value ws a v = take (getD (a .lengths) v 0) (drop (getD (a .starts) v 0) ws)
 
--- a left side against ws, the subterm from its word q on, up to "its first unequal word"
+-- whether a word is a variable that has a stretch already, which has a word at least
+unfoldable pub isBound : ℕ → Bindings → Bool
+isBound l a = leb variable l && ltb 0 (getD (a .lengths) (l - variable) 0)
+
+-- how many words of ws it takes from word q on: a variable that has a stretch only those of the same, "all their words" (02, F-7)
+unfoldable pub taken : Signature → List ℕ → ℕ → ℕ → Bindings → ℕ
+taken g ws l q a =
+    let n = consumed g l (drop q ws) in
+    cond (isBound l a) (cond (sameWords (value ws a (l - variable)) (take n (drop q ws))) n 0) n
+
+-- a variable's first stretch is noted under its number
+unfoldable pub withBinding : ℕ → ℕ → ℕ → Bindings → Bindings
+withBinding l q n a =
+    cond (ltb l variable || isBound l a) a (record { starts = set (a .starts) (l - variable) q; lengths = set (a .lengths) (l - variable) n })
+
+-- a left side against ws, the subterm, from word q on, up to "its first unequal word"
 unfoldable pub bindings : Signature → List ℕ → List ℕ → ℕ → Bindings → Option Bindings
-bindings g [] ws q a = some a
-bindings g (l ∷ ls) ws q a =
-    elim (consumed g l ws) [
+bindings g ws [] q a = some a
+bindings g ws (l ∷ ls) q a =
+    elim (taken g ws l q a) [
       | zero ↦ none
-      | suc n ↦ bindings g ls (drop (suc n) ws) (q + suc n) (withBinding l q (suc n) a)
+      | suc n ↦ bindings g ws ls (q + suc n) (withBinding l q (suc n) a)
     ]
 
 -- no rule matches
@@ -52,7 +68,7 @@ noMatch = record { rule = Nothing; starts = noBindings .starts; lengths = noBind
 unfoldable pub matchFrom : Signature → List Rule → ℕ → ℕ → List ℕ → Match
 matchFrom g [] k at ws = noMatch
 matchFrom g (r ∷ rs) k at ws =
-    elim (bindings g (r .lhs) ws 0 noBindings) [
+    elim (bindings g ws (r .lhs) 0 noBindings) [
       | some a ↦ record { rule = First k (at + 1 + length (r .lhs) + 1) (length (r .rhs)); starts = a .starts; lengths = a .lengths }
       | none ↦ matchFrom g rs (suc k) (at + 1 + length (r .lhs) + 1 + length (r .rhs)) ws
     ]
@@ -80,10 +96,6 @@ matchOf s ws = orElse (matchListed s ws) (matchComputed ws)
 -- the same, by the words of a book: no rule matches over a book that the reader refuses
 unfoldable pub matchIn : List ℕ → List ℕ → Match
 matchIn book ws = elim (read book) [ fault f i ↦ noMatch | ok s i ↦ matchOf s ws ]
-
--- what variable v stands for
-unfoldable pub value : List ℕ → Bindings → ℕ → List ℕ
-value ws a v = take (getD (a .lengths) v 0) (drop (getD (a .starts) v 0) ws)
 
 abbrev pub bindingsOf : Match → Bindings
 bindingsOf m = record { starts = m .starts; lengths = m .lengths }

@@ -2,9 +2,9 @@
 use Prim.Native.Nat.{ℕ, suc, _+_, _-_, _<_}
 use mathlib.Core.Path.{_≡_}
 use mathlib.Core.List.{List, [], _∷_, _++_}
-use mathlib.Core.Bool.{true, false, cond, _&&_}
+use mathlib.Core.Bool.{Bool, true, false, cond, _&&_}
 use mathlib.Core.Option.{Option, none, some}
-use lib.ListN.{getD, take, drop}
+use lib.ListN.{length, getD, take, drop}
 use lib.Dec.{ltb, eqb}
 use Rattle.system.specs.Limits.{variable}
 use Rattle.system.specs.BuiltIns.{literal, isLiteral, maximum, minimum, square, larger, smaller, squareLaw}
@@ -20,9 +20,16 @@ pub record Matches (g : Signature) (t : List ℕ) (p : ℕ) (r : Rule) : Type 0 
   pub whole : (v : ℕ) → Whole g (σ v)
   pub equal : instance σ (r .lhs) ≡ subterm g t p
 
+-- whether two lists are equal, "all their words"
+unfoldable pub sameWords : List ℕ → List ℕ → Bool
+sameWords [] [] = true
+sameWords [] (w ∷ ws) = false
+sameWords (v ∷ vs) [] = false
+sameWords (v ∷ vs) (w ∷ ws) = eqb v w && sameWords vs ws
+
 -- "names equal, each placeholder standing for one whole argument": a left side against the front of ws, word by word, up to "its first
--- unequal word"; "Each argument is fitted as the stretch of the cue that starts at its own word". What its variables stand for is
--- put after σ in reading order, which is the order of their numbers
+-- unequal word"; "Each argument is fitted as the stretch of the cue that starts at its own word". What a new variable stands for is put after
+-- σ: they come in the order of their numbers. One that σ has "fits if both arguments are equal, all their words" (02, F-7)
 unfoldable pub bind : Signature → List ℕ → List ℕ → List (List ℕ) → Option (List (List ℕ))
 bind g [] ws σ = some σ
 bind g (l ∷ ls) [] σ = none
@@ -31,7 +38,10 @@ bind g (l ∷ ls) (w ∷ ws) σ =
       | true ↦ elim (eqb l w) [ true ↦ bind g ls ws σ | false ↦ none ]
       | false ↦
           let n = span g (w ∷ ws) 1 in
-          bind g ls (drop n (w ∷ ws)) (σ ++ take n (w ∷ ws) ∷ [])
+          elim (ltb (l - variable) (length σ)) [
+            | false ↦ bind g ls (drop n (w ∷ ws)) (σ ++ take n (w ∷ ws) ∷ [])
+            | true ↦ elim (sameWords (getD σ (l - variable) []) (take n (w ∷ ws))) [ true ↦ bind g ls (drop n (w ∷ ws)) σ | false ↦ none ]
+          ]
     ]
 
 -- a rule that matches, by its number, and its reduct: "the right side, so filled"

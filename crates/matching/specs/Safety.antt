@@ -7,17 +7,27 @@ use lib.ListN.{length, getD}
 use Rattle.system.specs.declared.Answer.{Answer}
 use Rattle.system.specs.Numbers.{Fault, taken, unsettled, numberOf}
 use Rattle.system.specs.Limits.{variable}
-use Rattle.system.specs.Signature.{Symbol, Listed, argument}
+use Rattle.system.specs.Signature.{Signature, Symbol, Listed, argument}
 use Rattle.system.specs.System.{System, Rule, strategy, head}
 use Rattle.system.specs.Rules.{RuleOf}
-use Rattle.system.specs.Terms.{Member}
+use Rattle.system.specs.Terms.{Member, occurs}
 use Rattle.system.specs.Book.{systemOf}
 use Rattle.system.specs.Parser.{ok, fault, read}
 use Rattle.system.specs.Answers.{answerOf}
 
--- "An argument is idle if it is a placeholder in every left side starting with that name": the argument of f with i others before it
+-- the first word of the argument with i others before it
+abbrev pub argumentWord : Signature → List ℕ → ℕ → ℕ
+argumentWord g t i = getD t (argument g t 0 i) 0
+
+-- "a placeholder that its left side holds once" (02, F-7), in all its words
+pub record HeldOnce (g : Signature) (lhs : List ℕ) (i : ℕ) : Type 0 where
+  pub placeholder : variable ≤ argumentWord g lhs i
+  pub once : occurs (argumentWord g lhs i) lhs ≡ 1
+
+-- "An argument is idle if, and only if, it is a placeholder that its left side holds once, in every left side of the name" (02, F-7): the
+-- argument of f with i others before it
 abbrev pub Idle : System → ℕ → ℕ → Type 0
-Idle s f i = (k : ℕ) (r : Rule) → RuleOf s k r → head (r .lhs) ≡ f → variable ≤ getD (r .lhs) (argument (s .arities) (r .lhs) 0 i) 0
+Idle s f i = (k : ℕ) (r : Rule) → RuleOf s k r → head (r .lhs) ≡ f → HeldOnce (s .arities) (r .lhs) i
 
 -- an entry that is an idle argument
 pub data IdleEntry (s : System) (f : ℕ) : ℕ → Type 0 where

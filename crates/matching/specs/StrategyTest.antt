@@ -9,23 +9,25 @@ use lib.Dec.{leb, eqb}
 use Rattle.system.specs.declared.Answer.{Answer}
 use Rattle.system.specs.Numbers.{taken, unsettled, numberOf}
 use Rattle.system.specs.Limits.{variable}
-use Rattle.system.specs.Signature.{Signature, argument}
+use Rattle.system.specs.Signature.{Signature}
 use Rattle.system.specs.System.{System, Rule, strategy, head}
+use Rattle.system.specs.Terms.{occurs}
 use Rattle.system.specs.Parser.{ok, fault, read}
 use Rattle.system.specs.Answers.{answerOf}
+use Rattle.matching.specs.Safety.{argumentWord}
 
 -- a test that every rule passes
 unfoldable pub every : (Rule → Bool) → List Rule → Bool
 every test [] = true
 every test (r ∷ rs) = test r && every test rs
 
--- whether the argument with i others before it is a variable of the left side
-unfoldable pub isVariable : Signature → List ℕ → ℕ → Bool
-isVariable g lhs i = leb variable (getD lhs (argument g lhs 0 i) 0)
+-- whether the argument with i others before it is "a placeholder that its left side holds once" (02, F-7)
+unfoldable pub heldOnce : Signature → List ℕ → ℕ → Bool
+heldOnce g lhs i = leb variable (argumentWord g lhs i) && eqb (occurs (argumentWord g lhs i) lhs) 1
 
--- whether the argument of f, a listed symbol, with i others before it is idle: "a placeholder in every left side starting with that name"
+-- whether the argument of f, a listed symbol, with i others before it is idle: so "in every left side of the name"
 unfoldable pub idleTest : System → ℕ → ℕ → Bool
-idleTest s f i = every (λ r. not (eqb (head (r .lhs)) f) || isVariable (s .arities) (r .lhs) i) (s .rules)
+idleTest s f i = every (λ r. not (eqb (head (r .lhs)) f) || heldOnce (s .arities) (r .lhs) i) (s .rules)
 
 -- whether all entries are idle arguments
 unfoldable pub idles : (ℕ → Bool) → List ℕ → Bool

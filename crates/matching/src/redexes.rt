@@ -1,18 +1,19 @@
 // The first rule that matches a subterm of a term in the rows (02, F-5): a variable's stretch is one read, and only the rules that start with
 // the subterm's symbol are tried.
 ghost use mathlib.Core.Path.{_≡_};
-ghost use Prim.Native.Nat.{_+_, _≤_, _<_};
-ghost use lib.ListN.{length, getD, drop, set};
-ghost use Rattle.system.specs.Limits.{variables, termWords};
+ghost use Prim.Native.Nat.{_+_, _-_, _≤_, _<_};
+ghost use lib.ListN.{length, getD, take, drop};
+ghost use Rattle.system.specs.Limits.{variable, variables};
 ghost use Rattle.system.specs.Signature.{Signature};
 ghost use Rattle.system.specs.Answers.{signatureOf};
 ghost use Rattle.system.specs.Book.{systemOf, Accepted};
 ghost use Rattle.system.specs.layout.Index.{Indexed};
 ghost use Rattle.rows.specs.gap.Gaps.{wordsIn, termIn, Gapped};
 ghost use Rattle.rows.specs.lengths.Measured.{Measured};
-ghost use Rattle.matching.specs.Matching.{computed};
-ghost use Rattle.matching.specs.Bindings.{consumed, computedRule, matchOf};
-ghost use Rattle.matching.specs.redexes.Redexes.{bindingWords, redexFor, redexOf, Bound};
+ghost use Rattle.matching.specs.Matching.{sameWords, computed};
+ghost use Rattle.matching.specs.Bindings.{consumed, taken, withBinding, computedRule, matchOf};
+ghost use Rattle.matching.specs.rules.Searches.{Within};
+ghost use Rattle.matching.specs.redexes.Redexes.{bindingWords, boundIn, redexFor, redexOf, Bound};
 use crate::FirstRule;
 use crate::operators::computed;
 use crate::rules::UNNUMBERED;
@@ -104,13 +105,52 @@ fn redex_for(found: FirstRule) -> Redex
     }
 }
 
-// Notes that the stretch of variable v has n words of the subterm, from word `start` on.
-fn bind(bindings: &mut [u16], v: usize, start: usize, n: usize)
-    requires { ⌜ (v < variables) × (length (now bindings) ≡ bindingWords) × (start ≤ termWords) × (n ≤ termWords) ⌝ }
-    ensures { λ _. ⌜ now (bindings .exit) ≡ set (set (now (bindings .entry)) v start) (variables + v) n ⌝ }
+// Whether the n words of the term from p on are those from q on; the first unequal word tells.
+fn same_at(area: &[u16], gap: Gap, p: usize, q: usize, n: usize) -> bool
+    requires { ⌜ Gapped (now area) gap × (p + n ≤ wordsIn gap) × (q + n ≤ wordsIn gap) ⌝ }
+    ensures { λ r. ⌜ r ≡ sameWords (take n (drop p (termIn (now (area .entry)) gap))) (take n (drop q (termIn (now (area .entry)) gap))) ⌝ }
 {
-    bindings[v] = start as u16;
-    bindings[VARIABLES + v] = n as u16;
+    let mut i = 0;
+    while i < n {
+        if word_at(area, gap, p + i) != word_at(area, gap, q + i) {
+            return false;
+        }
+        i += 1;
+    }
+    true
+}
+
+// How many words of the subterm word l of a left side takes, from word q of the term on; 0 where the words are unequal. A variable that has no
+// stretch yet has this one then. One that has takes the same words again (02, F-7): other lengths are told at once.
+fn bind(area: &[u16], spot: Spot, bindings: &mut [u16], l: u16, q: usize) -> usize
+    requires { ⌜ Gapped (now area) (spot .gap) × (spot .at ≤ q) × (l < variable + variables) × (length (now bindings) ≡ bindingWords)
+        × Within (drop (spot .at) (termIn (now area) (spot .gap))) (boundIn (now bindings) .starts) (boundIn (now bindings) .lengths) ⌝ }
+    ensures taken { λ r. ⌜ ((g : Signature) → Measured g (now (area .entry)) (spot .gap) →
+        r ≡ taken g (drop (spot .at) (termIn (now (area .entry)) (spot .gap))) l (q - spot .at) (boundIn (now (bindings .entry)))) ⌝ }
+    ensures bound { λ r. ⌜ ((r ≡ 0 → ⊥) → boundIn (now (bindings .exit)) ≡ withBinding l (q - spot .at) r (boundIn (now (bindings .entry)))) ⌝ }
+{
+    let n = consumed_at(area, spot.gap, l, q);
+    if n == 0 {
+        return 0;
+    }
+    let w = wide(l);
+    if w < VARIABLE {
+        return n;
+    }
+    let v = w - VARIABLE;
+    let m = wide(bindings[VARIABLES + v]);
+    if m == 0 {
+        bindings[v] = (q - spot.at) as u16;
+        bindings[VARIABLES + v] = n as u16;
+        return n;
+    }
+    if m != n {
+        return 0;
+    }
+    if !same_at(area, spot.gap, spot.at + wide(bindings[v]), q, n) {
+        return 0;
+    }
+    n
 }
 
 // The first rule that matches the subterm there; where it is one that the book lists, its bindings are written. Only the rules in the list of
@@ -144,15 +184,10 @@ pub fn first_redex(
         let mut j = 0;
         let mut q = p;
         'words: while j < width {
-            let w = book[lhs + j];
-            let n = consumed_at(area, gap, w, q);
+            let n = bind(area, spot, bindings, book[lhs + j], q);
             if n == 0 {
                 k = next_of(book, shape, index, k);
                 continue 'rules;
-            }
-            let v = wide(w);
-            if VARIABLE <= v {
-                bind(bindings, v - VARIABLE, q - p, n);
             }
             q += n;
             j += 1;

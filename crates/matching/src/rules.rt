@@ -4,6 +4,7 @@ ghost use Prim.Native.Nat.{_≤_};
 ghost use lib.ListN.{length, getD};
 ghost use Rattle.system.specs.Answers.{signatureOf};
 ghost use Rattle.system.specs.Book.{systemOf, Accepted};
+ghost use Rattle.matching.specs.Matching.{sameWords};
 ghost use Rattle.matching.specs.Bindings.{consumed, matchOf};
 use crate::FirstRule;
 use crate::Match;
@@ -35,6 +36,23 @@ fn consumed(book: &[u16], l: u16, ws: &[u16]) -> usize
     1
 }
 
+// Whether the words of one slice are those of the other. Slices of other lengths are told at once, and else the first unequal word tells.
+fn same_words(a: &[u16], b: &[u16]) -> bool
+    ensures { λ r. ⌜ r ≡ sameWords (now (a .entry)) (now (b .entry)) ⌝ }
+{
+    if a.len() != b.len() {
+        return false;
+    }
+    let mut i = 0;
+    while i < a.len() {
+        if a[i] != b[i] {
+            return false;
+        }
+        i += 1;
+    }
+    true
+}
+
 // Word i of ws; 0, which is no literal, where it has no such word.
 fn word_of(ws: &[u16], i: usize) -> u16
     ensures { λ r. ⌜ r ≡ getD (now (ws .entry)) i 0 ⌝ }
@@ -47,7 +65,8 @@ fn word_of(ws: &[u16], i: usize) -> u16
 
 // The first rule that matches the subterm at the front of ws; what follows the subterm does not count. A listed left side starts below the
 // literals, a built-in one above them, so that one look at the first word tells which rules there may be. Most listed rules start with
-// another symbol: they are given up before the stretches are cleared.
+// another symbol: they are given up before the stretches are cleared. A variable that the left side repeats has its first stretch, and fits if
+// the others have the same words (02, F-7).
 pub fn first_rule(book: &[u16], shape: Shape, ws: &[u16]) -> Match
     requires { ⌜ Accepted (now book) shape ⌝ }
     ensures { λ r. ⌜ r ≡ matchOf (systemOf (now (book .entry))) (now (ws .entry)) ⌝ }
@@ -86,8 +105,15 @@ pub fn first_rule(book: &[u16], shape: Shape, ws: &[u16]) -> Match
             }
             let v = wide(w);
             if VARIABLE <= v {
-                s[v - VARIABLE] = q;
-                l[v - VARIABLE] = n;
+                let x = v - VARIABLE;
+                let p = s[x];
+                let m = l[x];
+                if m == 0 {
+                    s[x] = q;
+                    l[x] = n;
+                } else if !same_words(&ws[p..p + m], &ws[q..q + n]) {
+                    continue 'rules;
+                }
             }
             q += n;
             j += 1;

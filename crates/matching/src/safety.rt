@@ -5,9 +5,10 @@ ghost use Rattle.system.specs.Parser.{read};
 ghost use Rattle.system.specs.Answers.{signatureOf};
 ghost use Rattle.system.specs.reader.Sections.{scanOf};
 ghost use Rattle.system.specs.System.{strategy};
+ghost use Rattle.system.specs.Terms.{occurs};
 ghost use Rattle.system.specs.Book.{systemOf, Accepted};
 ghost use Rattle.system.specs.layout.Accepted.{StrategyAt};
-ghost use Rattle.matching.specs.StrategyTest.{isVariable, idleTest, closes, constructs, passes, firstUnsafe, safetyAnswer, testAnswer};
+ghost use Rattle.matching.specs.StrategyTest.{heldOnce, idleTest, closes, constructs, passes, firstUnsafe, safetyAnswer, testAnswer};
 use system::Answer;
 use system::Shape;
 use system::layout::rules::rule_at;
@@ -18,9 +19,24 @@ use system::reader::Scan;
 use system::words::spans;
 use system::words::wide;
 
-// Whether the argument with i others before it is a variable of the left side.
-fn is_variable(book: &[u16], lhs: &[u16], i: usize) -> bool
-    ensures { λ r. ⌜ r ≡ isVariable (signatureOf (now (book .entry))) (now (lhs .entry)) i ⌝ }
+// How often word w stands among the words.
+fn occurs(words: &[u16], w: u16) -> usize
+    ensures { λ r. ⌜ r ≡ occurs w (now (words .entry)) ⌝ }
+{
+    let mut n = 0;
+    let mut j = 0;
+    while j < words.len() {
+        if words[j] == w {
+            n += 1;
+        }
+        j += 1;
+    }
+    n
+}
+
+// Whether the argument with i others before it is a variable that the left side holds once.
+fn held_once(book: &[u16], lhs: &[u16], i: usize) -> bool
+    ensures { λ r. ⌜ r ≡ heldOnce (signatureOf (now (book .entry))) (now (lhs .entry)) i ⌝ }
 {
     if lhs.len() == 0 {
         return false;
@@ -29,10 +45,14 @@ fn is_variable(book: &[u16], lhs: &[u16], i: usize) -> bool
     if lhs.len() <= p {
         return false;
     }
-    VARIABLE <= wide(lhs[p])
+    let w = lhs[p];
+    if wide(w) < VARIABLE {
+        return false;
+    }
+    occurs(lhs, w) == 1
 }
 
-// Whether the argument of f with i others before it is idle: a variable in every left side that starts with f.
+// Whether the argument of f with i others before it is idle: a variable held once in every left side that starts with f.
 fn idle(book: &[u16], shape: Shape, f: usize, i: usize) -> bool
     requires { ⌜ Accepted (now book) shape ⌝ }
     ensures { λ r. ⌜ r ≡ idleTest (systemOf (now (book .entry))) f i ⌝ }
@@ -46,7 +66,7 @@ fn idle(book: &[u16], shape: Shape, f: usize, i: usize) -> bool
         at = r.next;
         k += 1;
         if wide(book[lhs]) == f {
-            if !is_variable(book, &book[lhs..end], i) {
+            if !held_once(book, &book[lhs..end], i) {
                 return false;
             }
         }

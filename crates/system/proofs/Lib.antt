@@ -3,6 +3,7 @@ pub mod BuiltIns
 pub mod SquareLaw
 pub mod Signatures
 pub mod Members
+pub mod Occurrences
 pub mod Rules
 pub mod Forests
 pub mod Places

@@ -2,7 +2,7 @@
 use Prim.Native.Nat.{ℕ, zero, suc, _+_, _≤_, _<_}
 use mathlib.Core.Path.{_≡_}
 use mathlib.Core.Logic.{_⊎_}
-use mathlib.Core.Bool.{Bool, false, _||_}
+use mathlib.Core.Bool.{Bool, false, cond, _||_}
 use mathlib.Core.List.{List, [], _∷_}
 use lib.ListN.{length, getD}
 use lib.Dec.{eqb}
@@ -36,6 +36,11 @@ pub data Member : ℕ → List ℕ → Type 0 where
 unfoldable pub among : ℕ → List ℕ → Bool
 among e [] = false
 among e (d ∷ ds) = eqb e d || among e ds
+
+-- how often it does
+unfoldable pub occurs : ℕ → List ℕ → ℕ
+occurs e [] = 0
+occurs e (d ∷ ds) = cond (eqb d e) 1 0 + occurs e ds
 
 -- `Numbered n m ws`: after n different variables, ws leads to m: each of its variables is the next new one or again one from before
 -- ("its placeholders appear as 0, 1, 2, .. in reading order"; 02, F-7: "A left side may now repeat a placeholder")

@@ -80,43 +80,6 @@ module _ (m : Weights) where
   unfolding weightLimit
   limit-large ws h = smaller-second (weight m ws) maxSteps h
 
--- ---- how often a word stands there
-
-module _ (v : ℕ) where
-  pub occurs-nil : occurs v [] ≡ 0
-  unfolding occurs
-  occurs-nil = refl
-
-  pub occurs-same : (ws : List ℕ) → occurs v (v ∷ ws) ≡ suc (occurs v ws)
-  unfolding occurs
-  occurs-same ws = rw (eq-eqb v v refl) (omega arith)
-
-  pub occurs-other : (w : ℕ) (ws : List ℕ) → (w ≡ v → ⊥) → occurs v (w ∷ ws) ≡ occurs v ws
-  unfolding occurs
-  occurs-other w ws d = rw (ne-eqb w v d) (omega arith)
-
-  pub occurs-append : (a b : List ℕ) → occurs v (a ++ b) ≡ occurs v a + occurs v b
-  unfolding occurs
-  occurs-append [] b = omega arith
-  occurs-append (w ∷ a) b = let z = occurs-append a b in omega arith
-
-  -- among the first of them no more often than among all
-  pub occurs-take : (k : ℕ) (ws : List ℕ) → occurs v (take k ws) ≤ occurs v ws
-  unfolding occurs
-  occurs-take zero ws = omega arith
-  occurs-take (suc k) [] = omega arith
-  occurs-take (suc k) (w ∷ ws) = let z = occurs-take k ws in omega arith
-
-  -- and at most as often as there are words
-  pub occurs-length : (ws : List ℕ) → occurs v ws ≤ length ws
-  unfolding occurs
-  occurs-length [] = omega arith
-  occurs-length (w ∷ ws) = let z = occurs-length ws in go (eqb w v) z
-    where
-      go : (b : Bool) {n m : ℕ} → n ≤ m → cond b 1 0 + n ≤ suc m
-      go true h = omega arith
-      go false h = omega arith
-
 -- ---- one word more
 
 module _ (ws : List ℕ) (j : ℕ) (h : j < length ws) where
@@ -128,17 +91,3 @@ module _ (ws : List ℕ) (j : ℕ) (h : j < length ws) where
       let z = weight-cons m (getD ws j 0) [] in
       let z′ = weight-nil m in
       ap (weight m) next ∙ weight-append m (take j ws) (getD ws j 0 ∷ []) ∙ omega arith
-
-  module _ (v : ℕ) where
-    pub occurs-next : getD ws j 0 ≡ v → occurs v (take (j + 1) ws) ≡ occurs v (take j ws) + 1
-    occurs-next e =
-        let z = ap (λ w. occurs v (w ∷ [])) e in
-        let z′ = occurs-same v [] in
-        let z″ = occurs-nil v in
-        ap (occurs v) next ∙ occurs-append v (take j ws) (getD ws j 0 ∷ []) ∙ omega arith
-
-    pub occurs-skip : (getD ws j 0 ≡ v → ⊥) → occurs v (take (j + 1) ws) ≡ occurs v (take j ws)
-    occurs-skip d =
-        let z = occurs-other v (getD ws j 0) [] d in
-        let z′ = occurs-nil v in
-        ap (occurs v) next ∙ occurs-append v (take j ws) (getD ws j 0 ∷ []) ∙ omega arith

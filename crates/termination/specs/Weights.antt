@@ -4,10 +4,11 @@ use mathlib.Core.Path.{_≡_}
 use mathlib.Core.Bool.{cond}
 use mathlib.Core.List.{List, [], _∷_}
 use lib.ListN.{length, getD}
-use lib.Dec.{ltb, eqb}
+use lib.Dec.{ltb}
 use Rattle.system.specs.Limits.{variable, variables, maxWeight}
 use Rattle.system.specs.BuiltIns.{literal, isLiteral, isBuiltIn}
 use Rattle.system.specs.System.{System, Rule, rule}
+use Rattle.system.specs.Terms.{occurs}
 use Rattle.system.specs.Rules.{RuleOf}
 
 -- "a lent list that gives each name a weight": one for each listed symbol
@@ -28,21 +29,11 @@ unfoldable pub weight : Weights → List ℕ → ℕ
 weight m [] = 0
 weight m (w ∷ ws) = wordWeight m w + weight m ws
 
--- how often a word stands in a list
-unfoldable pub occurs : ℕ → List ℕ → ℕ
-occurs v [] = 0
-occurs v (w ∷ ws) = cond (eqb w v) 1 0 + occurs v ws
-
--- "A rule falls if its left side's words weigh more in all than its right side's (placeholders nothing) and no placeholder is on the right
--- twice". As a left side holds each variable once, that is: none is on the right more often than on the left (`falls-once`), which is what F-7,
--- where a left side may hold one twice, asks for: "a placeholder may be on the right as often as on the left"
+-- "A rule falls if its left side's words weigh more in all than its right side's (placeholders nothing)", and none is on the right more often
+-- than on the left (02, F-7: "In F-6 a placeholder may be on the right as often as on the left")
 pub record Falls (m : Weights) (r : Rule) : Type 0 where
   pub lighter : weight m (r .rhs) < weight m (r .lhs)
   pub kept : (v : ℕ) → v < variables → occurs (variable + v) (r .rhs) ≤ occurs (variable + v) (r .lhs)
-
--- "no placeholder is on the right twice"
-abbrev pub Once : Rule → Type 0
-Once r = (v : ℕ) → v < variables → occurs (variable + v) (r .rhs) ≤ 1
 
 -- "If all fall", the built-in rules too
 abbrev pub Falling : Weights → System → Type 0

@@ -23,12 +23,12 @@ use Rattle.system.proofs.layout.Books.{well, rule-count, first-rest, turn-of, r
 use Rattle.system.proofs.layout.index.Lists.{from-within, from-found, skips-first, skips-next}
 use Rattle.matching.specs.declared.FirstRule.the-variants.{First}
 use Rattle.matching.specs.Bindings.{Bindings, noBindings, consumed, bindings, noMatch, matchFrom, matchListed}
-use Rattle.matching.proofs.rules.MatchSteps.{consumed-end, consumed-differ, words-stop, rules-end, rules-next, rules-here}
+use Rattle.matching.proofs.rules.MatchSteps.{consumed-end, consumed-differ, taken-first, words-stop, rules-end, rules-next, rules-here}
 use Rattle.matching.proofs.rules.Searches.{match-start}
 
 -- rule i does not match the front of ws; none before number k does
 abbrev pub Fails : List ℕ → List ℕ → ℕ → Type 0
-Fails b ws i = bindings (signatureOf b) (rule (systemOf b) i .lhs) ws 0 noBindings ≡ none
+Fails b ws i = bindings (signatureOf b) ws (rule (systemOf b) i .lhs) 0 noBindings ≡ none
 
 abbrev pub Unmatched : List ℕ → List ℕ → ℕ → Type 0
 Unmatched b ws k = (i : ℕ) → i < k → Fails b ws i
@@ -47,7 +47,8 @@ module _ {b : List ℕ} {sh : Shape} (acc : Accepted b sh) (ws : List ℕ) where
       let w = well b sh acc in
       let few = few-symbols (systemOf b) w in
       let own = listed-head (systemOf b) w i more in
-      words-stop (signatureOf b) (rule (systemOf b) i .lhs) ws 0 0 noBindings (forest-length (w .wellFormedRules i more .left)) l refl 0 (sym (nothing-taken (omega arith))) refl
+      words-stop (signatureOf b) ws (rule (systemOf b) i .lhs) 0 0 noBindings (forest-length (w .wellFormedRules i more .left)) l refl 0
+      (sym (taken-first (signatureOf b) ws l 0 ∙ nothing-taken (omega arith))) refl
     where
       l : ℕ
       l = head (rule (systemOf b) i .lhs)
@@ -113,7 +114,7 @@ module _ {b : List ℕ} {sh : Shape} (acc : Accepted b sh) (ws : List ℕ) where
         rw (rule-unique acc more rest (g .rest)) (g .goes)
 
     -- rule k matches: it is the first
-    pub along-here : {p : RuleSpan} → p ≡ ruleSpan b at → (x : Bindings) → bindings (signatureOf b) (rule (systemOf b) k .lhs) ws 0 noBindings ≡ some x →
+    pub along-here : {p : RuleSpan} → p ≡ ruleSpan b at → (x : Bindings) → bindings (signatureOf b) ws (rule (systemOf b) k .lhs) 0 noBindings ≡ some x →
         record { rule = First k (p .rhs) (p .size); starts = x .starts; lengths = x .lengths } ≡ matchListed (systemOf b) ws
     along-here e x m =
         let t = turn-of acc more rest e in

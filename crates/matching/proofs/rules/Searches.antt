@@ -1,21 +1,26 @@
 -- The search for the first rule that matches: what its two loops keep, and each way out of a turn.
 use Prim.Native.Nat.{ℕ, _+_, _-_, _≤_, _<_}
 use native.Mathlib.Omega.{arith}
-use mathlib.Core.Path.{_≡_, refl, sym, _∙_}
+use mathlib.Core.Path.{_≡_, refl, sym, ap, _∙_}
+use mathlib.Core.Bool.{true, false}
 use mathlib.Core.Option.{none, some}
 use mathlib.Core.List.{List}
-use lib.ListN.{length, getD, drop, set, length-set, length-drop}
+use lib.ListN.{length, getD, take, drop, set, length-drop}
 use Rattle.system.specs.declared.Shape.{Shape}
-use Rattle.system.specs.Limits.{variable}
+use Rattle.system.specs.Limits.{variable, variables}
 use Rattle.system.specs.System.{Rule, rule}
 use Rattle.system.specs.Answers.{signatureOf}
 use Rattle.matching.specs.declared.FirstRule.{FirstRule}
 use Rattle.matching.specs.declared.FirstRule.the-variants.{Nothing, First}
 use Rattle.system.specs.declared.layout.rules.RuleSpan.{RuleSpan}
 use Rattle.system.specs.Book.{systemOf, Accepted}
-use Rattle.matching.specs.Bindings.{Bindings, noBindings, consumed, withBinding, bindings, matchFrom, matchListed}
+use Rattle.matching.specs.Matching.{sameWords}
+use Rattle.matching.specs.Bindings.{Bindings, noBindings, consumed, value, taken, withBinding, bindings, matchFrom, matchListed}
+use Rattle.matching.specs.rules.Searches.{Within}
 use Rattle.system.proofs.layout.Books.{Rest, Here, Turn, signature, rule-count, first-index, first-rest}
-use Rattle.matching.proofs.rules.MatchSteps.{consumed-le, withBinding-symbol, withBinding-variable, words-end, words-stop, words-next, rules-end, rules-next, rules-here}
+use Rattle.matching.proofs.Stretches.{within-none, within-set}
+use Rattle.matching.proofs.rules.MatchSteps.{consumed-le, withBinding-symbol, withBinding-old, withBinding-new, taken-symbol, taken-new, taken-again, taken-unlike, taken-some, taken-none, taken-first}
+use Rattle.matching.proofs.rules.MatchSteps.{words-end, words-stop, words-next, rules-end, rules-next, rules-here}
 
 -- no rule before number k matched
 pub record Searched (b : List ℕ) (sh : Shape) (ws : List ℕ) (found : FirstRule) (starts lengths : List ℕ) (k at : ℕ) : Type 0 where
@@ -30,10 +35,9 @@ pub record Searched (b : List ℕ) (sh : Shape) (ws : List ℕ) (found : FirstRu
 pub record Walked (b ws : List ℕ) (k width j q : ℕ) (starts lengths : List ℕ) : Type 0 where
   pub inside : j ≤ width
   pub within : q ≤ length ws
-  pub size-starts : length starts ≡ 16
-  pub size-lengths : length lengths ≡ 16
-  pub goes : bindings (signatureOf b) (drop j (rule (systemOf b) k .lhs)) (drop q ws) q (record { starts = starts; lengths = lengths }) ≡
-      bindings (signatureOf b) (rule (systemOf b) k .lhs) ws 0 noBindings
+  pub lies : Within ws starts lengths
+  pub goes : bindings (signatureOf b) ws (drop j (rule (systemOf b) k .lhs)) q (record { starts = starts; lengths = lengths }) ≡
+      bindings (signatureOf b) ws (rule (systemOf b) k .lhs) 0 noBindings
 
 module _ {b : List ℕ} {sh : Shape} (acc : Accepted b sh) where
   -- the search starts at the first rule
@@ -58,8 +62,7 @@ module _ {b : List ℕ} {sh : Shape} {k at : ℕ} {p : RuleSpan} (t : Turn b sh 
   r = rule (systemOf b) k
 
   pub walk-starts : (ws : List ℕ) → Walked b ws k (p .width) 0 0 (noBindings .starts) (noBindings .lengths)
-  unfolding noBindings
-  walk-starts ws = record { inside = omega arith; within = omega arith; size-starts = refl; size-lengths = refl; goes = refl }
+  walk-starts ws = record { inside = omega arith; within = omega arith; lies = within-none ws; goes = refl }
 
   -- ---- the words of a left side
 
@@ -67,46 +70,88 @@ module _ {b : List ℕ} {sh : Shape} {k at : ℕ} {p : RuleSpan} (t : Turn b sh 
     abbrev y : Bindings
     y = record { starts = s; lengths = l }
 
-    pub walk-ends : p .width ≤ j → bindings (signatureOf b) (r .lhs) ws 0 noBindings ≡ some (record { starts = s; lengths = l })
-    walk-ends e = sym (wo .goes) ∙ words-end (signatureOf b) (r .lhs) ws j q y (omega (arith, h .width))
+    -- the word of this turn
+    abbrev w : ℕ
+    w = getD b (p .lhs + j) 0
 
-    module _ (here : j < p .width) {n : ℕ} (taken : n ≡ consumed (signatureOf b) (getD b (p .lhs + j) 0) (drop q ws)) where
-      pub walk-stops : n ≡ 0 → bindings (signatureOf b) (r .lhs) ws 0 noBindings ≡ none
-      walk-stops z =
-          sym (wo .goes) ∙ words-stop (signatureOf b) (r .lhs) ws j q y (omega (arith, h .width)) (getD b (p .lhs + j) 0) (h .word j here) n taken z
+    pub walk-ends : p .width ≤ j → bindings (signatureOf b) ws (r .lhs) 0 noBindings ≡ some (record { starts = s; lengths = l })
+    walk-ends e = sym (wo .goes) ∙ words-end (signatureOf b) ws (r .lhs) j q y (omega (arith, h .width))
+
+    module _ (here : j < p .width) where
+      -- an unequal word
+      pub walk-stops : taken (signatureOf b) ws w q y ≡ 0 → bindings (signatureOf b) ws (r .lhs) 0 noBindings ≡ none
+      walk-stops e = sym (wo .goes) ∙ words-stop (signatureOf b) ws (r .lhs) j q y (omega (arith, h .width)) w (h .word j here) 0 (sym e) refl
 
       -- a word that is matched
-      module _ (much : n ≡ 0 → ⊥) where
+      module _ {n : ℕ} (takes : n ≡ taken (signatureOf b) ws w q y) (much : n ≡ 0 → ⊥) where
         pub walk-fits : q + n ≤ length ws
         walk-fits =
-            let w = wo .within in
-            let m = consumed-le (signatureOf b) (getD b (p .lhs + j) 0) (drop q ws) in
+            let i = wo .within in
+            let e = taken-some (signatureOf b) ws w q y (λ z. much (takes ∙ z)) in
+            let m = consumed-le (signatureOf b) w (drop q ws) in
             let k = length-drop q ws in
             omega arith
 
-        on : bindings (signatureOf b) (drop (j + 1) (r .lhs)) (drop (q + n) ws) (q + n) (withBinding (getD b (p .lhs + j) 0) q n y) ≡ bindings (signatureOf b) (r .lhs) ws 0 noBindings
-        on =
-            sym (words-next (signatureOf b) (r .lhs) ws j q y (omega (arith, h .width)) (getD b (p .lhs + j) 0) (h .word j here) n taken (omega arith))
-            ∙ wo .goes
+        pub walk-goes : {s′ l′ : List ℕ} → withBinding w q n y ≡ record { starts = s′; lengths = l′ } → Within ws s′ l′ → Walked b ws k (p .width) (j + 1) (q + n) s′ l′
+        walk-goes e lies = record {
+          inside = omega arith;
+          within = walk-fits;
+          lies = lies;
+          goes =
+              ap (bindings (signatureOf b) ws (drop (j + 1) (r .lhs)) (q + n)) (sym e)
+              ∙ sym (words-next (signatureOf b) ws (r .lhs) j q y (omega (arith, h .width)) w (h .word j here) n takes (omega arith)) ∙ wo .goes;
+        }
 
-        walks : {s′ l′ : List ℕ} (z : Bindings) → withBinding (getD b (p .lhs + j) 0) q n y ≡ z → s′ ≡ z .starts → l′ ≡ z .lengths →
-            length (z .starts) ≡ 16 → length (z .lengths) ≡ 16 → Walked b ws k (p .width) (j + 1) (q + n) s′ l′
-        walks z e ds dl ls ll = rw (ds, dl) (record { inside = omega arith; within = walk-fits; size-starts = ls; size-lengths = ll; goes = rw e at on })
+      -- what the word takes by itself
+      module _ {n : ℕ} (takes : n ≡ consumed (signatureOf b) w (drop q ws)) where
+        pub word-unequal : n ≡ 0 → bindings (signatureOf b) ws (r .lhs) 0 noBindings ≡ none
+        word-unequal z = walk-stops (taken-none (signatureOf b) ws w q y (sym takes ∙ z))
 
-        module _ {v : ℕ} (is : v ≡ getD b (p .lhs + j) 0) {s′ l′ : List ℕ} where
-          pub symbol-matched : v < variable → s′ ≡ s → l′ ≡ l → Walked b ws k (p .width) (j + 1) (q + n) s′ l′
-          symbol-matched low ds dl = walks y (withBinding-symbol (getD b (p .lhs + j) 0) q n y (rw is at low)) ds dl (wo .size-starts) (wo .size-lengths)
+        pub word-fits : q + n ≤ length ws
+        word-fits =
+            let i = wo .within in
+            let m = consumed-le (signatureOf b) w (drop q ws) in
+            let k = length-drop q ws in
+            omega arith
 
-          pub variable-matched : variable ≤ v → s′ ≡ set s (v - variable) q → l′ ≡ set l (v - variable) n → Walked b ws k (p .width) (j + 1) (q + n) s′ l′
-          variable-matched high ds dl =
-              walks (record { starts = set s (v - variable) q; lengths = set l (v - variable) n }) (rw is (withBinding-variable (getD b (p .lhs + j) 0) q n y (rw is at high)))
-              ds dl (length-set s (v - variable) q ∙ wo .size-starts) (length-set l (v - variable) n ∙ wo .size-lengths)
+        module _ {v : ℕ} (is : v ≡ w) where
+          pub symbol-matched : (n ≡ 0 → ⊥) → v < variable → Walked b ws k (p .width) (j + 1) (q + n) s l
+          symbol-matched much low =
+              let low′ : w < variable = omega arith in
+              walk-goes (takes ∙ sym (taken-symbol (signatureOf b) ws w q y low′)) much (withBinding-symbol w y q n low′) (wo .lies)
+
+          -- a variable that has no stretch yet
+          module _ (high : variable ≤ v) (few : v - variable < variables) where
+            number : v - variable ≡ w - variable
+            number = omega arith
+
+            pub variable-new : (n ≡ 0 → ⊥) → getD l (v - variable) 0 ≡ 0 → Walked b ws k (p .width) (j + 1) (q + n) (set s (v - variable) q) (set l (v - variable) n)
+            variable-new much new =
+                let new′ : getD l (w - variable) 0 ≡ 0 = rw number at new in
+                walk-goes (takes ∙ sym (taken-new (signatureOf b) ws w q y new′)) much
+                (withBinding-new w y q n (omega arith) new′ ∙ (λ i. record { starts = set s (sym number i) q; lengths = set l (sym number i) n }))
+                (within-set ws (wo .lies) (v - variable) q n few word-fits)
+
+            -- one that has a stretch, of the same words or of others
+            module _ (old : 0 < getD l (v - variable) 0) where
+              old′ : 0 < getD l (w - variable) 0
+              old′ = rw number at old
+
+              alike : sameWords (value ws y (v - variable)) (take n (drop q ws)) ≡ sameWords (value ws y (w - variable)) (take (consumed (signatureOf b) w (drop q ws)) (drop q ws))
+              alike = ap (λ u. sameWords (value ws y u) (take n (drop q ws))) number ∙ ap (λ m. sameWords (value ws y (w - variable)) (take m (drop q ws))) takes
+
+              pub variable-again : (n ≡ 0 → ⊥) → sameWords (value ws y (v - variable)) (take n (drop q ws)) ≡ true → Walked b ws k (p .width) (j + 1) (q + n) s l
+              variable-again much e =
+                  walk-goes (takes ∙ sym (taken-again (signatureOf b) ws w q y (omega arith) old′ (sym alike ∙ e))) much (withBinding-old w y q n (omega arith) old′) (wo .lies)
+
+              pub variable-unlike : sameWords (value ws y (v - variable)) (take n (drop q ws)) ≡ false → bindings (signatureOf b) ws (r .lhs) 0 noBindings ≡ none
+              variable-unlike e = walk-stops (taken-unlike (signatureOf b) ws w q y (omega arith) old′ (sym alike ∙ e))
 
   -- ---- the rules
 
   module _ {ws : List ℕ} {found : FirstRule} {starts lengths : List ℕ} (so : Searched b sh ws found starts lengths k at) where
     -- the rule was given up
-    given-up : bindings (signatureOf b) (r .lhs) ws 0 noBindings ≡ none → Searched b sh ws found starts lengths (k + 1) (p .next)
+    pub given-up : bindings (signatureOf b) ws (r .lhs) 0 noBindings ≡ none → Searched b sh ws found starts lengths (k + 1) (p .next)
     given-up e = record {
       inside = (let l = t .inside in omega arith);
       none-found = so .none-found;
@@ -119,7 +164,8 @@ module _ {b : List ℕ} {sh : Shape} {k at : ℕ} {p : RuleSpan} (t : Turn b sh 
     -- at its first word
     pub root-differs : {n : ℕ} → n ≡ consumed (signatureOf b) (getD b (p .lhs) 0) ws → n ≡ 0 → Searched b sh ws found starts lengths (k + 1) (p .next)
     root-differs {n} e z =
-        given-up (words-stop (signatureOf b) (r .lhs) ws 0 0 noBindings (let w = h .some in omega (arith, h .width)) (getD b (p .lhs) 0) (h .head) n e z)
+        given-up (words-stop (signatureOf b) ws (r .lhs) 0 0 noBindings (let w = h .some in omega (arith, h .width)) (getD b (p .lhs) 0) (h .head) n
+        (e ∙ sym (taken-first (signatureOf b) ws (getD b (p .lhs) 0) 0)) z)
 
     module _ {j q : ℕ} {s l : List ℕ} (wo : Walked b ws k (p .width) j q s l) where
       abbrev x : Bindings
@@ -130,8 +176,3 @@ module _ {b : List ℕ} {sh : Shape} {k at : ℕ} {p : RuleSpan} (t : Turn b sh 
       matches-here e =
           rw (h .right, h .size)
           (sym (rules-here (signatureOf b) (systemOf b .rules) k at ws (t .more) x (walk-ends wo e)) ∙ so .goes)
-
-      -- an unequal word
-      pub word-differs : j < p .width → {n : ℕ} → n ≡ consumed (signatureOf b) (getD b (p .lhs + j) 0) (drop q ws) → n ≡ 0 →
-          Searched b sh ws found starts lengths (k + 1) (p .next)
-      word-differs here taken z = given-up (walk-stops wo here taken z)

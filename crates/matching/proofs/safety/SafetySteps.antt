@@ -9,40 +9,45 @@ use mathlib.Core.Option.{none, some}
 use lib.ListN.{length, getD, take, drop, drop-of-length-le, length-drop, List·getD-eq-default}
 use lib.Seq.{drop-cons, take-suc, getD-take, getD-drop, length-take-le, take-length}
 use lib.Dec.{leb, eqb, ltb}
-use borrow.Author.Tests.{eq-eqb, ne-eqb, lt-ltb, le-ltb}
+use borrow.Author.Tests.{eq-eqb, ne-eqb, lt-ltb, le-ltb, le-leb, lt-leb}
 use Rattle.system.specs.declared.Shape.{Shape}
 use Rattle.system.specs.Limits.{variable}
 use Rattle.system.specs.Signature.{Signature, argument, span}
 use Rattle.system.specs.System.{System, Rule, noRule, rule, head, strategy}
+use Rattle.system.specs.Terms.{occurs}
 use Rattle.system.specs.Answers.{signatureOf}
 use Rattle.system.specs.declared.layout.rules.RuleSpan.{RuleSpan}
 use Rattle.system.specs.Book.{systemOf, Accepted}
 use Rattle.system.specs.layout.Accepted.{StrategyAt, SuffixAt}
-use Rattle.matching.specs.StrategyTest.{every, isVariable, idleTest, idles, closes, constructs, passes, firstFailing, firstUnsafe, safetyAnswer}
+use Rattle.matching.specs.StrategyTest.{every, heldOnce, idleTest, idles, closes, constructs, passes, firstFailing, firstUnsafe, safetyAnswer}
 use Rattle.matching.proofs.rules.MatchSteps.{tail}
 use Rattle.system.proofs.layout.Books.{Rest, Turn, rule-count, symbol-count, first-rest, signature}
 use Rattle.system.proofs.layout.Suffixes.{suffix-strategy, suffix-start, suffix-next}
 use Rattle.matching.proofs.FirstFailing.{sought, sought-starts, sought-ends, sought-passes, sought-fails}
 
--- ---- whether an argument is a variable
+-- ---- whether an argument is a variable that is held once
 
 module _ (g : Signature) (lhs : List ℕ) (i : ℕ) where
-  pub variable-none : length lhs ≡ 0 → isVariable g lhs i ≡ false
-  unfolding isVariable
-  variable-none e = rw (List·getD-eq-default lhs 0 {n = argument g lhs 0 i} (omega arith))
+  pub held-none : length lhs ≡ 0 → heldOnce g lhs i ≡ false
+  unfolding heldOnce
+  held-none e = rw (List·getD-eq-default lhs 0 {n = argument g lhs 0 i} (omega arith))
 
   module _ (n : ℕ) (is : n ≡ span g (take (length lhs - 1) (drop 1 lhs)) i) where
     at-place : argument g lhs 0 i ≡ 1 + n
     unfolding argument
     at-place = rw is (rw (tail lhs 1))
 
-    pub variable-past : length lhs ≤ 1 + n → isVariable g lhs i ≡ false
-    unfolding isVariable
-    variable-past h = rw (at-place, List·getD-eq-default lhs 0 {n = 1 + n} h)
+    pub held-past : length lhs ≤ 1 + n → heldOnce g lhs i ≡ false
+    unfolding heldOnce
+    held-past h = rw (at-place, List·getD-eq-default lhs 0 {n = 1 + n} h)
 
-    pub variable-here : isVariable g lhs i ≡ leb variable (getD lhs (1 + n) 0)
-    unfolding isVariable
-    variable-here = rw at-place
+    pub held-symbol : getD lhs (1 + n) 0 < variable → heldOnce g lhs i ≡ false
+    unfolding heldOnce
+    held-symbol h = rw (at-place, lt-leb variable (getD lhs (1 + n) 0) h)
+
+    pub held-variable : variable ≤ getD lhs (1 + n) 0 → heldOnce g lhs i ≡ eqb (occurs (getD lhs (1 + n) 0) lhs) 1
+    unfolding heldOnce
+    held-variable h = rw (at-place, le-leb variable (getD lhs (1 + n) 0) h)
 
 -- ---- a test that every rule passes, rule by rule
 
@@ -88,7 +93,7 @@ abbrev pub otherHead : ℕ → Rule → Bool
 otherHead f r = not (eqb (head (r .lhs)) f)
 
 abbrev pub idleIn : Signature → ℕ → ℕ → Rule → Bool
-idleIn g f i r = otherHead f r || isVariable g (r .lhs) i
+idleIn g f i r = otherHead f r || heldOnce g (r .lhs) i
 
 pub defined-every : (s : System) (f : ℕ) (t : Bool) → every (otherHead f) (s .rules) ≡ t → not (constructs s f) ≡ not t
 unfolding constructs
@@ -111,9 +116,9 @@ module _ {b : List ℕ} {sh : Shape} {k at : ℕ} {p : RuleSpan} (t : Turn b sh 
     idle-other d = rw (head-other d)
 
     -- by what was found of its argument
-    pub idle-same : w ≡ f → {x y : Bool} → x ≡ isVariable (signatureOf b) (take (p .lhs + p .width - p .lhs) (drop (p .lhs) b)) i → x ≡ y →
+    pub idle-same : w ≡ f → {x y : Bool} → x ≡ heldOnce (signatureOf b) (take (p .lhs + p .width - p .lhs) (drop (p .lhs) b)) i → x ≡ y →
         idleIn (signatureOf b) f i (rule (systemOf b) k) ≡ y
-    idle-same e v q = rw (head-same e) (ap (λ z. isVariable (signatureOf b) z i) (sym (t .here .words)) ∙ sym v ∙ q)
+    idle-same e v q = rw (head-same e) (ap (λ z. heldOnce (signatureOf b) z i) (sym (t .here .words)) ∙ sym v ∙ q)
 
 -- ---- a strategy, from its last entry on
 

@@ -2,18 +2,23 @@
 use Prim.Native.Nat.{ℕ, _+_}
 use mathlib.Core.Path.{_≡_}
 use mathlib.Core.List.{List, _++_}
+use lib.ListN.{take, drop}
 use Rattle.system.specs.Limits.{variables}
 use Rattle.system.specs.System.{System}
 use Rattle.matching.specs.declared.Match.{Match}
 use Rattle.matching.specs.declared.FirstRule.{FirstRule}
 use Rattle.matching.specs.declared.FirstRule.the-variants.{Nothing, First, Computed}
 use Rattle.matching.specs.declared.redexes.Redex.{Redex}
-use Rattle.matching.specs.Bindings.{matchOf}
+use Rattle.matching.specs.Bindings.{Bindings, matchOf}
 use Rattle.matching.specs.rules.Searches.{unnumbered}
 
 -- how many words hold where the stretches of the variables start, and how many words they have
 abbrev pub bindingWords : ℕ
 bindingWords = variables + variables
+
+-- the bindings in such words
+abbrev pub boundIn : List ℕ → Bindings
+boundIn bs = record { starts = take variables bs; lengths = drop variables bs }
 
 -- the number of the rule that was found, one that no rule has where none was; and the word that a built-in one puts there
 abbrev pub redexFor : FirstRule → Redex

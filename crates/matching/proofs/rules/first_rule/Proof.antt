@@ -1,19 +1,23 @@
 -- `rules::first_rule` meets its contract.
 use mathlib.Core.Path.{_≡_, sym, ap, _∙_}
 use mathlib.Core.Logic.{⊎-elim}
+use mathlib.Core.Bool.{Bool}
 use mathlib.Core.List.{[], _∷_}
-use lib.ListN.{getD, drop}
+use lib.ListN.{length, getD, take, drop}
+use Rattle.system.specs.Limits.{variable, variables}
 use Rattle.system.specs.Answers.{signatureOf}
 use Rattle.system.specs.Book.{systemOf}
 use Rattle.matching.proofs.Computed.{computed-words}
 use Rattle.matching.proofs.Sources.{match-low, match-words}
-use Rattle.matching.proofs.rules.MatchSteps.{tail}
-use Rattle.matching.proofs.rules.Searches.{Searched, Walked, search-starts, search-ends, root-differs, walk-starts, matches-here, word-differs, symbol-matched, variable-matched}
+use Rattle.matching.proofs.rules.MatchSteps.{tail, parts-alike}
+use Rattle.matching.proofs.rules.Searches.{Searched, Walked, search-starts, search-ends, given-up, root-differs, walk-starts, matches-here}
+use Rattle.matching.proofs.rules.Searches.{word-unequal, word-fits, symbol-matched, variable-new, variable-again, variable-unlike}
 use Rattle.system.proofs.layout.Books.{Turn, room, turn-of}
 use native.Mathlib.Omega.{arith}
-use Prim.Native.Nat.{_+_, _-_}
-use Rattle.matching.specs.Matching.{computed}
-use Rattle.matching.specs.Bindings.{noBindings, consumed, computedRule, matchListed, matchOf}
+use Prim.Native.Nat.{_+_, _-_, _≤_, _<_}
+use Rattle.matching.specs.Matching.{sameWords, computed}
+use Rattle.matching.specs.Bindings.{Bindings, noBindings, consumed, value, computedRule, matchListed, matchOf}
+use borrow.Author.Tests.{not-true, not-false}
 use borrow.Author.Needs.{needs}
 use Rattle.matching.proofs.rules.first_rule.Statement.{statement}
 use Rattle.matching.proofs.rules.first_rule.Tie as tie
@@ -127,30 +131,100 @@ rules-again-2 : tie.Need-rules-again-2 Inv-words μ-words Inv-rules μ-rules
 rules-again-2 c =
     let m = met (c .before) in
     let r = read (m .before) in
-    word-differs (turn r) (head r .rules .inv) (m .before .words .inv) (m .words-test .taken) (took (c .before)) (c .if4 .taken)
+    given-up (turn r) (head r .rules .inv) (word-unequal (turn r) (m .before .words .inv) (m .words-test .taken) (took (c .before)) (c .if4 .taken))
+
+-- a variable: its number, and that its stretch and the words that it meets are words of ws
+few : (c : tie.After-wide2 Inv-words μ-words Inv-rules μ-rules) → c .wide2 .result - variable < variables
+few c =
+    let m = met (c .before .before) in
+    let v = c .wide2 .ensures .0 in
+    let w = turn (read (m .before)) .here in omega (arith, w .low (m .before .words .j) (m .words-test .taken))
+
+abbrev stretches : (c : tie.After-wide2 Inv-words μ-words Inv-rules μ-rules) → Bindings
+stretches c = let l = met (c .before .before) .before .words in record { starts = l .s; lengths = l .l }
+
+stretch : (c : tie.After-wide2 Inv-words μ-words Inv-rules μ-rules) →
+    let a = stretches c in
+    let x = c .wide2 .result - variable in
+    getD (a .starts) x 0 + getD (a .lengths) x 0 ≤ length (entry (head (read (met (c .before .before) .before))) .args .ws .now)
+stretch c = met (c .before .before) .before .words .inv .lies .inside (c .wide2 .result - variable)
+
+fits : (c : tie.After-consumed2 Inv-words μ-words Inv-rules μ-rules) →
+    let l = met c .before in l .words .q + c .consumed2 .result ≤ length (entry (head (read l)) .args .ws .now)
+fits c = let m = met c in word-fits (turn (read (m .before))) (m .before .words .inv) (m .words-test .taken) (took c)
+
+array-read-p : tie.Need-array-read-p Inv-words μ-words Inv-rules μ-rules
+array-read-p c = few (c .before)
+
+array-read-m : tie.Need-array-read-m Inv-words μ-words Inv-rules μ-rules
+array-read-m c = few (c .before)
 
 array-write-s : tie.Need-array-write-s Inv-words μ-words Inv-rules μ-rules
-array-write-s c =
-    let m = met (c .before .before .before) in
-    let w = turn (read (m .before)) .here in omega (arith, w .low (m .before .words .j) (m .words-test .taken))
+array-write-s c = few (c .before .before)
 
 array-write-l : tie.Need-array-write-l Inv-words μ-words Inv-rules μ-rules
-array-write-l c =
-    let m = met (c .before .before .before) in
-    let w = turn (read (m .before)) .here in omega (arith, w .low (m .before .words .j) (m .words-test .taken))
+array-write-l c = few (c .before .before)
+
+add-same-words : tie.Need-add-same-words Inv-words μ-words Inv-rules μ-rules
+add-same-words c = let s = stretch (c .before .before) in omega arith
+
+mul-same-words : tie.Need-mul-same-words Inv-words μ-words Inv-rules μ-rules
+mul-same-words c = let s = stretch (c .before .before) in omega arith
+
+part-same-words-end : tie.Need-part-same-words-end Inv-words μ-words Inv-rules μ-rules
+part-same-words-end c = let s = stretch (c .before .before) in omega arith
+
+add-same-words-2 : tie.Need-add-same-words-2 Inv-words μ-words Inv-rules μ-rules
+add-same-words-2 c = let f = fits (c .before .before .before .before .before) in omega arith
+
+mul-same-words-2 : tie.Need-mul-same-words-2 Inv-words μ-words Inv-rules μ-rules
+mul-same-words-2 c = let f = fits (c .before .before .before .before .before) in omega arith
+
+part-same-words-end-2 : tie.Need-part-same-words-end-2 Inv-words μ-words Inv-rules μ-rules
+part-same-words-end-2 c = let f = fits (c .before .before .before .before .before) in omega arith
+
+-- whether both are alike
+alike : {r : Bool} (c : tie.After-wide2 Inv-words μ-words Inv-rules μ-rules) →
+    let l = met (c .before .before) .before in
+    let a = stretches c in
+    let x = c .wide2 .result - variable in
+    let n = c .before .before .consumed2 .result in
+    let ws = entry (head (read l)) .args .ws .now in
+    r ≡ sameWords (take (getD (a .starts) x 0 + getD (a .lengths) x 0 - getD (a .starts) x 0) (drop (getD (a .starts) x 0) ws)) (take (l .words .q + n - l .words .q) (drop (l .words .q) ws)) →
+    sameWords (value ws a x) (take n (drop (l .words .q) ws)) ≡ r
+alike c e =
+    let l = met (c .before .before) .before in
+    sym (parts-alike (entry (head (read l)) .args .ws .now) (stretches c) (c .wide2 .result - variable) (l .words .q) (c .before .before .consumed2 .result) e)
+
+rules-again-3 : tie.Need-rules-again-3 Inv-words μ-words Inv-rules μ-rules
+rules-again-3 c =
+    let s = c .before in
+    let e = s .before .before .before in
+    let v = e .before .before in
+    let k = v .before .before in
+    let m = met k in
+    let r = read (m .before) in
+    given-up (turn r) (head r .rules .inv)
+    (variable-unlike (turn r) (m .before .words .inv) (m .words-test .taken) (took k) (v .wide2 .ensures .0) (e .before .if5 .taken) (few v)
+    (let z = e .if6 .left in omega arith) (alike v (s .same-words .ensures) ∙ not-true _ (c .if7 .taken)))
 
 words-again : tie.Need-words-again Inv-words μ-words Inv-rules μ-rules
 words-again c =
-    let k = c .before .before .before in
+    let v = c .before in
+    let k = v .before .before in
     let m = met k in
     let t = turn (read (m .before)) in
-    let wo = m .before .words .inv in
+    let o = m .before .words .inv in
     let here = m .words-test .taken in
-    let much = c .before .before .if4 .left in
-    let v = c .before .wide2 in
+    let is = v .wide2 .ensures .0 in
+    let much = v .before .if4 .left in
     ⊎-elim
-    (λ e. variable-matched t wo here (took k) much (v .ensures .0) (e .0 .taken) (e .1) (e .2))
-    (λ e. symbol-matched t wo here (took k) much (v .ensures .0) (e .0 .left) (e .1) (e .2))
+    (λ e. rw (e .2, e .3) (variable-new t o here (took k) is (e .0 .taken) (few v) much (e .1 .taken)))
+    (⊎-elim
+    (λ e.
+    rw (e .6, e .7)
+    (variable-again t o here (took k) is (e .0 .taken) (few v) (let z = e .1 .left in omega arith) much (alike v (e .4 .ensures) ∙ not-false _ (e .5 .left))))
+    (λ e. rw (e .1, e .2) (symbol-matched t o here (took k) is much (e .0 .left))))
     (c .if5 .came)
 
 returns-2 : tie.Need-returns-2 Inv-words μ-words Inv-rules μ-rules
@@ -169,5 +243,7 @@ first-rule-spec =
     (λ c κs. search needs) returns rules-holds rule-at-requires (λ c. search needs) mul-consumed shared-slice-read-consumed
     (λ c κs. search needs) (λ c. search needs) rules-again words-holds add-w mul-w shared-slice-read-w (λ c. search needs)
     (λ c. search needs) (λ c. search needs) (λ c. search needs) (λ c κs. search needs) (λ c. search needs) rules-again-2
-    (λ c κs. search needs) (λ c. search needs) array-write-s (λ c. search needs) array-write-l (λ c. search needs) (λ c. search needs)
-    (λ c. search needs) words-again returns-2 returns-3)
+    (λ c κs. search needs) (λ c. search needs) array-read-p (λ c. search needs) array-read-m (λ c. search needs) array-write-s
+    (λ c. search needs) array-write-l add-same-words mul-same-words (λ c. search needs) (λ c. search needs) part-same-words-end
+    add-same-words-2 mul-same-words-2 (λ c. search needs) (λ c. search needs) part-same-words-end-2 (λ c κs. search needs)
+    (λ c. search needs) rules-again-3 (λ c. search needs) (λ c. search needs) (λ c. search needs) words-again returns-2 returns-3)

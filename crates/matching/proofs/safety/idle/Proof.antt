@@ -39,11 +39,11 @@ mul-wide c = let w = turn (c .before) .here in omega arith
 shared-slice-read-wide : tie.Need-shared-slice-read-wide Inv-loop μ-loop
 shared-slice-read-wide c = let w = turn (c .before .before) .here in omega arith
 
-mul-is-variable : tie.Need-mul-is-variable Inv-loop μ-loop
-mul-is-variable c = let w = turn (c .before .before .before .before) .here in omega arith
+mul-held-once : tie.Need-mul-held-once Inv-loop μ-loop
+mul-held-once c = let w = turn (c .before .before .before .before) .here in omega arith
 
-part-is-variable-end : tie.Need-part-is-variable-end Inv-loop μ-loop
-part-is-variable-end c = let w = turn (c .before .before .before .before) .here in omega arith
+part-held-once-end : tie.Need-part-held-once-end Inv-loop μ-loop
+part-held-once-end c = let w = turn (c .before .before .before .before) .here in omega arith
 
 returns : tie.Need-returns Inv-loop μ-loop
 returns c =
@@ -53,7 +53,7 @@ returns c =
     let c12 = c10 .before .before in
     let a = c12 .args in let t = turn c7 in
     sym (idle-every (c12 .pre) (a .f) (a .i) ∙ every-fails (idleIn (signatureOf (a .book .now)) (a .f) (a .i)) t (c10 .loop .inv)
-    (idle-same t (a .f) (c4 .wide .ensures .0) (a .i) (c .before .before .before .if2 .taken) (c .before .is-variable .ensures) (not-true _ (c .if3 .taken))))
+    (idle-same t (a .f) (c4 .wide .ensures .0) (a .i) (c .before .before .before .if2 .taken) (c .before .held-once .ensures) (not-true _ (c .if3 .taken))))
 
 loop-again : tie.Need-loop-again Inv-loop μ-loop
 loop-again c =
@@ -63,7 +63,7 @@ loop-again c =
     let c12 = c10 .before .before in
     let a = c12 .args in let t = turn c7 in
     every-goes (idleIn (signatureOf (a .book .now)) (a .f) (a .i)) t (c10 .loop .inv)
-    (idle-same t (a .f) (c4 .wide .ensures .0) (a .i) (c .before .before .before .if2 .taken) (c .before .is-variable .ensures) (not-false _ (c .if3 .left)))
+    (idle-same t (a .f) (c4 .wide .ensures .0) (a .i) (c .before .before .before .if2 .taken) (c .before .held-once .ensures) (not-false _ (c .if3 .left)))
 
 loop-again-2 : tie.Need-loop-again-2 Inv-loop μ-loop
 loop-again-2 c =
@@ -84,5 +84,5 @@ idle-spec =
     tie.close
     (tie.spec
     Inv-loop μ-loop loop-holds rule-at-requires add-end (λ c. search needs) mul-wide shared-slice-read-wide (λ c κs. search needs)
-    mul-is-variable (λ c. search needs) (λ c. search needs) part-is-variable-end (λ c κs. search needs) returns (λ c. search needs)
+    mul-held-once (λ c. search needs) (λ c. search needs) part-held-once-end (λ c κs. search needs) returns (λ c. search needs)
     loop-again (λ c. search needs) loop-again-2 returns-2)
