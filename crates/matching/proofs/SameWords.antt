@@ -1,12 +1,12 @@
 -- Equal words (02, F-7): what `sameWords` tells, and how a loop finds it out, word by word from the front.
-use Prim.Native.Nat.{ℕ, zero, suc, _+_, _≤_, _<_}
+use Prim.Native.Nat.{ℕ, suc, _+_, _≤_, _<_}
 use native.Mathlib.Omega.{arith}
 use native.Mathlib.Numerals.{add-one}
 use mathlib.Core.Path.{_≡_, refl, sym, ap, _∙_}
 use mathlib.Core.Bool.{Bool, true, false, _&&_}
 use mathlib.Core.List.{List, [], _∷_}
-use lib.ListN.{length, getD, drop, drop-of-length-le}
-use lib.Seq.{drop-cons}
+use lib.ListN.{length, getD, take, drop, drop-of-length-le, length-drop}
+use lib.Seq.{drop-cons, getD-take, getD-drop, length-take-le}
 use lib.Dec.{eqb}
 use borrow.Author.Tests.{eq-eqb, ne-eqb, eqb-true}
 use Rattle.matching.specs.Matching.{sameWords}
@@ -78,3 +78,12 @@ module _ {vs ws : List ℕ} (long : length vs ≡ length ws) where
 
       pub same-stops : (getD vs i 0 ≡ getD ws i 0 → ⊥) → sameWords vs ws ≡ false
       same-stops d = sym (s .goes) ∙ both-cons ∙ ap (λ b. b && sameWords (drop (suc i) vs) (drop (suc i) ws)) (ne-eqb (getD vs i 0) (getD ws i 0) d)
+
+-- ---- a part of a list
+
+module _ (t : List ℕ) (p n : ℕ) where
+  pub part-length : p + n ≤ length t → length (take n (drop p t)) ≡ n
+  part-length h = length-take-le n (drop p t) (rw (length-drop p t) (omega arith))
+
+  pub part-word : (i : ℕ) → i < n → getD (take n (drop p t)) i 0 ≡ getD t (p + i) 0
+  part-word i h = getD-take n (drop p t) i 0 h ∙ getD-drop p t i 0

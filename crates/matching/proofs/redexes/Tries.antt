@@ -21,29 +21,21 @@ use Rattle.matching.specs.declared.redexes.Redex.{Redex}
 use Rattle.matching.specs.declared.FirstRule.{FirstRule}
 use Rattle.matching.specs.declared.FirstRule.the-variants.{Nothing, First}
 use Rattle.matching.specs.Matching.{computed}
-use Rattle.matching.specs.Bindings.{Bindings, noBindings, consumed, computedRule, matchOf}
+use Rattle.matching.specs.Bindings.{noBindings, taken, withBinding, computedRule, matchOf}
 use Rattle.matching.specs.rules.Searches.{unnumbered}
-use Rattle.matching.specs.redexes.Redexes.{bindingWords, redexFor, redexOf, Bound}
+use Rattle.matching.specs.redexes.Redexes.{bindingWords, boundIn, redexFor, redexOf, Bound}
 use Rattle.matching.proofs.Sources.{not-computed, match-low, match-words}
-use Rattle.matching.proofs.rules.Searches.{Walked, walk-starts, walk-ends, walk-stops, walk-fits, symbol-matched, variable-matched}
+use Rattle.matching.proofs.rules.Searches.{Walked, walk-starts, walk-ends, walk-stops, walk-fits, walk-goes}
 use Rattle.matching.proofs.rules.Lists.{Fails, Along, along-ends, along-here}
 
--- ---- the words that hold the bindings: in their first half where the stretches start, in the other how many words these have
+-- ---- the words that hold the bindings
 
-module _ (bs : List ℕ) where
-  all-clear : length bs ≡ bindingWords → over bs 0 (zeros bindingWords) ≡ zeros bindingWords
-  all-clear e =
-      let n = length-zeros bindingWords in
-      sets-eq (zeros bindingWords) bs 0 (omega arith)
-      ∙ ap (λ l. zeros bindingWords ++ l) (drop-of-length-le bs {i = 0 + length (zeros bindingWords)} (omega arith))
-      ∙ append-nil (zeros bindingWords)
-
-  module _ (v start n : ℕ) where
-    bound-starts : v < variables → take variables (set (set bs v start) (variables + v) n) ≡ set (take variables bs) v start
-    bound-starts h = take-set-le variables (set bs v start) (variables + v) n (omega arith) ∙ take-set-lt variables bs v start h
-
-    bound-lengths : v < variables → drop variables (set (set bs v start) (variables + v) n) ≡ set (drop variables bs) v n
-    bound-lengths h = drop-set-add variables (set bs v start) v n ∙ ap (λ l. set l v n) (drop-set-lt variables bs v start h)
+all-clear : (bs : List ℕ) → length bs ≡ bindingWords → over bs 0 (zeros bindingWords) ≡ zeros bindingWords
+all-clear bs e =
+    let n = length-zeros bindingWords in
+    sets-eq (zeros bindingWords) bs 0 (omega arith)
+    ∙ ap (λ l. zeros bindingWords ++ l) (drop-of-length-le bs {i = 0 + length (zeros bindingWords)} (omega arith))
+    ∙ append-nil (zeros bindingWords)
 
 clear-starts : take variables (zeros bindingWords) ≡ noBindings .starts
 unfolding zeros noBindings
@@ -65,7 +57,7 @@ pub record Trying (b t : List ℕ) (p of width k : ℕ) (bs : List ℕ) (j q : �
   pub same : k ≡ of
   pub onward : p ≤ q
   pub sized : length bs ≡ bindingWords
-  pub walked : Walked b (drop p t) of width j (q - p) (take variables bs) (drop variables bs)
+  pub walked : Walked b (drop p t) of width j (q - p) (boundIn bs .starts) (boundIn bs .lengths)
 
 module _ {b : List ℕ} {sh : Shape} {of at : ℕ} {r : RuleSpan} (turn : Turn b sh of at r) (t : List ℕ) (p : ℕ) where
   pub try-starts : (bs : List ℕ) {bs′ : List ℕ} → length bs ≡ bindingWords → bs′ ≡ over bs 0 (zeros bindingWords) → Trying b t p of (r .width) of bs′ 0 p
@@ -81,51 +73,31 @@ module _ {b : List ℕ} {sh : Shape} {of at : ℕ} {r : RuleSpan} (turn : Turn b
       })
 
   module _ {k j q : ℕ} {bs : List ℕ} (v : Trying b t p of (r .width) k bs j q) (here : j < r .width) {n : ℕ}
-      (taken : n ≡ consumed (signatureOf b) (getD b (r .lhs + j) 0) (drop q t)) where
-    took : n ≡ consumed (signatureOf b) (getD b (r .lhs + j) 0) (drop (q - p) (drop p t))
-    took =
-        let o = v .onward in
-        let z : q ≡ p + (q - p) = omega arith in
-        taken ∙ ap (consumed (signatureOf b) (getD b (r .lhs + j) 0)) (ap (λ i. drop i t) z ∙ sym (drop-drop (q - p) p t))
-
+      (takes : n ≡ taken (signatureOf b) (drop p t) (getD b (r .lhs + j) 0) (q - p) (boundIn bs)) where
     -- an unequal word
     pub try-fails : n ≡ 0 → Fails b (drop p t) of
-    try-fails = walk-stops turn (v .walked) here took
+    try-fails z = walk-stops turn (v .walked) here (sym takes ∙ z)
 
     -- a word that is matched
     module _ (much : n ≡ 0 → ⊥) where
       pub try-fits : p ≤ length t → q + n ≤ length t
       try-fits h =
           let o = v .onward in
-          let f = walk-fits turn (v .walked) here took much in
+          let f = walk-fits turn (v .walked) here takes much in
           let d = length-drop p t in
           omega arith
 
-      goes : {bs′ : List ℕ} → length bs′ ≡ bindingWords → Walked b (drop p t) of (r .width) (j + 1) (q - p + n) (take variables bs′) (drop variables bs′) →
+      pub try-goes : {bs′ : List ℕ} → length bs′ ≡ bindingWords → boundIn bs′ ≡ withBinding (getD b (r .lhs + j) 0) (q - p) n (boundIn bs) →
           Trying b t p of (r .width) k bs′ (j + 1) (q + n)
-      goes {bs′} e w =
+      try-goes {bs′} e is =
           let o = v .onward in
           let z : q - p + n ≡ q + n - p = omega arith in
           record {
             same = v .same;
             onward = omega arith;
             sized = e;
-            walked = subst (λ q. Walked b (drop p t) of (r .width) (j + 1) q (take variables bs′) (drop variables bs′)) z w;
+            walked = subst (λ q. Walked b (drop p t) of (r .width) (j + 1) q (boundIn bs′ .starts) (boundIn bs′ .lengths)) z (walk-goes turn (v .walked) here takes much (sym is));
           }
-
-      module _ {w : ℕ} (is : w ≡ getD b (r .lhs + j) 0) {bs′ : List ℕ} where
-        pub try-symbol : w < variable → bs′ ≡ bs → Trying b t p of (r .width) k bs′ (j + 1) (q + n)
-        try-symbol low d =
-            goes (ap length d ∙ v .sized) (symbol-matched turn (v .walked) here took much is low (ap (take variables) d) (ap (drop variables) d))
-
-        pub try-variable : variable ≤ w → w - variable < variables → bs′ ≡ set (set bs (w - variable) (q - p)) (variables + (w - variable)) n →
-            Trying b t p of (r .width) k bs′ (j + 1) (q + n)
-        try-variable high known d =
-            goes
-            (ap length d ∙ length-set (set bs (w - variable) (q - p)) (variables + (w - variable)) n ∙ length-set bs (w - variable) (q - p) ∙ v .sized)
-            (variable-matched turn (v .walked) here took much is high
-            (ap (take variables) d ∙ bound-starts bs (w - variable) (q - p) n known)
-            (ap (drop variables) d ∙ bound-lengths bs (w - variable) (q - p) n known))
 
 -- ---- what is found, and what is bound then
 
@@ -152,6 +124,5 @@ module _ {b : List ℕ} {sh : Shape} (acc : Accepted b sh) (t : List ℕ) (p : �
     pub finds-rule : {at : ℕ} {r : RuleSpan} (turn : Turn b sh of at r) → RulesAt b of at → r ≡ ruleSpan b at →
         {k j q : ℕ} → Trying b t p of (r .width) k bs j q → r .width ≤ j → Tells b (drop p t) (record { number = k; word = 0 }) bs
     finds-rule {r} turn rest e {k} v done =
-        let x : Bindings = record { starts = take variables bs; lengths = drop variables bs } in
-        let m = along-here acc (drop p t) a (turn .inside) rest e x (walk-ends turn (v .walked) done) ∙ match-low b sh acc (drop p t) low in
+        let m = along-here acc (drop p t) a (turn .inside) rest e (boundIn bs) (walk-ends turn (v .walked) done) ∙ match-low b sh acc (drop p t) low in
         (rw (v .same) (ap handed m), λ _ _ _ _. sym (take-append-drop variables bs) ∙ ap (λ y. y .starts ++ y .lengths) m)

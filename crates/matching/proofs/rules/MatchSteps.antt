@@ -12,14 +12,15 @@ use lib.ListN.{length, getD, take, drop, set, drop-of-length-le, length-drop}
 use lib.Seq.{drop-cons, take-all}
 use lib.Dec.{leb, ltb}
 use borrow.Author.Tests.{lt-ltb, le-ltb, eq-eqb, ne-eqb, le-leb, lt-leb}
-use Rattle.system.specs.Limits.{variable}
+use Rattle.system.specs.Limits.{variable, variables}
 use Rattle.system.specs.Signature.{Signature, span}
 use Rattle.system.specs.System.{Rule, noRule}
 use Rattle.system.proofs.words.SpanSteps.{span-le}
 use Rattle.matching.specs.declared.FirstRule.the-variants.{First}
 use Rattle.matching.specs.Matching.{sameWords}
 use Rattle.matching.specs.Bindings.{Bindings, noBindings, consumed, value, isBound, taken, withBinding, bindings, noMatch, matchFrom}
-use Rattle.matching.proofs.Stretches.{none-length}
+use Rattle.matching.specs.rules.Searches.{Within}
+use Rattle.matching.proofs.Stretches.{none-length, within-set}
 
 -- ---- what a word takes
 
@@ -113,6 +114,18 @@ module _ (l : ℕ) (a : Bindings) where
         withBinding l q n a ≡ record { starts = set (a .starts) (l - variable) q; lengths = set (a .lengths) (l - variable) n }
     unfolding withBinding
     withBinding-new h new = rw (le-ltb l variable h, new-unbound new)
+
+-- the stretches still lie in ws
+pub within-binding : (ws : List ℕ) (l : ℕ) (a : Bindings) (q n : ℕ) → l < variable + variables → q + n ≤ length ws → Within ws (a .starts) (a .lengths) →
+    Within ws (withBinding l q n a .starts) (withBinding l q n a .lengths)
+within-binding ws l a q n few fits lies = elim (decLt l variable) [
+  | yes low ↦ rw (withBinding-symbol l a q n low) lies
+  | no high ↦
+      elim (ℕ-discrete (getD (a .lengths) (l - variable) 0) 0) [
+        | yes new ↦ rw (withBinding-new l a q n (omega arith) new) (within-set ws lies (l - variable) q n (omega arith) fits)
+        | no old ↦ rw (withBinding-old l a q n (omega arith) (omega arith)) lies
+      ]
+]
 
 module _ (g : Signature) (ws : List ℕ) (l q : ℕ) (a : Bindings) where
   abbrev there : List ℕ

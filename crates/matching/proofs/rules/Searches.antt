@@ -1,13 +1,13 @@
 -- The search for the first rule that matches: what its two loops keep, and each way out of a turn.
 use Prim.Native.Nat.{ℕ, _+_, _-_, _≤_, _<_}
 use native.Mathlib.Omega.{arith}
-use mathlib.Core.Path.{_≡_, refl, sym, ap, _∙_}
+use mathlib.Core.Path.{_≡_, refl, sym, ap, _∙_, subst}
 use mathlib.Core.Bool.{true, false}
 use mathlib.Core.Option.{none, some}
 use mathlib.Core.List.{List}
 use lib.ListN.{length, getD, take, drop, set, length-drop}
 use Rattle.system.specs.declared.Shape.{Shape}
-use Rattle.system.specs.Limits.{variable, variables}
+use Rattle.system.specs.Limits.{variable}
 use Rattle.system.specs.System.{Rule, rule}
 use Rattle.system.specs.Answers.{signatureOf}
 use Rattle.matching.specs.declared.FirstRule.{FirstRule}
@@ -18,8 +18,8 @@ use Rattle.matching.specs.Matching.{sameWords}
 use Rattle.matching.specs.Bindings.{Bindings, noBindings, consumed, value, taken, withBinding, bindings, matchFrom, matchListed}
 use Rattle.matching.specs.rules.Searches.{Within}
 use Rattle.system.proofs.layout.Books.{Rest, Here, Turn, signature, rule-count, first-index, first-rest}
-use Rattle.matching.proofs.Stretches.{within-none, within-set}
-use Rattle.matching.proofs.rules.MatchSteps.{consumed-le, withBinding-symbol, withBinding-old, withBinding-new, taken-symbol, taken-new, taken-again, taken-unlike, taken-some, taken-none, taken-first}
+use Rattle.matching.proofs.Stretches.{within-none}
+use Rattle.matching.proofs.rules.MatchSteps.{consumed-le, withBinding-symbol, withBinding-old, withBinding-new, within-binding, taken-symbol, taken-new, taken-again, taken-unlike, taken-some, taken-none, taken-first}
 use Rattle.matching.proofs.rules.MatchSteps.{words-end, words-stop, words-next, rules-end, rules-next, rules-here}
 
 -- no rule before number k matched
@@ -92,11 +92,11 @@ module _ {b : List ℕ} {sh : Shape} {k at : ℕ} {p : RuleSpan} (t : Turn b sh 
             let k = length-drop q ws in
             omega arith
 
-        pub walk-goes : {s′ l′ : List ℕ} → withBinding w q n y ≡ record { starts = s′; lengths = l′ } → Within ws s′ l′ → Walked b ws k (p .width) (j + 1) (q + n) s′ l′
-        walk-goes e lies = record {
+        pub walk-goes : {s′ l′ : List ℕ} → withBinding w q n y ≡ record { starts = s′; lengths = l′ } → Walked b ws k (p .width) (j + 1) (q + n) s′ l′
+        walk-goes e = record {
           inside = omega arith;
           within = walk-fits;
-          lies = lies;
+          lies = subst (λ z. Within ws (z .starts) (z .lengths)) e (within-binding ws w y q n (h .low j here) walk-fits (wo .lies));
           goes =
               ap (bindings (signatureOf b) ws (drop (j + 1) (r .lhs)) (q + n)) (sym e)
               ∙ sym (words-next (signatureOf b) ws (r .lhs) j q y (omega (arith, h .width)) w (h .word j here) n takes (omega arith)) ∙ wo .goes;
@@ -118,10 +118,10 @@ module _ {b : List ℕ} {sh : Shape} {k at : ℕ} {p : RuleSpan} (t : Turn b sh 
           pub symbol-matched : (n ≡ 0 → ⊥) → v < variable → Walked b ws k (p .width) (j + 1) (q + n) s l
           symbol-matched much low =
               let low′ : w < variable = omega arith in
-              walk-goes (takes ∙ sym (taken-symbol (signatureOf b) ws w q y low′)) much (withBinding-symbol w y q n low′) (wo .lies)
+              walk-goes (takes ∙ sym (taken-symbol (signatureOf b) ws w q y low′)) much (withBinding-symbol w y q n low′)
 
           -- a variable that has no stretch yet
-          module _ (high : variable ≤ v) (few : v - variable < variables) where
+          module _ (high : variable ≤ v) where
             number : v - variable ≡ w - variable
             number = omega arith
 
@@ -130,7 +130,6 @@ module _ {b : List ℕ} {sh : Shape} {k at : ℕ} {p : RuleSpan} (t : Turn b sh 
                 let new′ : getD l (w - variable) 0 ≡ 0 = rw number at new in
                 walk-goes (takes ∙ sym (taken-new (signatureOf b) ws w q y new′)) much
                 (withBinding-new w y q n (omega arith) new′ ∙ (λ i. record { starts = set s (sym number i) q; lengths = set l (sym number i) n }))
-                (within-set ws (wo .lies) (v - variable) q n few word-fits)
 
             -- one that has a stretch, of the same words or of others
             module _ (old : 0 < getD l (v - variable) 0) where
@@ -142,7 +141,7 @@ module _ {b : List ℕ} {sh : Shape} {k at : ℕ} {p : RuleSpan} (t : Turn b sh 
 
               pub variable-again : (n ≡ 0 → ⊥) → sameWords (value ws y (v - variable)) (take n (drop q ws)) ≡ true → Walked b ws k (p .width) (j + 1) (q + n) s l
               variable-again much e =
-                  walk-goes (takes ∙ sym (taken-again (signatureOf b) ws w q y (omega arith) old′ (sym alike ∙ e))) much (withBinding-old w y q n (omega arith) old′) (wo .lies)
+                  walk-goes (takes ∙ sym (taken-again (signatureOf b) ws w q y (omega arith) old′ (sym alike ∙ e))) much (withBinding-old w y q n (omega arith) old′)
 
               pub variable-unlike : sameWords (value ws y (v - variable)) (take n (drop q ws)) ≡ false → bindings (signatureOf b) ws (r .lhs) 0 noBindings ≡ none
               variable-unlike e = walk-stops (taken-unlike (signatureOf b) ws w q y (omega arith) old′ (sym alike ∙ e))

@@ -13,25 +13,26 @@ use Rattle.system.specs.layout.Index.{bucket, ruleFrom}
 use Rattle.system.proofs.layout.Books.{Turn, turn-of}
 use Rattle.rows.specs.gap.Gaps.{termIn}
 use Rattle.rows.proofs.lengths.Measures.{words-length}
-use Rattle.matching.specs.Bindings.{consumed}
+use Rattle.matching.specs.Bindings.{taken}
+use Rattle.matching.specs.redexes.Redexes.{boundIn}
 use Rattle.matching.proofs.rules.Lists.{Along, along-starts, along-next}
 use Rattle.matching.proofs.redexes.Taking.{word-from}
-use Rattle.matching.proofs.redexes.Tries.{Searching, Trying, try-starts, try-fails, try-fits, try-symbol, try-variable, finds-computed, finds-nothing, finds-rule}
+use Rattle.matching.proofs.redexes.Tries.{Searching, Trying, try-starts, try-fails, try-fits, try-goes, finds-computed, finds-nothing, finds-rule}
 use borrow.Author.Needs.{needs}
 use Rattle.matching.proofs.redexes.first_redex.Statement.{statement}
 use Rattle.matching.proofs.redexes.first_redex.Tie as tie
 
 abbrev Inv-words : tie.InvT-words
-Inv-words book shape index area bindings₀ gap p head k₀ lhs width j₀ q₀ bindings k j q = Trying book (termIn area gap) p k₀ width k bindings j q
+Inv-words book shape index area spot bindings₀ p head k₀ lhs width j₀ q₀ bindings k j q = Trying book (termIn area (spot .gap)) p k₀ width k bindings j q
 
 abbrev μ-words : tie.MeasureT-words
-μ-words book shape index area bindings₀ gap p head k₀ lhs width j₀ q₀ bindings k j q = width - j
+μ-words book shape index area spot bindings₀ p head k₀ lhs width j₀ q₀ bindings k j q = width - j
 
 abbrev Inv-rules : tie.InvT-rules
-Inv-rules book shape index area bindings₀ gap p head k₀ bindings k = Searching book shape (drop p (termIn area gap)) bindings k
+Inv-rules book shape index area spot bindings₀ p head k₀ bindings k = Searching book shape (drop p (termIn area (spot .gap))) bindings k
 
 abbrev μ-rules : tie.MeasureT-rules
-μ-rules book shape index area bindings₀ gap p head k₀ bindings k = shape .rules - k
+μ-rules book shape index area spot bindings₀ p head k₀ bindings k = shape .rules - k
 
 -- ---- the places of the code that are behind others: the entry, the head of the rules' loop, the rule read, the word met
 
@@ -50,10 +51,13 @@ head c = c .before .before .before .before
 abbrev cleared : tie.After-slice-known2 Inv-words μ-words Inv-rules μ-rules → tie.After-rule-at Inv-words μ-words Inv-rules μ-rules
 cleared c = c .before .before .before .before
 
-abbrev met : tie.After-consumed-at Inv-words μ-words Inv-rules μ-rules → tie.In-words Inv-words μ-words Inv-rules μ-rules
-met c = c .before .before
+abbrev met : tie.After-bind Inv-words μ-words Inv-rules μ-rules → tie.In-words Inv-words μ-words Inv-rules μ-rules
+met c = c .before .before .before
 
-abbrev read : tie.After-consumed-at Inv-words μ-words Inv-rules μ-rules → tie.After-rule-at Inv-words μ-words Inv-rules μ-rules
+abbrev tried : tie.After-slice-known3 Inv-words μ-words Inv-rules μ-rules → tie.After-bind Inv-words μ-words Inv-rules μ-rules
+tried c = c .before .before
+
+abbrev read : tie.After-bind Inv-words μ-words Inv-rules μ-rules → tie.After-rule-at Inv-words μ-words Inv-rules μ-rules
 read c = cleared (met c .before .before)
 
 abbrev term : tie.Start Inv-words μ-words Inv-rules μ-rules → List ℕ
@@ -72,25 +76,17 @@ turn : (c : tie.After-rule-at Inv-words μ-words Inv-rules μ-rules) →
     let a = entry h .args in Turn (a .book .now) (a .shape) (h .rules .k) (c .before .rule-start .result) (c .rule-at .result)
 turn c = let h = head c in turn-of (entry h .pre .0) (c .before .before .if2 .taken) (c .before .rule-start .ensures .0) (c .rule-at .ensures)
 
-took : (c : tie.After-consumed-at Inv-words μ-words Inv-rules μ-rules) →
+took : (c : tie.After-bind Inv-words μ-words Inv-rules μ-rules) →
     let r = read c in
     let w = met c .before .words in
     let s = entry (head r) in
-    let b = s .args .book .now in c .consumed-at .result ≡ consumed (signatureOf b) (getD b (r .rule-at .result .lhs + w .j) 0) (drop (w .q) (term s))
-took c = c .consumed-at .ensures _ (entry (head (read c)) .pre .2)
+    let b = s .args .book .now in
+    let p = s .args .spot .at in
+    c .bind .result ≡ taken (signatureOf b) (drop p (term s)) (getD b (r .rule-at .result .lhs + w .j) 0) (w .q - p) (boundIn (w .bindings))
+took c = c .bind .ensures .0 _ (entry (head (read c)) .pre .2)
 
 short : (s : tie.Start Inv-words μ-words Inv-rules μ-rules) → (s .args .spot .at ≤ length (term s)) × (length (term s) ≤ termWords)
 short s = let m = s .pre .2 .gapped in let n = words-length m in let i = s .pre .3 in let l = m .lies in (omega arith, omega arith)
-
-fits : (c : tie.Else3 Inv-words μ-words Inv-rules μ-rules) →
-    let k = c .before in
-    let w = met k .before .words in (entry (head (read k)) .args .spot .at ≤ w .q) × (w .q + k .consumed-at .result ≤ termWords)
-fits c =
-    let k = c .before in
-    let w = met k .before .words in
-    let s = entry (head (read k)) in
-    let y = short s in
-    let x = try-fits (turn (read k)) (term s) (s .args .spot .at) (w .inv) (met k .words-test .taken) (took k) (c .if3 .left) (y .0) in (w .inv .onward, omega arith)
 
 -- ---- the needs
 
@@ -136,25 +132,29 @@ words-holds c =
     let s = entry (head r) in
     try-starts (turn r) (term s) (s .args .spot .at) (head r .rules .bindings) (head r .rules .inv .sized) (c .before .before .clear .ensures)
 
-add-w : tie.Need-add-w Inv-words μ-words Inv-rules μ-rules
-add-w c = let w = turn (cleared (c .before .before)) .here in omega arith
+add-bind : tie.Need-add-bind Inv-words μ-words Inv-rules μ-rules
+add-bind c = let w = turn (cleared (c .before .before .before)) .here in omega arith
 
-mul-w : tie.Need-mul-w Inv-words μ-words Inv-rules μ-rules
-mul-w c =
-    let r = cleared (c .before .before) in
+mul-bind : tie.Need-mul-bind Inv-words μ-words Inv-rules μ-rules
+mul-bind c =
+    let r = cleared (c .before .before .before) in
     let w = turn r .here in
     let g = entry (head r) .good in
     omega arith
 
-shared-slice-read-w : tie.Need-shared-slice-read-w Inv-words μ-words Inv-rules μ-rules
-shared-slice-read-w c = let w = turn (cleared (c .before .before .before)) .here in omega arith
+shared-slice-read-bind : tie.Need-shared-slice-read-bind Inv-words μ-words Inv-rules μ-rules
+shared-slice-read-bind c = let w = turn (cleared (c .before .before .before .before)) .here in omega arith
 
-consumed-at-requires : tie.Need-consumed-at-requires Inv-words μ-words Inv-rules μ-rules
-consumed-at-requires c κs = entry (head (cleared (c .before .before .before))) .pre .2 .gapped
+bind-requires : tie.Need-bind-requires Inv-words μ-words Inv-rules μ-rules
+bind-requires c κs =
+    let w = c .before .before in
+    let r = cleared (w .before .before) in
+    let o = w .before .words .inv in
+    ((_, entry (head r) .pre .2), o .onward, turn r .here .low (w .before .words .j) (w .words-test .taken), o .sized, o .walked .lies)
 
 next-of-requires : tie.Need-next-of-requires Inv-words μ-words Inv-rules μ-rules
 next-of-requires c κs =
-    let k = c .before in
+    let k = tried (c .before) in
     let r = read k in
     let p = entry (head r) .pre in
     let e = met k .before .words .inv .same in
@@ -162,7 +162,7 @@ next-of-requires c κs =
 
 rules-less : tie.Need-rules-less Inv-words μ-words Inv-rules μ-rules
 rules-less c =
-    let k = c .before .before in
+    let k = tried (c .before .before) in
     let e = met k .before .words .inv .same in
     let l = c .next-of .ensures in
     let h = read k .before .before .if2 .taken in
@@ -170,53 +170,33 @@ rules-less c =
 
 rules-again : tie.Need-rules-again Inv-words μ-words Inv-rules μ-rules
 rules-again c =
-    let k = c .before .before in
+    let k = tried (c .before .before) in
     let r = read k in
     let h = head r in
     let s = entry h in
     let w = met k .before .words in
     let fails = try-fails (turn r) (term s) (s .args .spot .at) (w .inv) (met k .words-test .taken) (took k) (c .before .if3 .taken) in
     record {
-      sized = w .inv .sized;
+      sized = k .bind .kept .1 .1 .0 ∙ w .inv .sized;
       along = along-next (s .pre .0) (drop (s .args .spot .at) (term s)) (h .rules .inv .along) (r .before .before .if2 .taken) fails (rw (w .inv .same) at (c .next-of .ensures .0));
     }
 
-sub-bind : tie.Need-sub-bind Inv-words μ-words Inv-rules μ-rules
-sub-bind c = fits (c .before .before .before) .0
-
-known : (c : tie.After-wide2 Inv-words μ-words Inv-rules μ-rules) → c .wide2 .result < variable + variables
-known c =
-    let k = c .before .before in
-    let w = turn (read k) .here in
-    let v = c .wide2 .ensures .0 in
-    omega (arith, w .low (met k .before .words .j) (met k .words-test .taken))
-
-bind-requires : tie.Need-bind-requires Inv-words μ-words Inv-rules μ-rules
-bind-requires c κs =
-    let w = c .before .before in
-    let f = fits (w .before) in
-    let l = known w in
-    let h = c .before .if4 .taken in
-    (omega arith, met (w .before .before) .before .words .inv .sized, omega arith, omega arith)
-
 add-q : tie.Need-add-q Inv-words μ-words Inv-rules μ-rules
-add-q c = let f = fits (c .before .before) in omega arith
+add-q c =
+    let k = tried (c .before) in
+    let w = met k .before .words in
+    let s = entry (head (read k)) in
+    let y = short s in
+    let f = try-fits (turn (read k)) (term s) (s .args .spot .at) (w .inv) (met k .words-test .taken) (took k) (c .if3 .left) (y .0) in
+    omega arith
 
 words-again : tie.Need-words-again Inv-words μ-words Inv-rules μ-rules
 words-again c =
-    let k = c .before .before .before in
+    let k = tried (c .before) in
     let s = entry (head (read k)) in
     let o = met k .before .words .inv in
-    let here = met k .words-test .taken in
-    let much = c .before .before .if3 .left in
-    let v = c .before .wide2 in
-    let l = known (c .before) in
-    ⊎-elim
-    (λ e.
-    let h = e .0 .taken in
-    try-variable (turn (read k)) (term s) (s .args .spot .at) o here (took k) much (v .ensures .0) h (omega arith) (e .5 ∙ e .2 .ensures))
-    (λ e. try-symbol (turn (read k)) (term s) (s .args .spot .at) o here (took k) much (v .ensures .0) (e .0 .left) (e .1))
-    (c .if4 .came)
+    let much = c .if3 .left in
+    try-goes (turn (read k)) (term s) (s .args .spot .at) o (met k .words-test .taken) (took k) much (k .bind .kept .1 .1 .0 ∙ o .sized) (k .bind .ensures .1 much)
 
 same-length : tie.Need-same-length Inv-words μ-words Inv-rules μ-rules
 same-length c = let s = entry (head (cleared (c .before .before))) in c .before .words .inv .sized ∙ sym (s .pre .4)
@@ -243,6 +223,6 @@ first-redex-spec =
     tie.close
     (tie.spec
     Inv-words μ-words Inv-rules μ-rules word-at-requires (λ c κs. search needs) computed-at-requires (λ c κs. search needs) returns
-    first-of-requires rules-holds rule-start-requires rule-at-requires clear-requires words-holds add-w mul-w shared-slice-read-w
-    consumed-at-requires next-of-requires rules-less rules-again (λ c κs. search needs) sub-bind bind-requires add-q (λ c. search needs)
+    first-of-requires rules-holds rule-start-requires rule-at-requires clear-requires words-holds add-bind mul-bind shared-slice-read-bind
+    bind-requires next-of-requires rules-less rules-again add-q (λ c. search needs)
     (λ c. search needs) words-again same-length returns-2 same-length-2 returns-3)

@@ -205,7 +205,7 @@ rules-again-3 c =
     let m = met k in
     let r = read (m .before) in
     given-up (turn r) (head r .rules .inv)
-    (variable-unlike (turn r) (m .before .words .inv) (m .words-test .taken) (took k) (v .wide2 .ensures .0) (e .before .if5 .taken) (few v)
+    (variable-unlike (turn r) (m .before .words .inv) (m .words-test .taken) (took k) (v .wide2 .ensures .0) (e .before .if5 .taken)
     (let z = e .if6 .left in omega arith) (alike v (s .same-words .ensures) ∙ not-true _ (c .if7 .taken)))
 
 words-again : tie.Need-words-again Inv-words μ-words Inv-rules μ-rules
@@ -219,11 +219,11 @@ words-again c =
     let is = v .wide2 .ensures .0 in
     let much = v .before .if4 .left in
     ⊎-elim
-    (λ e. rw (e .2, e .3) (variable-new t o here (took k) is (e .0 .taken) (few v) much (e .1 .taken)))
+    (λ e. rw (e .2, e .3) (variable-new t o here (took k) is (e .0 .taken) much (e .1 .taken)))
     (⊎-elim
     (λ e.
     rw (e .6, e .7)
-    (variable-again t o here (took k) is (e .0 .taken) (few v) (let z = e .1 .left in omega arith) much (alike v (e .4 .ensures) ∙ not-false _ (e .5 .left))))
+    (variable-again t o here (took k) is (e .0 .taken) (let z = e .1 .left in omega arith) much (alike v (e .4 .ensures) ∙ not-false _ (e .5 .left))))
     (λ e. rw (e .1, e .2) (symbol-matched t o here (took k) is much (e .0 .left))))
     (c .if5 .came)
 
