@@ -46,7 +46,7 @@ ragged='a side is complete too early, or not at its last word'
 refused 'a left side of two cues' ragged 7 "$ragged" 1 0 1 0 1 2 0 0 1 0
 refused 'a left side without its argument: the word after it' ragged 7 "$ragged" 1 1 1 0 1 1 0
 refused 'a left side that is a placeholder' headless 6 'a left side starts with a placeholder' 1 0 1 0 1 1 32768 1 0
-stray='a left placeholder is not the next one, or a right one is not in the left'
+stray='a left placeholder is above the count of different ones before it, or a right one is not in the left'
 refused 'C4, word 29 of book B made 32768' stray 29 "$stray" "${b[@]:0:29}" 32768 "${b[@]:30}"
 refused 'placeholder 1 before 0' stray 7 "$stray" 1 1 1 0 1 2 0 32769 1 0
 refused 'a placeholder on the right alone' stray 8 "$stray" 1 0 1 0 1 1 0 1 32768

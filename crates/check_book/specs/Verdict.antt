@@ -21,7 +21,7 @@ row entry = record { word = "entry"; when = "an order entry above the argument c
 row unknown = record { word = "stranger"; when = "a side's word is neither name nor placeholder" }
 row unbalanced = record { word = "ragged"; when = "a side is complete too early, or not at its last word" }
 row variableHead = record { word = "headless"; when = "a left side starts with a placeholder" }
-row unbound = record { word = "stray"; when = "a left placeholder is not the next one, or a right one is not in the left" }
+row unbound = record { word = "stray"; when = "a left placeholder is above the count of different ones before it, or a right one is not in the left" }
 row trailing = record { word = "surplus"; when = "words after the last rule" }
 row builtInHead = record { word = "builtin"; when = "a left side starts with a level or a built-in word" }
 

@@ -69,7 +69,7 @@ fn put_side_fault(text: &mut [u8], n: u32, at: usize) -> usize
             text,
             b"stray",
             at,
-            b"a left placeholder is not the next one, or a right one is not in the left",
+            b"a left placeholder is above the count of different ones before it, or a right one is not in the left",
         ),
         _ => put_row(
             text,

@@ -8,21 +8,21 @@ use Rattle.system.specs.Parser.{read, readSystem, readRules, readEnd, readRule,
 use Rattle.system.specs.TermCheck.{termFault}
 use Rattle.system.specs.Answers.{termAnswer}
 use Rattle.system.specs.Book.{systemOf}
-use Rattle.matching.specs.StrategyTest.{passes, every, closes, idles, idleTest, isVariable, constructs, firstFailing, testAnswer}
+use Rattle.matching.specs.StrategyTest.{passes, every, closes, idles, idleTest, heldOnce, constructs, firstFailing, testAnswer}
 use Rattle.matching.specs.Cases.{strategyCases}
-use Rattle.matching.specs.Matching.{bind, firstMatch, operation, applied, squared, computed, contraction}
+use Rattle.matching.specs.Matching.{sameWords, bind, firstMatch, operation, applied, squared, computed, contraction}
 use Rattle.system.specs.Cases.{Hold, bookB, readerCases}
 use Rattle.rewriting.specs.Evaluation.{hasRoom, rewrite, follow, atRoot, evaluate, evaluation}
 use Rattle.evaluation.specs.Expansion.{room, earlier, afterChecks, keep, recordAfter}
 use Rattle.rewriting.specs.Trace.{inOrder}
-use Rattle.system.specs.Terms.{among}
+use Rattle.system.specs.Terms.{among, occurs}
 use Rattle.replay.specs.Activity.{flags, pending, activeAt}
 use Rattle.replay.specs.Replay.{toldBy, replay}
-use Rattle.demands.specs.Cases.{expanding, recording, following, evaluatorCases, starred, literalCases, recordCases, squareCases, requestCases}
+use Rattle.demands.specs.Cases.{expanding, recording, following, evaluatorCases, starred, literalCases, recordCases, squareCases, repeatCases, requestCases}
 
 pub starred-cases : Hold starred
-unfolding starred readerCases strategyCases evaluatorCases testAnswer firstFailing passes every closes idles idleTest isVariable constructs
-    expanding bookB zeros afterChecks room earlier evaluation evaluate atRoot follow rewrite hasRoom systemOf contraction firstMatch bind instance
+unfolding starred readerCases strategyCases evaluatorCases testAnswer firstFailing passes every closes idles idleTest heldOnce occurs constructs
+    expanding bookB zeros afterChecks room earlier evaluation evaluate atRoot follow rewrite hasRoom systemOf contraction firstMatch bind sameWords instance
     span argument replace strategy read readSystem readRules readEnd readRule readSide readWords readStrategy number word learn sideFault
     symbolFault variableFault outside each times termFault termAnswer isSymbol arity isLiteral isBuiltIn isBinary builtInArity builtInStrategy
     computed applied operation squared larger smaller squareLaw
@@ -30,9 +30,10 @@ starred-cases = refl
 
 -- and those of the requests
 pub request-cases : Hold requestCases
-unfolding requestCases literalCases recordCases squareCases
+unfolding requestCases literalCases recordCases squareCases repeatCases
+    testAnswer firstFailing passes every closes idles idleTest heldOnce occurs constructs
     expanding recording following bookB zeros afterChecks recordAfter keep inOrder replay toldBy activeAt pending flags among
-    room earlier evaluation evaluate atRoot follow rewrite hasRoom systemOf contraction firstMatch bind instance
+    room earlier evaluation evaluate atRoot follow rewrite hasRoom systemOf contraction firstMatch bind sameWords instance
     span argument replace strategy read readSystem readRules readEnd readRule readSide readWords readStrategy number word learn sideFault
     symbolFault variableFault outside each times termFault termAnswer isSymbol arity isLiteral isBuiltIn isBinary builtInArity builtInStrategy
     computed applied operation squared larger smaller squareLaw

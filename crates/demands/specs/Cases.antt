@@ -1,10 +1,10 @@
 -- The starred cases of the evaluator (01: "Rehearsal cues"), which carry on the table of the layers below. What is expected is written from 01.
-use Prim.Native.Nat.{ℕ, zero, suc}
+use Prim.Native.Nat.{ℕ, zero, suc, _+_}
 use mathlib.Core.List.{List, [], _∷_, _++_}
 use lib.ListN.{length, take, drop, set}
 use Rattle.buffers.specs.Words.{zeros}
-use Rattle.system.specs.Cases.{Case, numbers, bookB, earlyB, readerCases}
-use Rattle.matching.specs.Cases.{strategyCases}
+use Rattle.system.specs.Cases.{Case, numbers, reading, bookB, earlyB, readerCases}
+use Rattle.matching.specs.Cases.{testing, strategyCases}
 use Rattle.rewriting.specs.Evaluation.{unrecorded, recorded}
 use Rattle.evaluation.specs.Expansion.{Expansion, expansion, recordAfter, handedBack}
 use Rattle.replay.specs.Replaying.{replaying}
@@ -146,6 +146,61 @@ squareCases =
     ∷ record { label = 4; got = expanding squareLeft (2 ∷ 16642 ∷ 16584 ∷ []) 9; expected = 0 ∷ 2 ∷ 1 ∷ 2 ∷ 16541 ∷ [] }
     ∷ []
 
+-- ---- a placeholder twice on the left (02, F-7). What is expected is written from 02
+
+-- book B with word 29 made w: rule 1 is head(then(a, w)) to a
+abbrev pub headOf : ℕ → List ℕ
+headOf w = set bookB 29 w
+
+-- names 0 on, 1 off, 2 pair, of two arguments, 3 same, of two; rule 0 is same(l, r) to on. Its left side's words start at word 13 and the
+-- order's length
+unfoldable pub sameBook : List ℕ → List ℕ → List ℕ → List ℕ
+sameBook order l r =
+    (4 ∷ 0 ∷ 0 ∷ 2 ∷ 2 ∷ []) ++ ((4 ∷ 0 ∷ 0 ∷ 2 ∷ 1 ∷ 2 ∷ []) ++ ((length order ∷ order) ++ (1 ∷ (length (l ++ r) + 1) ∷ 3 ∷ (l ++ (r ++ (1 ∷ 0 ∷ []))))))
+
+-- the placeholders a and b, and the book of same(a, a)
+abbrev pub a : ℕ
+a = 32768
+
+abbrev pub b : ℕ
+b = 32769
+
+abbrev pub sameOf : List ℕ → List ℕ
+sameOf order = sameBook order (a ∷ []) (a ∷ [])
+
+unfoldable pub repeatCases : List Case
+repeatCases =
+    -- "Number 7 in a left side is now for a placeholder above the count of different ones before it": after one, 0 and 1 may stand there
+    record { label = 7; got = reading (headOf 32768); expected = 0 ∷ 39 ∷ 0 ∷ [] }
+    ∷ record { label = 7; got = reading (headOf 32769); expected = 0 ∷ 39 ∷ 0 ∷ [] }
+    ∷ record { label = 7; got = reading (headOf 32770); expected = 7 ∷ 29 ∷ 0 ∷ [] }
+    -- a repeat is no new one: same(pair(a, a), ..) may go on with b, and not with the one after it
+    ∷ record { label = 7; got = reading (sameBook (0 ∷ []) (2 ∷ a ∷ a ∷ []) (b ∷ [])); expected = 0 ∷ 22 ∷ 0 ∷ [] }
+    ∷ record { label = 7; got = reading (sameBook (0 ∷ []) (2 ∷ a ∷ a ∷ []) (32770 ∷ [])); expected = 7 ∷ 19 ∷ 0 ∷ [] }
+    -- "it fits if both arguments are equal, all their words": the same; unequal in the first word, in the last, and in length
+    ∷ record { label = 7; got = expanding (sameOf (1 ∷ 2 ∷ 0 ∷ [])) (3 ∷ 1 ∷ 1 ∷ []) 9; expected = 0 ∷ 1 ∷ 1 ∷ 0 ∷ [] }
+    ∷ record { label = 7; got = expanding (sameOf (1 ∷ 2 ∷ 0 ∷ [])) (3 ∷ 2 ∷ 0 ∷ 1 ∷ 2 ∷ 0 ∷ 1 ∷ []) 9; expected = 0 ∷ 1 ∷ 1 ∷ 0 ∷ [] }
+    ∷ record { label = 7; got = expanding (sameOf (1 ∷ 2 ∷ 0 ∷ [])) (3 ∷ 0 ∷ 1 ∷ []) 9; expected = 0 ∷ 3 ∷ 0 ∷ 3 ∷ 0 ∷ 1 ∷ [] }
+    ∷ record {
+      label = 7;
+      got = expanding (sameOf (1 ∷ 2 ∷ 0 ∷ [])) (3 ∷ 2 ∷ 0 ∷ 1 ∷ 2 ∷ 0 ∷ 0 ∷ []) 9;
+      expected = 0 ∷ 7 ∷ 0 ∷ 3 ∷ 2 ∷ 0 ∷ 1 ∷ 2 ∷ 0 ∷ 0 ∷ [];
+    }
+    ∷ record { label = 7; got = expanding (sameOf (1 ∷ 2 ∷ 0 ∷ [])) (3 ∷ 1 ∷ 2 ∷ 1 ∷ 1 ∷ []) 9; expected = 0 ∷ 5 ∷ 0 ∷ 3 ∷ 1 ∷ 2 ∷ 1 ∷ 1 ∷ [] }
+    -- equal after evaluation: same(same(on, on), on) takes two steps, and not where the arguments are held back
+    ∷ record { label = 7; got = expanding (sameOf (1 ∷ 2 ∷ 0 ∷ [])) (3 ∷ 3 ∷ 0 ∷ 0 ∷ 0 ∷ []) 9; expected = 0 ∷ 1 ∷ 2 ∷ 0 ∷ [] }
+    ∷ record { label = 7; got = expanding (sameOf (0 ∷ [])) (3 ∷ 3 ∷ 0 ∷ 0 ∷ 0 ∷ []) 9; expected = 0 ∷ 5 ∷ 0 ∷ 3 ∷ 3 ∷ 0 ∷ 0 ∷ 0 ∷ [] }
+    -- in its record and replay
+    ∷ record { label = 7; got = recording (sameOf (1 ∷ 2 ∷ 0 ∷ [])) (3 ∷ 3 ∷ 0 ∷ 0 ∷ 0 ∷ []) 9 (zeros 4); expected = 0 ∷ 1 ∷ 2 ∷ 0 ∷ 1 ∷ 0 ∷ 0 ∷ 0 ∷ [] }
+    ∷ record { label = 7; got = following (sameOf (1 ∷ 2 ∷ 0 ∷ [])) (3 ∷ 0 ∷ 1 ∷ []) (0 ∷ 0 ∷ []); expected = 17 ∷ 0 ∷ 0 ∷ [] }
+    -- "An argument is idle if, and only if, it is a placeholder that its left side holds once": with the order 1 0 2 argument 2 of same(a, a) is
+    -- not, of same(a, b) it is, and of same(pair(a, b), a) it is not
+    ∷ record { label = 7; got = testing (sameOf (1 ∷ 2 ∷ 0 ∷ [])); expected = 0 ∷ 0 ∷ 0 ∷ [] }
+    ∷ record { label = 7; got = testing (sameOf (1 ∷ 0 ∷ 2 ∷ [])); expected = 14 ∷ 3 ∷ 0 ∷ [] }
+    ∷ record { label = 7; got = testing (sameBook (1 ∷ 0 ∷ 2 ∷ []) (a ∷ []) (b ∷ [])); expected = 0 ∷ 0 ∷ 0 ∷ [] }
+    ∷ record { label = 7; got = testing (sameBook (1 ∷ 0 ∷ 2 ∷ []) (2 ∷ a ∷ b ∷ []) (a ∷ [])); expected = 14 ∷ 3 ∷ 0 ∷ [] }
+    ∷ []
+
 -- all cases of the requests
 unfoldable pub requestCases : List Case
-requestCases = literalCases ++ (recordCases ++ squareCases)
+requestCases = literalCases ++ (recordCases ++ (squareCases ++ repeatCases))

@@ -10,7 +10,7 @@ use lib.ListN.{drop}
 use Rattle.system.specs.Signature.{Signature, Symbol}
 use Rattle.system.specs.System.{System, Rule, instance}
 use Rattle.system.specs.Rules.{BuiltIn, RuleOf, listed, builtIn}
-use Rattle.system.specs.Terms.{Whole, Numbered, end, symbol, next, WellFormedRule, WellFormed}
+use Rattle.system.specs.Terms.{Whole, Numbered, end, symbol, next, again, WellFormedRule, WellFormed}
 use Rattle.system.proofs.Rules.{built-number, built-ground, built-plain}
 use Rattle.matching.specs.Matching.{Matches, Computation, computed}
 use Rattle.matching.proofs.Matched.{instance-symbol, instance-variable, instance-cong, instance-ground}
@@ -38,6 +38,9 @@ module _ (g : Signature) where
           | yes z ↦ subst (λ k. σ k ≡ τ k) (sym z) (c .0)
           | no z ↦ instance-values nb (c .1) v (omega arith) h
         ]
+    instance-values (again {v = u} {w} {ws} q b nb) e v l h =
+        let c = same-front g (Symbol g) (instance σ ws) (instance τ ws) (hσ u) (hτ u) (sym (instance-variable σ w u ws q) ∙ e ∙ instance-variable τ w u ws q) in
+        instance-values nb (c .1) v l h
 
   module _ {t : List ℕ} {p : ℕ} where
     one-rule : {r : Rule} → WellFormedRule g r → (m m′ : Matches g t p r) → instance (m .σ) (r .rhs) ≡ instance (m′ .σ) (r .rhs)

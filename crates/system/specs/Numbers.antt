@@ -15,7 +15,8 @@ pub data Fault : Type 0 where
   unbalanced : Fault
   -- "a left side starts with a placeholder"
   variableHead : Fault
-  -- "a left placeholder is not the next one, or a right one is not in the left"
+  -- "a left placeholder is not the next one, or a right one is not in the left"; 02, F-7: "in a left side is now for a placeholder above the
+  -- count of different ones before it"
   unbound : Fault
   -- "words after the last rule"
   trailing : Fault

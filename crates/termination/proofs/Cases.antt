@@ -5,7 +5,8 @@ use Rattle.system.specs.Signature.{isSymbol, arity}
 use Rattle.system.specs.Parser.{read, readSystem, readRules, readEnd, readRule, readSide, readWords, readStrategy, number, word, learn, sideFault, symbolFault, variableFault, outside, each, times}
 use Rattle.system.specs.Cases.{Hold, bookB}
 use Rattle.matching.specs.StrategyTest.{firstFailing}
-use Rattle.termination.specs.Weights.{builtInWeight, wordWeight, weight, occurs}
+use Rattle.termination.specs.Weights.{builtInWeight, wordWeight, weight}
+use Rattle.system.specs.Terms.{occurs}
 use Rattle.termination.specs.WeightTest.{keepsAt, below, falls, inRange, weighs, systemAnswer, weightsAnswer, weightLimit}
 use Rattle.termination.specs.Cases.{withRules, weightCases}
 

@@ -9,7 +9,8 @@ use borrow.Author.Tests.{ltb-true, lt-ltb, le-ltb, leb-true, le-leb}
 use Rattle.system.specs.Limits.{variable, variables}
 use Rattle.system.specs.System.{Rule}
 use Rattle.system.proofs.BuiltIns.{both}
-use Rattle.termination.specs.Weights.{Weights, weight, occurs, Falls}
+use Rattle.termination.specs.Weights.{Weights, weight, Falls}
+use Rattle.system.specs.Terms.{occurs}
 use Rattle.termination.specs.WeightTest.{keepsAt, below, falls}
 
 -- ---- a test of the numbers below n

@@ -16,7 +16,7 @@ use Rattle.system.proofs.Rules.{built-plain, rule-formed}
 use Rattle.termination.specs.Weights.{Weights, builtInWeight, wordWeight, weight, Falls, Falling}
 use Rattle.termination.proofs.Words.{weight-builtin, builtin-literal, weight-cons, weight-nil}
 use Rattle.termination.proofs.Instances.{shared-le, weight-instance}
-use Rattle.termination.proofs.Occurrences.{occurs-none}
+use Rattle.system.proofs.Occurrences.{occurs-none}
 
 -- ---- an instance of the right side is lighter than that of the left side
 

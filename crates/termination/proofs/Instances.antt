@@ -9,8 +9,10 @@ use Rattle.system.specs.Limits.{variable}
 use Rattle.system.specs.System.{instance}
 use Rattle.system.specs.Terms.{Member, first, later}
 use Rattle.matching.proofs.Matched.{instance-nil, instance-symbol, instance-variable}
-use Rattle.termination.specs.Weights.{Weights, weight, occurs}
-use Rattle.termination.proofs.Words.{weight-variable, weight-append, weight-cons, weight-nil, occurs-same, occurs-other}
+use Rattle.termination.specs.Weights.{Weights, weight}
+use Rattle.system.specs.Terms.{occurs}
+use Rattle.termination.proofs.Words.{weight-variable, weight-append, weight-cons, weight-nil}
+use Rattle.system.proofs.Occurrences.{occurs-same, occurs-other}
 
 -- ---- a sum over the numbers below n
 

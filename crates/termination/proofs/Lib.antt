@@ -1,7 +1,6 @@
--- What words weigh, how often variables stand in a side, and what an instance of it weighs
+-- What words weigh, and what an instance of a side weighs
 pub mod Words
 pub mod Ranges
-pub mod Occurrences
 pub mod Instances
 -- Rules that fall, and the test of them
 pub mod Falls

@@ -12,7 +12,8 @@ use borrow.Author.Tests.{eq-eqb, ne-eqb, lt-ltb, le-ltb, lt-leb}
 use Rattle.system.specs.Limits.{variable, maxSteps}
 use Rattle.system.specs.BuiltIns.{literal, maximum, square, isLiteral, isBuiltIn}
 use Rattle.system.proofs.BuiltIns.{above-literal, above-builtin, smaller-first, smaller-second}
-use Rattle.termination.specs.Weights.{Weights, builtInWeight, wordWeight, weight, occurs}
+use Rattle.termination.specs.Weights.{Weights, builtInWeight, wordWeight, weight}
+use Rattle.system.specs.Terms.{occurs}
 use Rattle.termination.specs.WeightTest.{weightLimit}
 
 -- ---- what one word weighs

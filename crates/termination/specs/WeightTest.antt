@@ -14,7 +14,8 @@ use Rattle.system.specs.System.{System, Rule, rule}
 use Rattle.system.specs.Parser.{ok, fault, read}
 use Rattle.system.specs.Answers.{answerOf}
 use Rattle.matching.specs.StrategyTest.{firstFailing}
-use Rattle.termination.specs.Weights.{Weights, weight, occurs}
+use Rattle.termination.specs.Weights.{Weights, weight}
+use Rattle.system.specs.Terms.{occurs}
 
 -- whether variable v is on the right at most as often as on the left
 unfoldable pub keepsAt : Rule → ℕ → Bool

@@ -12,10 +12,10 @@ use borrow.Author.Tests.{le-leb, lt-leb}
 use Rattle.system.specs.Limits.{sideWords, variable, variables}
 use Rattle.system.specs.System.{Rule}
 use Rattle.matching.specs.rules.Searches.{NumberedSide}
-use Rattle.termination.specs.Weights.{occurs}
+use Rattle.system.specs.Terms.{occurs}
 use Rattle.termination.specs.WeightTest.{keepsAt, below}
 use Rattle.termination.specs.falling.Counts.{Counts, covers}
-use Rattle.termination.proofs.Words.{occurs-nil, occurs-next, occurs-skip, occurs-take, occurs-length}
+use Rattle.system.proofs.Occurrences.{occurs-nil, occurs-next, occurs-skip, occurs-take, occurs-length}
 use Rattle.termination.proofs.Decides.{below-none, below-next, below-fails, below-same}
 
 -- ---- the words of a side
@@ -38,7 +38,7 @@ module _ (ws : List ℕ) (j : ℕ) (h : j < length ws) {counts : List ℕ} (c : 
   pub counts-symbol : getD ws j 0 < variable → Counts (take (j + 1) ws) counts
   counts-symbol low = record {
     total = c .total;
-    each = λ v l. c .each v l ∙ sym (occurs-skip ws j h (variable + v) (λ e. omega arith));
+    each = λ v l. c .each v l ∙ sym (occurs-skip (variable + v) ws j h (λ e. omega arith));
   }
 
   -- variable number v
@@ -52,12 +52,12 @@ module _ (ws : List ℕ) (j : ℕ) (h : j < length ws) {counts : List ℕ} (c : 
       each u l = let z = c .each u l in elim (ℕ-discrete u v) [
         | yes e ↦ rw e (
             let s = getD-set-same counts v n 0 (let t = c .total in omega arith) in
-            let o = occurs-next ws j h (variable + v) is in
+            let o = occurs-next (variable + v) ws j h is in
             let z = c .each v known in
             omega arith)
         | no d ↦
             let s = getD-set-other counts v u n 0 d in
-            let o = occurs-skip ws j h (variable + u) (λ e. d (omega arith)) in
+            let o = occurs-skip (variable + u) ws j h (λ e. d (omega arith)) in
             omega arith
       ]
 

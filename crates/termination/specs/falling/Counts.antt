@@ -6,7 +6,7 @@ use mathlib.Core.List.{List}
 use lib.ListN.{length, getD}
 use lib.Dec.{leb}
 use Rattle.system.specs.Limits.{variable, variables}
-use Rattle.termination.specs.Weights.{occurs}
+use Rattle.system.specs.Terms.{occurs}
 use Rattle.termination.specs.WeightTest.{below}
 
 -- for each variable, at its number, how often it stands in the words
