@@ -18,7 +18,7 @@ use Rattle.rewriting.specs.Trace.{inOrder}
 use Rattle.system.specs.Terms.{among, occurs}
 use Rattle.replay.specs.Activity.{flags, pending, activeAt}
 use Rattle.replay.specs.Replay.{toldBy, replay}
-use Rattle.demands.specs.Cases.{expanding, recording, following, evaluatorCases, starred, literalCases, recordCases, squareCases, repeatCases, requestCases}
+use Rattle.demands.specs.Cases.{expanding, recording, following, evaluatorCases, starred, literalCases, recordCases, squareCases, sameBook, repeatCases, requestCases}
 
 pub starred-cases : Hold starred
 unfolding starred readerCases strategyCases evaluatorCases testAnswer firstFailing passes every closes idles idleTest heldOnce occurs constructs
@@ -30,7 +30,7 @@ starred-cases = refl
 
 -- and those of the requests
 pub request-cases : Hold requestCases
-unfolding requestCases literalCases recordCases squareCases repeatCases
+unfolding requestCases literalCases recordCases squareCases repeatCases sameBook
     testAnswer firstFailing passes every closes idles idleTest heldOnce occurs constructs
     expanding recording following bookB zeros afterChecks recordAfter keep inOrder replay toldBy activeAt pending flags among
     room earlier evaluation evaluate atRoot follow rewrite hasRoom systemOf contraction firstMatch bind sameWords instance

@@ -156,7 +156,9 @@ headOf w = set bookB 29 w
 -- order's length
 unfoldable pub sameBook : List ℕ → List ℕ → List ℕ → List ℕ
 sameBook order l r =
-    (4 ∷ 0 ∷ 0 ∷ 2 ∷ 2 ∷ []) ++ ((4 ∷ 0 ∷ 0 ∷ 2 ∷ 1 ∷ 2 ∷ []) ++ ((length order ∷ order) ++ (1 ∷ (length (l ++ r) + 1) ∷ 3 ∷ (l ++ (r ++ (1 ∷ 0 ∷ []))))))
+    (4 ∷ 0 ∷ 0 ∷ 2 ∷ 2 ∷ [])
+    ++ ((4 ∷ 0 ∷ 0 ∷ 2 ∷ 1 ∷ 2 ∷ length order ∷ order)
+    ++ (1 ∷ (length (l ++ r) + 1) ∷ 3 ∷ (l ++ (r ++ (1 ∷ 0 ∷ [])))))
 
 -- the placeholders a and b, and the book of same(a, a)
 abbrev pub a : ℕ
@@ -191,7 +193,11 @@ repeatCases =
     ∷ record { label = 7; got = expanding (sameOf (1 ∷ 2 ∷ 0 ∷ [])) (3 ∷ 3 ∷ 0 ∷ 0 ∷ 0 ∷ []) 9; expected = 0 ∷ 1 ∷ 2 ∷ 0 ∷ [] }
     ∷ record { label = 7; got = expanding (sameOf (0 ∷ [])) (3 ∷ 3 ∷ 0 ∷ 0 ∷ 0 ∷ []) 9; expected = 0 ∷ 5 ∷ 0 ∷ 3 ∷ 3 ∷ 0 ∷ 0 ∷ 0 ∷ [] }
     -- in its record and replay
-    ∷ record { label = 7; got = recording (sameOf (1 ∷ 2 ∷ 0 ∷ [])) (3 ∷ 3 ∷ 0 ∷ 0 ∷ 0 ∷ []) 9 (zeros 4); expected = 0 ∷ 1 ∷ 2 ∷ 0 ∷ 1 ∷ 0 ∷ 0 ∷ 0 ∷ [] }
+    ∷ record {
+      label = 7;
+      got = recording (sameOf (1 ∷ 2 ∷ 0 ∷ [])) (3 ∷ 3 ∷ 0 ∷ 0 ∷ 0 ∷ []) 9 (zeros 4);
+      expected = 0 ∷ 1 ∷ 2 ∷ 0 ∷ 1 ∷ 0 ∷ 0 ∷ 0 ∷ [];
+    }
     ∷ record { label = 7; got = following (sameOf (1 ∷ 2 ∷ 0 ∷ [])) (3 ∷ 0 ∷ 1 ∷ []) (0 ∷ 0 ∷ []); expected = 17 ∷ 0 ∷ 0 ∷ [] }
     -- "An argument is idle if, and only if, it is a placeholder that its left side holds once": with the order 1 0 2 argument 2 of same(a, a) is
     -- not, of same(a, b) it is, and of same(pair(a, b), a) it is not

@@ -127,15 +127,16 @@ fn bind(area: &[u16], spot: Spot, bindings: &mut [u16], l: u16, q: usize) -> usi
         × Within (drop (spot .at) (termIn (now area) (spot .gap))) (boundIn (now bindings) .starts) (boundIn (now bindings) .lengths) ⌝ }
     ensures taken { λ r. ⌜ ((g : Signature) → Measured g (now (area .entry)) (spot .gap) →
         r ≡ taken g (drop (spot .at) (termIn (now (area .entry)) (spot .gap))) l (q - spot .at) (boundIn (now (bindings .entry)))) ⌝ }
-    ensures bound { λ r. ⌜ ((r ≡ 0 → ⊥) → boundIn (now (bindings .exit)) ≡ withBinding l (q - spot .at) r (boundIn (now (bindings .entry)))) ⌝ }
+    ensures bound { λ r. ⌜ ((r ≡ 0 → ⊥) →
+        boundIn (now (bindings .exit)) ≡ withBinding l (q - spot .at) r (boundIn (now (bindings .entry)))) ⌝ }
 {
     let n = consumed_at(area, spot.gap, l, q);
-    if n == 0 {
-        return 0;
-    }
     let w = wide(l);
     if w < VARIABLE {
         return n;
+    }
+    if n == 0 {
+        return 0;
     }
     let v = w - VARIABLE;
     let m = wide(bindings[VARIABLES + v]);

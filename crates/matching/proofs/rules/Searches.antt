@@ -19,7 +19,8 @@ use Rattle.matching.specs.Bindings.{Bindings, noBindings, consumed, valu
 use Rattle.matching.specs.rules.Searches.{Within}
 use Rattle.system.proofs.layout.Books.{Rest, Here, Turn, signature, rule-count, first-index, first-rest}
 use Rattle.matching.proofs.Stretches.{within-none}
-use Rattle.matching.proofs.rules.MatchSteps.{consumed-le, withBinding-symbol, withBinding-old, withBinding-new, within-binding, taken-symbol, taken-new, taken-again, taken-unlike, taken-some, taken-none, taken-first}
+use Rattle.matching.proofs.rules.MatchSteps.{consumed-le, withBinding-symbol, withBinding-old, withBinding-new, within-binding}
+use Rattle.matching.proofs.rules.MatchSteps.{taken-symbol, taken-new, taken-again, taken-unlike, taken-some, taken-none, taken-first}
 use Rattle.matching.proofs.rules.MatchSteps.{words-end, words-stop, words-next, rules-end, rules-next, rules-here}
 
 -- no rule before number k matched

@@ -20,10 +20,13 @@ abbrev entry : tie.After-consumed-at → tie.Start
 entry c = c .before .before .before
 
 abbrev met : tie.After-wide → tie.After-consumed-at
-met c = c .before .before
+met c = c .before
+
+abbrev variable-met : tie.After-wide2 → tie.Else2
+variable-met c = c .before .before
 
 abbrev word : tie.After-wide2 → tie.After-wide
-word c = c .before .before .before
+word c = variable-met c .before .before
 
 abbrev long : tie.After-wide3 → tie.After-wide2
 long c = c .before .before .before .before
@@ -33,12 +36,14 @@ term c = termIn (c .args .area .now) (c .args .spot .gap)
 
 -- ---- what is known there: that the words met lie in the term, and the variable's number
 
-inside : (c : tie.Else1) → entry (c .before) .args .q + c .before .consumed-at .result ≤ wordsIn (entry (c .before) .args .spot .gap)
+inside : (c : tie.Else2) →
+    let k = met (c .before .before) in entry k .args .q + k .consumed-at .result ≤ wordsIn (entry k .args .spot .gap)
 inside c =
-    let s = entry (c .before) in
+    let k = met (c .before .before) in
+    let s = entry k in
     let g = s .pre .0 in
     let n = words-length (g .1 .gapped) in
-    let z = takes-inside (g .0) (term s) (s .args .l) (s .pre .1) (s .args .bindings .now) (c .before .consumed-at .ensures (g .0) (g .1)) (c .if1 .left) in
+    let z = takes-inside (g .0) (term s) (s .args .l) (s .pre .1) (s .args .bindings .now) (k .consumed-at .ensures (g .0) (g .1)) (c .if2 .left) in
     omega arith
 
 few : (c : tie.After-wide) → c .wide .result - variable < variables
@@ -51,34 +56,34 @@ consumed-at-requires c κs = c .before .before .pre .0 .1 .gapped
 
 returns : tie.Need-returns
 returns c =
-    let s = entry (c .before) in
-    (λ g m. nothing-takes g (term s) (s .args .l) (s .pre .1) (s .args .bindings .now) (c .before .consumed-at .ensures g m) (c .if1 .taken), λ d. absurd (d refl))
-
-returns-2 : tie.Need-returns-2
-returns-2 c =
     let w = c .before in
     let s = entry (met w) in
     let bs = s .args .bindings .now in
-    let is = w .wide .ensures .0 in
-    (
-      λ g m. symbol-takes g (term s) (s .args .l) (s .pre .1) bs (met w .consumed-at .ensures g m) is (c .if2 .taken),
-      λ d. symbol-bound bs is (c .if2 .taken) (s .args .q - s .args .spot .at) (met w .consumed-at .result),
+    let is = w .wide .ensures .0 in (
+      λ g m. symbol-takes g (term s) (s .args .l) (s .pre .1) bs (met w .consumed-at .ensures g m) is (c .if1 .taken),
+      λ d. symbol-bound bs is (c .if1 .taken) (s .args .q - s .args .spot .at) (met w .consumed-at .result),
     )
 
+returns-2 : tie.Need-returns-2
+returns-2 c =
+    let k = met (c .before .before) in
+    let s = entry k in
+    (λ g m. nothing-takes g (term s) (s .args .l) (s .pre .1) (s .args .bindings .now) (k .consumed-at .ensures g m) (c .if2 .taken), λ d. absurd (d refl))
+
 add-wide : tie.Need-add-wide
-add-wide c = let f = few (c .before) in omega arith
+add-wide c = let f = few (c .before .before) in omega arith
 
 mul-wide : tie.Need-mul-wide
-mul-wide c = let f = few (c .before) in omega arith
+mul-wide c = let f = few (c .before .before) in omega arith
 
 slice-read-wide : tie.Need-slice-read-wide
-slice-read-wide c = let w = c .before .before in let f = few w in let n = entry (met w) .pre .3 in omega arith
+slice-read-wide c = let w = c .before .before .before in let f = few w in let n = entry (met w) .pre .3 in omega arith
 
 sub-bindings : tie.Need-sub-bindings
 sub-bindings c = entry (met (word (c .before .before))) .pre .1
 
 cast-bindings : tie.Need-cast-bindings
-cast-bindings c = let w = word (c .before .before) in let i = inside (w .before) in let l = entry (met w) .pre .0 .1 .gapped .lies in omega arith
+cast-bindings c = let w = word (c .before .before) in let i = inside (variable-met (c .before .before)) in let l = entry (met w) .pre .0 .1 .gapped .lies in omega arith
 
 mul-bindings : tie.Need-mul-bindings
 mul-bindings c = let f = few (word (c .before .before)) in omega arith
@@ -87,7 +92,7 @@ slice-write-bindings : tie.Need-slice-write-bindings
 slice-write-bindings c = let w = word (c .before .before) in let f = few w in let n = entry (met w) .pre .3 in omega arith
 
 cast-bindings-2 : tie.Need-cast-bindings-2
-cast-bindings-2 c = let w = word (c .before .before) in let i = inside (w .before) in let l = entry (met w) .pre .0 .1 .gapped .lies in omega arith
+cast-bindings-2 c = let w = word (c .before .before) in let i = inside (variable-met (c .before .before)) in let l = entry (met w) .pre .0 .1 .gapped .lies in omega arith
 
 add-bindings : tie.Need-add-bindings
 add-bindings c = let f = few (word (c .before .before)) in omega arith
@@ -119,9 +124,8 @@ returns-3 c =
     let s = entry (met w) in
     let bs = s .args .bindings .now in
     let is = w .wide .ensures .0 in
-    let high = m .before .before .if2 .left in
-    let new = sym (m .wide2 .ensures .0) ∙ c .before .if3 .taken in
-    (
+    let high = variable-met m .before .if1 .left in
+    let new = sym (m .wide2 .ensures .0) ∙ c .before .if3 .taken in (
       λ g m. new-takes g (term s) (s .args .l) (s .pre .1) bs (met w .consumed-at .ensures g m) is high (few w) new,
       λ d. new-bound bs is high (few w) (s .args .q - s .args .spot .at) (met w .consumed-at .result) new,
     )
@@ -130,9 +134,8 @@ returns-4 : tie.Need-returns-4
 returns-4 c =
     let m = c .before .before in
     let w = word m in
-    let s = entry (met w) in
-    (
-      λ g e. length-differs g (term s) (s .args .l) (s .pre .1) (s .args .bindings .now) (met w .consumed-at .ensures g e) (w .wide .ensures .0) (m .before .before .if2 .left) (few w)
+    let s = entry (met w) in (
+      λ g e. length-differs g (term s) (s .args .l) (s .pre .1) (s .args .bindings .now) (met w .consumed-at .ensures g e) (w .wide .ensures .0) (variable-met m .before .if1 .left) (few w)
           (m .wide2 .ensures .0) (c .before .if3 .left) (s .pre .4) (c .if4 .taken),
       λ d. absurd (d refl),
     )
@@ -152,9 +155,9 @@ stretch c =
     let w = word m in
     let s = entry (met w) in
     let n = words-length (s .pre .0 .1 .gapped) in
-    let i = inside (w .before) in
+    let i = inside (variable-met m) in
     let o = s .pre .1 in
-    let z = stretch-inside (s .args .bindings .now) (w .wide .ensures .0) (m .before .before .if2 .left) (few w) (term s) {p = s .args .spot .at} (omega arith) (s .pre .4) in
+    let z = stretch-inside (s .args .bindings .now) (w .wide .ensures .0) (variable-met m .before .if1 .left) (few w) (term s) {p = s .args .spot .at} (omega arith) (s .pre .4) in
     let x = c .wide3 .ensures .0 in
     let y = m .wide2 .ensures .0 in
     omega arith
@@ -168,16 +171,15 @@ same-at-requires c κs =
     let w = word (long x) in
     let s = stretch x in
     let e = x .before .before .if4 .left in
-    (entry (met w) .pre .0 .1 .gapped, omega arith, inside (w .before))
+    (entry (met w) .pre .0 .1 .gapped, omega arith, inside (variable-met (long x)))
 
 returns-5 : tie.Need-returns-5
 returns-5 c =
     let x = c .before .before .before in
     let m = long x in
     let w = word m in
-    let s = entry (met w) in
-    (
-      λ g e. words-differ g (term s) (s .args .l) (s .pre .1) (s .args .bindings .now) (met w .consumed-at .ensures g e) (w .wide .ensures .0) (m .before .before .if2 .left) (few w)
+    let s = entry (met w) in (
+      λ g e. words-differ g (term s) (s .args .l) (s .pre .1) (s .args .bindings .now) (met w .consumed-at .ensures g e) (w .wide .ensures .0) (variable-met m .before .if1 .left) (few w)
           (m .wide2 .ensures .0) (x .before .before .before .if3 .left) (x .before .before .if4 .left) (x .wide3 .ensures .0) (c .before .same-at .ensures) (not-true _ (c .if5 .taken)),
       λ d. absurd (d refl),
     )
@@ -190,9 +192,8 @@ returns-6 c =
     let s = entry (met w) in
     let bs = s .args .bindings .now in
     let is = w .wide .ensures .0 in
-    let high = m .before .before .if2 .left in
-    let old = x .before .before .before .if3 .left in
-    (
+    let high = variable-met m .before .if1 .left in
+    let old = x .before .before .before .if3 .left in (
       λ g e. again-takes g (term s) (s .args .l) (s .pre .1) bs (met w .consumed-at .ensures g e) is high (few w) (m .wide2 .ensures .0) old (x .before .before .if4 .left)
           (x .wide3 .ensures .0) (c .before .same-at .ensures) (not-false _ (c .if5 .left)),
       λ d. old-bound bs is high (few w) (s .args .q - s .args .spot .at) (met w .consumed-at .result) (λ z. old (m .wide2 .ensures .0 ∙ z)),
@@ -202,6 +203,6 @@ pub bind-spec : {M : Type 1} → statement M
 bind-spec =
     tie.close
     (tie.spec
-    consumed-at-requires returns (λ c κs. search needs) returns-2 add-wide mul-wide slice-read-wide (λ c κs. search needs) sub-bindings cast-bindings
+    consumed-at-requires (λ c κs. search needs) returns returns-2 add-wide mul-wide slice-read-wide (λ c κs. search needs) sub-bindings cast-bindings
     mul-bindings slice-write-bindings cast-bindings-2 add-bindings mul-bindings-2 slice-write-bindings-2 same-length returns-3 returns-4 mul-wide-2
     slice-read-wide-2 (λ c κs. search needs) add-same-at same-at-requires returns-5 returns-6)
