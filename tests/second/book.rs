@@ -1,5 +1,5 @@
 //! Show books and cues, read into trees, straight from the paper's text (01, "The show book" and "The table of numbers"; 02, F-1,
-//! F-2, F-4 and F-5).
+//! F-2, F-4, F-5 and F-7).
 
 use std::cell::Cell;
 use std::rc::Rc;
@@ -48,6 +48,16 @@ pub enum Side {
     Named(u16, Vec<Side>),
 }
 
+impl Side {
+    /// How often it holds a placeholder.
+    pub fn uses(&self, k: usize) -> usize {
+        match self {
+            Side::Hole(j) => (*j == k) as usize,
+            Side::Named(_, arguments) => arguments.iter().map(|a| a.uses(k)).sum(),
+        }
+    }
+}
+
 /// A rule: both sides as trees, and as they were written.
 #[derive(Clone, Debug)]
 pub struct Rule {
@@ -77,6 +87,7 @@ pub struct Book {
 struct Pages<'a> {
     words: &'a [u16],
     at: usize,
+    plant: Plant,
 }
 
 /// What is known of a side while it is read.
@@ -85,8 +96,25 @@ struct Reading {
     first: bool,
     /// one index after the side's last word
     end: usize,
-    /// on the left the placeholders so far, on the right those of the left side
+    /// on the left the count of different placeholders so far, on the right that of the left side
     holes: usize,
+    plant: Plant,
+}
+
+impl Reading {
+    /// "Number 7 in a left side is now for a placeholder above the count of different ones before it" (02, F-7).
+    fn is_stray(&self, k: usize) -> bool {
+        match self.left {
+            true if self.plant == Plant::NoTwins => k != self.holes,
+            true => k > self.holes,
+            false => k >= self.holes,
+        }
+    }
+
+    /// A placeholder of the left side is a different one if it is not one of those before it.
+    fn met(&mut self, k: usize) {
+        self.holes += (self.left && (k == self.holes || self.plant == Plant::NewTwins)) as usize;
+    }
 }
 
 impl Pages<'_> {
@@ -109,7 +137,7 @@ impl Pages<'_> {
     fn side(&mut self, book: &Book, left: bool, holes: usize) -> Result<(Side, Vec<u16>, usize, usize), Fault> {
         let length = self.between(1, 64, 2)?;
         let start = self.at;
-        let mut r = Reading { left, first: true, end: start + length, holes };
+        let mut r = Reading { left, first: true, end: start + length, holes, plant: self.plant };
         let side = self.tree(book, &mut r)?;
         if self.at < r.end {
             // complete too early: 1 is checked before 5
@@ -149,11 +177,10 @@ impl Pages<'_> {
             return Ok(Side::Named(w, arguments));
         }
         let k = (w - HOLE) as usize;
-        let stray = if r.left { k != r.holes } else { k >= r.holes };
-        if stray {
+        if r.is_stray(k) {
             return Err((7, at));
         }
-        r.holes += r.left as usize;
+        r.met(k);
         Ok(Side::Hole(k))
     }
 
@@ -190,7 +217,11 @@ impl Pages<'_> {
 
 /// Reads a book.
 pub fn read(words: &[u16]) -> Result<Book, Fault> {
-    Pages { words, at: 0 }.book()
+    read_with(words, Plant::Nothing)
+}
+
+pub fn read_with(words: &[u16], plant: Plant) -> Result<Book, Fault> {
+    Pages { words, at: 0, plant }.book()
 }
 
 /// A cue: a name with its arguments. Arguments may be shared, which nothing here can tell.
@@ -301,11 +332,11 @@ impl Book {
     }
 
     fn passes(&self, f: usize, plant: Plant) -> bool {
-        let lefts: Vec<&Vec<Side>> = self
+        let lefts: Vec<(&Side, &Vec<Side>)> = self
             .rules
             .iter()
             .filter_map(|r| match &r.left {
-                Side::Named(g, arguments) if *g as usize == f => Some(arguments),
+                Side::Named(g, arguments) if *g as usize == f => Some((&r.left, arguments)),
                 _ => None,
             })
             .collect();
@@ -314,7 +345,9 @@ impl Book {
         }
         let order = &self.names[f].order;
         let zero = if plant == Plant::FirstZero { order.iter().position(|&e| e == 0) } else { order.iter().rposition(|&e| e == 0) };
-        let idle = |i: usize| lefts.iter().all(|l| matches!(l[i - 1], Side::Hole(_)));
+        // "An argument is idle if, and only if, it is a placeholder that its left side holds once, in every left side of the name" (02, F-7)
+        let once = |left: &Side, k: usize| left.uses(k) == 1 || plant == Plant::IdleTwins;
+        let idle = |i: usize| lefts.iter().all(|(left, arguments)| matches!(arguments[i - 1], Side::Hole(k) if once(left, k)));
         match zero {
             None => false,
             Some(z) => order[z + 1..].iter().all(|&e| e == 0 || idle(e)),
@@ -356,7 +389,7 @@ pub enum Plant {
     OldZeros,
     /// a rule falls where both sides weigh the same, too
     SameWeight,
-    /// a rule falls with a placeholder on the right twice, too
+    /// a rule falls with a placeholder on the right more often than on the left, too
     Twice,
     /// the test by weights tells the highest rule that doesn't fall
     LastRising,
@@ -366,6 +399,20 @@ pub enum Plant {
     LongList,
     /// levels weigh 1 in rules
     LevelsWeigh,
+    /// 7 for a placeholder that is met again on the left, as it was before F-7
+    NoTwins,
+    /// a placeholder that is met again is counted as a new one
+    NewTwins,
+    /// an argument is idle though its left side holds the placeholder twice
+    IdleTwins,
+    /// a placeholder that is met again fits where the first words are equal
+    FirstWords,
+    /// where both arguments have as many words
+    SameLengths,
+    /// whatever it meets
+    AnyTwins,
+    /// no rule falls with a placeholder on the right twice, as it was before F-7
+    OnceRight,
 }
 
 impl Plant {

@@ -2,6 +2,7 @@
 
 use crate::book::{self, is_level, Book, Cue, Plant, Rule, CURVE, CURVE_RULE, HIGHER, HIGHER_RULE, HOLE, LONGEST, LOWER, LOWER_RULE, WORK_WORDS};
 use crate::compare_records::{compare_records, RECORDED, REPLAYED};
+use crate::compare_twins::{meet_twins, read_twins, step_twins, TWINS};
 use crate::compare_weights::{compare_weights, FALLING, WEIGHED};
 use crate::demand3;
 use crate::evaluate::{evaluate, evaluate_plainly, first_fit, End, Fit, Outcome, Step};
@@ -92,6 +93,7 @@ pub struct Counts {
     pub replayed_met: [u64; REPLAYED.len()],
     pub weighed_met: [u64; WEIGHED.len()],
     pub falling_met: [u64; FALLING.len()],
+    pub twins: [u64; TWINS.len()],
     pub arguments: u64,
     pub matches: u64,
     pub listed: u64,
@@ -126,6 +128,7 @@ impl Counts {
         all(&mut self.replayed_met, &o.replayed_met);
         all(&mut self.weighed_met, &o.weighed_met);
         all(&mut self.falling_met, &o.falling_met);
+        all(&mut self.twins, &o.twins);
         self.most_steps = self.most_steps.max(o.most_steps);
         self.exact += o.exact;
         self.one_short += o.one_short;
@@ -247,8 +250,11 @@ fn matched(b: &Book, part: &Rc<Cue>) -> Match {
             at += 1;
         } else {
             let k = (w - book::HOLE) as usize;
-            m.starts[k] = at;
-            m.lengths[k] = filling[k].words;
+            // of one that is repeated, the first (the header's text for cue_match)
+            if m.lengths[k] == 0 {
+                m.starts[k] = at;
+                m.lengths[k] = filling[k].words;
+            }
             at += filling[k].words;
         }
     }
@@ -311,6 +317,7 @@ fn cues(case: &Case, b: &Book, cue: &Result<Rc<Cue>, usize>, n: &mut Counts) -> 
         match b.front(&ws[at..]) {
             Some(part) => {
                 n.matches += 1;
+                meet_twins(b, &part, n);
                 same(&format!("the first rule that fits at {at}"), matched(b, &part), got)?;
             }
             None => {
@@ -474,6 +481,7 @@ fn handed_back(case: &Case, plant: Plant, b: &Book, o: &Outcome, words: &[u16], 
     n.most_steps = n.most_steps.max(o.steps);
     n.exact += (o.steps == case.limit) as u64;
     count(&mut n.levels, &levels(b, &o.trace, words));
+    step_twins(b, o, n);
     let handed = |cue, limit, steps| Expansion { cue, limit, answer: answer(0, words.len(), steps), words: Some(words) };
     expanded(case, plant, handed(&case.cue, case.limit, o.steps))?;
     // demand 3: the list of steps, for every book
@@ -610,8 +618,9 @@ fn evaluates_in(b: &Book, c: &Rc<Cue>, limit: u32, spent: u32) -> bool {
 
 pub fn compare(case: &Case, plant: Plant, n: &mut Counts) -> Checked {
     n.cases += 1;
-    let read = book::read(&case.book);
+    let read = book::read_with(&case.book, plant);
     readers(case, plant, &read, n)?;
+    read_twins(case, &read, n);
     same("the span of the cue's words", span(&case.book, &case.cue), product::span(&case.book, &case.cue))?;
     let cue = match &read {
         Ok(b) => {

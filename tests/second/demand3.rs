@@ -56,7 +56,10 @@ fn filling<'a>(book: &Book, left: &[u16], part: &'a [u16]) -> Option<Vec<&'a [u1
             at += 1;
         } else {
             let end = part_end(book, part, at);
-            found.push(&part[at..end]);
+            // the first stands for it; whether the others are the same (02, F-7), the instance tells
+            if (w - HOLE) as usize == found.len() {
+                found.push(&part[at..end]);
+            }
             at = end;
         }
     }

@@ -1,4 +1,4 @@
-//! Evaluation on trees, recursive, straight from the paper's text (01, "Evaluation"; 02, F-2 to F-4).
+//! Evaluation on trees, recursive, straight from the paper's text (01, "Evaluation"; 02, F-2 to F-4 and F-7).
 //!
 //! Orders may repeat an argument, and nested repeats multiply. So a tree remembers the levels at which its evaluation took no step: what fits
 //! in it, and whether an argument is opened from level 64, depends on nothing but the tree and the level, so it takes none there again. The
@@ -78,16 +78,27 @@ struct Evaluator<'a> {
     remembers: bool,
 }
 
-/// Names equal, each placeholder standing for one whole argument.
-fn fits(side: &Side, cue: &Rc<Cue>, filling: &mut Vec<Rc<Cue>>) -> bool {
+/// Names equal, each placeholder standing for one whole argument. "A left side may now repeat a placeholder; it fits if both arguments are
+/// equal, all their words" (02, F-7).
+fn fits(side: &Side, cue: &Rc<Cue>, filling: &mut Vec<Rc<Cue>>, plant: Plant) -> bool {
     match side {
+        Side::Hole(k) if *k < filling.len() => equal(&filling[*k], cue, plant),
         Side::Hole(_) => {
             filling.push(cue.clone());
             true
         }
         Side::Named(name, arguments) => {
-            *name == cue.name && arguments.iter().zip(&cue.arguments).all(|(s, c)| fits(s, c, filling))
+            *name == cue.name && arguments.iter().zip(&cue.arguments).all(|(s, c)| fits(s, c, filling, plant))
         }
+    }
+}
+
+fn equal(a: &Rc<Cue>, b: &Rc<Cue>, plant: Plant) -> bool {
+    match plant {
+        Plant::FirstWords => a.name == b.name,
+        Plant::SameLengths => a.words == b.words,
+        Plant::AnyTwins => true,
+        _ => Rc::ptr_eq(a, b) || a.to_words() == b.to_words(),
     }
 }
 
@@ -122,9 +133,9 @@ impl Fit {
 
 /// The rules that fit here, from the lowest-numbered on.
 pub fn all_fits<'a>(book: &'a Book, cue: &'a Rc<Cue>, plant: Plant) -> impl Iterator<Item = Fit> + 'a {
-    let listed = book.rules.iter().enumerate().filter_map(|(number, rule)| {
+    let listed = book.rules.iter().enumerate().filter_map(move |(number, rule)| {
         let mut filling = vec![];
-        fits(&rule.left, cue, &mut filling).then_some(Fit::Listed(number, filling))
+        fits(&rule.left, cue, &mut filling, plant).then_some(Fit::Listed(number, filling))
     });
     listed.chain(built_in_fit(cue, plant))
 }

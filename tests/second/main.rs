@@ -2,7 +2,7 @@
 //!
 //!     second [CASES] [--seed N] [--threads N] [--plant N] [--plain]
 //!
-//! CASES cases (100,000 if not said), from seed 0 (or --seed) on; one thread for each processor, if not said. --plant 1 to 20 plants a fault
+//! CASES cases (100,000 if not said), from seed 0 (or --seed) on; one thread for each processor, if not said. --plant 1 to 27 plants a fault
 //! in the second evaluator, which the run must then find. --plain leaves out what takes too long if nothing is remembered of arguments that
 //! took no step: for a product that remembers nothing. Exit status: 0 no difference; 1 a difference, printed with its seed and cut down; 2 a
 //! number of the table, a nest of repeats, a kind of level, of work buffer, of long cue, of record or of list of weights came too seldom, or bad
@@ -11,15 +11,18 @@
 mod book;
 mod compare;
 mod compare_records;
+mod compare_twins;
 mod compare_weights;
 mod demand3;
 mod evaluate;
 mod paper;
+mod paper_twins;
 mod paper_weights;
 mod product;
 mod random;
 mod random_long;
 mod random_records;
+mod random_twins;
 mod random_weights;
 mod replay;
 mod shrink;
@@ -28,6 +31,7 @@ mod weights;
 use book::Plant;
 use compare::{compare, Counts, BUFFERS, LEVELS, LONG, NUMBERS, REFUSED};
 use compare_records::{RECORDED, REPLAYED};
+use compare_twins::TWINS;
 use compare_weights::{FALLING, WEIGHED};
 use random::Case;
 use std::sync::atomic::{AtomicU64, Ordering};
@@ -80,6 +84,13 @@ fn options() -> Option<Options> {
                     "18" => Plant::TooHeavy,
                     "19" => Plant::LongList,
                     "20" => Plant::LevelsWeigh,
+                    "21" => Plant::NoTwins,
+                    "22" => Plant::NewTwins,
+                    "23" => Plant::IdleTwins,
+                    "24" => Plant::FirstWords,
+                    "25" => Plant::SameLengths,
+                    "26" => Plant::AnyTwins,
+                    "27" => Plant::OnceRight,
                     _ => return None,
                 }
             }
@@ -162,6 +173,7 @@ fn statistics(n: &Counts) {
     println!("  replay: {}", list(&REPLAYED, &n.replayed_met));
     println!("  weights: {}", list(&WEIGHED, &n.weighed_met));
     println!("  finite shows: {}", list(&FALLING, &n.falling_met));
+    println!("  twins: {}", list(&TWINS, &n.twins));
     print!("  demand 3: lists of steps checked {}, settled cues checked and expanded again {}", n.listed, n.settled);
     println!(", replays checked {}", n.followed);
     println!("  the same without memory {}, too long without it {}; left out as too long {}", n.plain, n.repeats, n.too_long);
@@ -188,7 +200,7 @@ fn seldom(n: &Counts, plain: bool) -> Vec<String> {
             all.push(format!("{i} of {name} came only {} times", counts[i]));
         }
     }
-    let lists: [(&[&str], &[u64], u64); 8] = [
+    let lists: [(&[&str], &[u64], u64); 9] = [
         (&LEVELS, &n.levels, least),
         (&REFUSED, &n.refused, least),
         (&BUFFERS, &n.buffers, least),
@@ -197,6 +209,7 @@ fn seldom(n: &Counts, plain: bool) -> Vec<String> {
         (&REPLAYED, &n.replayed_met, least),
         (&WEIGHED, &n.weighed_met, least),
         (&FALLING, &n.falling_met, least),
+        (&TWINS, &n.twins, least),
     ];
     for (whats, counts, least) in lists {
         for (what, c) in whats.iter().zip(counts).filter(|(_, c)| **c < least) {
@@ -244,7 +257,7 @@ fn run(o: &Options) -> (Counts, Option<u64>) {
 
 fn all() -> i32 {
     let Some(o) = options() else {
-        eprintln!("second [CASES] [--seed N] [--threads N] [--plant 1 to 20] [--plain]");
+        eprintln!("second [CASES] [--seed N] [--threads N] [--plant 1 to 27] [--plain]");
         return 2;
     };
     if o.plant == Plant::Nothing {
@@ -254,6 +267,7 @@ fn all() -> i32 {
         faults.extend(paper::curve());
         faults.extend(paper::lengths());
         faults.extend(paper_weights::weights());
+        faults.extend(paper_twins::twins());
         if !o.plain {
             faults.extend(paper::repeats());
         }
@@ -263,7 +277,7 @@ fn all() -> i32 {
         if !faults.is_empty() {
             return 1;
         }
-        println!("second: the paper's cases C1 to C15, F-2's to F-6's{} hold for both", if o.plain { "" } else { ", and nested repeats," });
+        println!("second: the paper's cases C1 to C15, F-2's to F-7's{} hold for both", if o.plain { "" } else { ", and nested repeats," });
     }
     let start = Instant::now();
     let (n, found) = run(&o);

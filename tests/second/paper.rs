@@ -1,5 +1,6 @@
 //! The papers' own cases (01, "Rehearsal cues"; 02, F-1 to F-5), typed in by hand: what they expect is held against the second evaluator
-//! and the product. F-6's are in paper_weights.rs.
+//! and the product. F-6's are in paper_weights.rs, F-7's in
+//! paper_twins.rs.
 
 use crate::book::{self, Book, Plant, ANSWER_WORDS, WORK_WORDS};
 use crate::compare::{compare, span, Counts};
@@ -52,7 +53,7 @@ impl Check {
         }
     }
 
-    fn reads(&mut self, label: &str, book: &[u16], number: u32, place: usize) {
+    pub fn reads(&mut self, label: &str, book: &[u16], number: u32, place: usize) {
         let second = match book::read(book) {
             Ok(_) => (0, book.len(), 0),
             Err((n, p)) => (n, p, 0),
@@ -62,14 +63,14 @@ impl Check {
         self.hold(&format!("{label}, product"), (number, place, 0), (a.number, a.place, a.steps));
     }
 
-    fn tests(&mut self, label: &str, book: &[u16], number: u32, place: usize) {
+    pub fn tests(&mut self, label: &str, book: &[u16], number: u32, place: usize) {
         let (n, p) = book::read(book).expect(label).test(Plant::Nothing);
         self.hold(&format!("{label}, second evaluator"), (number, place, 0), (n, p, 0));
         let a = product::test_strategies(book);
         self.hold(&format!("{label}, product"), (number, place, 0), (a.number, a.place, a.steps));
     }
 
-    fn expands(&mut self, label: &str, book: &[u16], cue: &[u16], limit: u32, expected: (u32, usize, u32), words: Option<&[u16]>) {
+    pub fn expands(&mut self, label: &str, book: &[u16], cue: &[u16], limit: u32, expected: (u32, usize, u32), words: Option<&[u16]>) {
         let b = book::read(book).expect(label);
         let (second, second_words) = match b.cue(cue) {
             Err(place) => ((9, place, 0), vec![]),
@@ -107,7 +108,7 @@ impl Check {
     }
 
     /// An expansion with a record of `room` words, and the pairs in it.
-    fn records(&mut self, label: &str, book: &[u16], cue: &[u16], (limit, room): (u32, usize), expected: (u32, usize, u32), record: &[u16]) {
+    pub fn records(&mut self, label: &str, book: &[u16], cue: &[u16], (limit, room): (u32, usize), expected: (u32, usize, u32), record: &[u16]) {
         let b = book::read(book).expect(label);
         let o = evaluate_recorded(&b, &b.cue(cue).expect(label), limit, room, Plant::Nothing, u64::MAX);
         let second = match o.end {
@@ -126,7 +127,7 @@ impl Check {
     }
 
     /// A record that is replayed: the three numbers, and on 0 the cue at its end.
-    fn replays(&mut self, label: &str, book: &[u16], cue: &[u16], record: &[u16], expected: (u32, usize, usize), last: &[u16]) {
+    pub fn replays(&mut self, label: &str, book: &[u16], cue: &[u16], record: &[u16], expected: (u32, usize, usize), last: &[u16]) {
         let narrow = |(number, place, steps): (u32, usize, usize)| (number, place, steps as u32);
         let b = book::read(book).expect(label);
         let played = replay(&b, &b.cue(cue).expect(label), record, Plant::Nothing);
@@ -169,7 +170,8 @@ pub fn paper() -> Vec<String> {
     t.reads("C1", &B, 0, 39);
     t.reads("C2", &B[..38], 1, 38);
     t.reads("C3", &[&B[..], &[0]].concat(), 8, 39);
-    t.reads("C4", &changed(29, &[32769], &[32768]), 7, 29);
+    // 02, F-7: "Case C4 becomes: taken, place 39"
+    t.reads("C4", &changed(29, &[32769], &[32768]), 0, 39);
     t.reads("C5", &[], 1, 0);
     t.reads("C6", &[0], 2, 0);
     t.expands("C7", &B, &[4], 1, (0, 3, 1), Some(&[1, 0, 4]));

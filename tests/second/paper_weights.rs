@@ -9,7 +9,7 @@ use crate::weights::{test, weigh};
 
 impl Check {
     /// The test of a book by a list.
-    fn falls(&mut self, label: &str, book: &[u16], list: &[u16], number: u32, place: usize) {
+    pub fn falls(&mut self, label: &str, book: &[u16], list: &[u16], number: u32, place: usize) {
         let (n, p) = book::read(book).map_or_else(|fault| fault, |b| test(&b, list, Plant::Nothing));
         self.hold(&format!("{label}, second evaluator"), (number, place, 0), (n, p, 0));
         let a = product::test_weights(book, list);
@@ -27,7 +27,7 @@ impl Check {
     }
 
     /// A cue over a book whose rules all fall by a list: what it weighs, the three numbers with that weight allowed, and what the answer weighs.
-    fn promises(&mut self, label: &str, (book, list): (&[u16], &[u16]), cue: &[u16], first: u32, expected: (u32, usize, u32), left: u32) {
+    pub fn promises(&mut self, label: &str, (book, list): (&[u16], &[u16]), cue: &[u16], first: u32, expected: (u32, usize, u32), left: u32) {
         self.falls(label, book, list, 0, 0);
         self.weighs(&format!("{label}, the cue"), list, cue, first);
         let mut out = [7; ANSWER_WORDS];
@@ -129,7 +129,7 @@ fn rules(all: &[(&[u16], &[u16])]) -> Vec<u16> {
     dim_book(&[1, 0], &words)
 }
 
-/// "Placeholders nothing", and "no placeholder is on the right twice".
+/// "Placeholders nothing", and "no placeholder is on the right twice", here where none is on the left twice (02, F-7: see paper_twins.rs).
 fn placeholders(t: &mut Check) {
     let a = 32768;
     t.falls("F-6, dim(a) to a, 1 and 0", &rules(&[(&[1, a], &[a])]), &[1, 1], 0, 0);
@@ -195,7 +195,7 @@ fn refused(t: &mut Check) {
         for (label, book, number, place) in [
             ("C2", &B[..38], 1, 38),
             ("C3", &more, 8, 39),
-            ("C4", &changed(29, &[32769], &[32768]), 7, 29),
+            ("7", &changed(29, &[32769], &[32770]), 7, 29),
             ("C5", &[], 1, 0),
             ("C6", &[0], 2, 0),
             ("15", &level_first, 15, 9),

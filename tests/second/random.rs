@@ -4,6 +4,7 @@ use crate::book::{self, Book, Cue, Plant, ANSWER_WORDS, CURVE, HIGHER, HOLE, LEV
 use crate::evaluate::{evaluate, End, Outcome};
 use crate::random_long::long;
 use crate::random_records::{noise, record, room};
+use crate::random_twins::{doubled, twins};
 use crate::random_weights::{growing, tame, weights};
 use std::rc::Rc;
 
@@ -260,7 +261,7 @@ fn tree(r: &mut Random, d: &Draft, room: usize, holes: usize, out: &mut Vec<u16>
     }
 }
 
-/// A left side: holes numbered in reading order. It starts with a name.
+/// A left side: holes numbered in reading order, some of them repeated. It starts with a name.
 fn left(r: &mut Random, d: &Draft, out: &mut Vec<u16>) -> usize {
     fn inner(r: &mut Random, d: &Draft) -> u16 {
         match r.percent(d.levels) {
@@ -271,6 +272,10 @@ fn left(r: &mut Random, d: &Draft, out: &mut Vec<u16>) -> usize {
     }
     fn arguments(r: &mut Random, d: &Draft, word: u16, depth: usize, holes: &mut usize, out: &mut Vec<u16>) {
         for _ in 0..d.arguments(word) {
+            if *holes > 0 && r.percent(8) {
+                out.push(HOLE + r.below(*holes) as u16);
+                continue;
+            }
             if *holes < 16 && (depth >= 3 || out.len() > 40 || r.percent(60)) {
                 out.push(HOLE + *holes as u16);
                 *holes += 1;
@@ -887,20 +892,34 @@ fn planned_damage(r: &mut Random, d: &Draft) -> Vec<u16> {
     d.write()
 }
 
+/// How many different placeholders there are, of words that number them in order.
+fn different(words: &[u16]) -> u16 {
+    words.iter().filter(|&&w| w >= HOLE).max().map_or(0, |w| w - HOLE + 1)
+}
+
 /// Damage in a rule of a book of `s` names.
 fn side_damage(r: &mut Random, s: u16, l: &mut Vec<u16>, rt: &mut Vec<u16>) {
     let side = if r.percent(50) { &mut *l } else { &mut *rt };
     let at = r.below(side.len());
-    match r.below(7) {
+    match r.below(10) {
         0 => side[at] = s,
         1 => side[at] = *r.pick(&[LEVEL - 1, CURVE + 1, HOLE - 1, HOLE + 16, 65535]),
         2 => side.push(0),
         3 => side.truncate(side.len() - 1),
         4 => l[0] = HOLE,
         5 => {
-            let holes = l.iter().filter(|&&w| w >= HOLE).count() as u16;
             let end = rt.len() - 1;
-            rt[end] = HOLE + holes.min(15);
+            rt[end] = HOLE + different(l).min(15);
+        }
+        6..=8 => {
+            // after two placeholders, the second the first again, one above the count of different ones, or just not
+            let holes: Vec<usize> = (1..l.len()).filter(|&i| l[i] >= HOLE).collect();
+            if holes.len() > 2 {
+                let at = r.from(2, holes.len() - 1);
+                l[holes[at - 1]] = l[holes[at - 2]];
+                let next = different(&l[..holes[at]]) + r.below(3).min(1) as u16;
+                l[holes[at]] = HOLE + next.min(15);
+            }
         }
         _ => {
             if let Some(w) = l.iter_mut().skip(1).find(|w| **w >= HOLE) {
@@ -991,8 +1010,9 @@ fn plain(r: &mut Random) -> (Draft, Vec<u16>) {
 
 /// A book and a cue without damage.
 fn draft(r: &mut Random, scale: Scale) -> (Draft, Vec<u16>) {
-    let (mut d, mut cue) = match r.below(128) {
+    let (mut d, mut cue) = match r.below(140) {
         _ if scale == Scale::LongCue && r.percent(16) => growing(r),
+        _ if scale == Scale::LongCue && r.percent(8) => twins(r, 3600),
         _ if scale == Scale::LongCue => long(r),
         0..=26 => plain(r),
         27..=44 => again(r),
@@ -1003,6 +1023,10 @@ fn draft(r: &mut Random, scale: Scale) -> (Draft, Vec<u16>) {
         85..=92 => wide(r, scale),
         93..=101 => lists(r, scale),
         102..=107 => repeats(r),
+        108..=119 => {
+            let most = if r.percent(15) { 500 } else { scale.of(20, 300, 3000) };
+            twins(r, most)
+        }
         _ => dimmers(r, scale),
     };
     if r.percent(25) {
@@ -1010,6 +1034,9 @@ fn draft(r: &mut Random, scale: Scale) -> (Draft, Vec<u16>) {
     }
     if r.percent(15) {
         bend(r, &mut d, &mut cue);
+    }
+    if r.percent(12) {
+        doubled(r, &mut d, &mut cue);
     }
     if r.percent(50) {
         vary(r, &mut d);

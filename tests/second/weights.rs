@@ -1,5 +1,5 @@
-//! The test for finite shows, and what words weigh, straight from the paper's text (02, F-6). Two things that `weigh` needs are not 02's, but
-//! the header's text for cue_weigh: the cap at 32 bits, and that a word with no entry weighs nothing.
+//! The test for finite shows, and what words weigh, straight from the paper's text (02, F-6 and F-7). Two things that `weigh` needs are not 02's,
+//! but the header's text for cue_weigh: the cap at 32 bits, and that a word with no entry weighs nothing.
 
 use crate::book::{built_in, is_level, Book, Plant, Rule, Side, LEVEL};
 
@@ -40,25 +40,26 @@ impl Weights<'_> {
     }
 }
 
-/// How often a placeholder is in a side.
-fn uses(side: &Side, k: usize) -> usize {
-    match side {
-        Side::Hole(j) => (*j == k) as usize,
-        Side::Named(_, arguments) => arguments.iter().map(|a| uses(a, k)).sum(),
-    }
-}
-
-/// Some placeholder "is on the right twice".
+/// Some placeholder is on the right more often than on the left: "In F-6 a placeholder may be on the right as often as on the left" (02, F-7).
 pub fn doubles(rule: &Rule) -> bool {
-    (0..16).any(|k| uses(&rule.right, k) > 1)
+    (0..16).any(|k| rule.right.uses(k) > rule.left.uses(k))
 }
 
-/// "A rule falls if its left side's words weigh more in all than its right side's (placeholders nothing) and no placeholder is on the right
-/// twice."
+/// Some placeholder is on the right twice.
+pub fn is_twice(rule: &Rule) -> bool {
+    (0..16).any(|k| rule.right.uses(k) > 1)
+}
+
+/// "A rule falls if its left side's words weigh more in all than its right side's (placeholders nothing)", and no placeholder is on the right
+/// more often than on the left.
 fn falls(rule: &Rule, weights: &Weights, plant: Plant) -> bool {
     let (left, right) = (weights.side(&rule.left), weights.side(&rule.right));
     let more = if plant == Plant::SameWeight { left >= right } else { left > right };
-    more && (plant == Plant::Twice || !doubles(rule))
+    more && match plant {
+        Plant::Twice => true,
+        Plant::OnceRight => !is_twice(rule),
+        _ => !doubles(rule),
+    }
 }
 
 /// The rules that don't fall, from the lowest on.
