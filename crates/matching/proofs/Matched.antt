@@ -14,7 +14,7 @@ use Rattle.system.specs.Limits.{variable}
 use Rattle.system.specs.Signature.{Signature, Symbol, span, arity}
 use Rattle.system.specs.System.{Rule, instance}
 use Rattle.system.specs.Terms.{Forest, empty, more, Word, Whole, Member, first, later, Numbered, end, symbol, next, again, WellFormedRule}
-use Rattle.matching.specs.Matching.{Matches, sameWords, bind}
+use Rattle.matching.specs.Matching.{Matches, bind}
 use Rattle.system.proofs.Signatures.{getD-within, arity-variable, symbol-below}
 use Rattle.system.proofs.Forests.{span-forest, join, split, Split, Wholes, wholes-cons, wholes-getD}
 use Rattle.system.proofs.Members.{numbered-below}

@@ -1,7 +1,7 @@
 // The inner interface for the layers above: matching against an accepted book whose shape is known.
 ghost use mathlib.Core.Path.{_≡_};
-ghost use Prim.Native.Nat.{_≤_};
-ghost use lib.ListN.{length, getD};
+ghost use Prim.Native.Nat.{_+_, _≤_};
+ghost use lib.ListN.{length, getD, take, drop};
 ghost use Rattle.system.specs.Answers.{signatureOf};
 ghost use Rattle.system.specs.Book.{systemOf, Accepted};
 ghost use Rattle.matching.specs.Matching.{sameWords};
@@ -51,6 +51,14 @@ fn same_words(a: &[u16], b: &[u16]) -> bool
         i += 1;
     }
     true
+}
+
+// Whether the m words from p on are the n words from q on.
+fn same_parts(ws: &[u16], p: usize, m: usize, q: usize, n: usize) -> bool
+    requires { ⌜ (p + m ≤ length (now ws)) × (q + n ≤ length (now ws)) ⌝ }
+    ensures { λ r. ⌜ r ≡ sameWords (take m (drop p (now (ws .entry)))) (take n (drop q (now (ws .entry)))) ⌝ }
+{
+    same_words(&ws[p..p + m], &ws[q..q + n])
 }
 
 // Word i of ws; 0, which is no literal, where it has no such word.
@@ -111,7 +119,7 @@ pub fn first_rule(book: &[u16], shape: Shape, ws: &[u16]) -> Match
                 if m == 0 {
                     s[x] = q;
                     l[x] = n;
-                } else if !same_words(&ws[p..p + m], &ws[q..q + n]) {
+                } else if !same_parts(ws, p, m, q, n) {
                     continue 'rules;
                 }
             }

@@ -3,17 +3,15 @@ use Prim.Native.Nat.{ℕ, zero, suc, _+_, _≤_, _<_}
 use native.Mathlib.Numerals.{add-one}
 use native.Mathlib.Omega.{arith}
 use mathlib.Core.Path.{_≡_, refl, ap, _∙_}
-use mathlib.Core.Bool.{Bool, true, false, cond}
+use mathlib.Core.Bool.{true, false}
 use mathlib.Core.List.{List, [], _∷_, _++_}
 use lib.ListN.{length, getD, take}
 use lib.Seq.{take-suc}
-use lib.Dec.{eqb}
-use borrow.Author.Tests.{eq-eqb, ne-eqb, lt-ltb, le-ltb, lt-leb}
+use borrow.Author.Tests.{lt-ltb, le-ltb, lt-leb}
 use Rattle.system.specs.Limits.{variable, maxSteps}
 use Rattle.system.specs.BuiltIns.{literal, maximum, square, isLiteral, isBuiltIn}
 use Rattle.system.proofs.BuiltIns.{above-literal, above-builtin, smaller-first, smaller-second}
 use Rattle.termination.specs.Weights.{Weights, builtInWeight, wordWeight, weight}
-use Rattle.system.specs.Terms.{occurs}
 use Rattle.termination.specs.WeightTest.{weightLimit}
 
 -- ---- what one word weighs

@@ -3,13 +3,13 @@ use Prim.Native.Nat.{ℕ, _+_, _-_, _≤_, _<_}
 use native.Mathlib.Omega.{arith}
 use mathlib.Core.Path.{_≡_, refl, sym, ap, _∙_, subst}
 use mathlib.Core.List.{List, _++_, append-nil}
-use lib.ListN.{length, getD, take, drop, set, length-drop, length-set, take-append-drop, drop-of-length-le}
-use lib.Seq.{drop-drop, sets-eq, take-set-le, take-set-lt, drop-set-add, drop-set-lt}
+use lib.ListN.{length, getD, take, drop, length-drop, take-append-drop, drop-of-length-le}
+use lib.Seq.{sets-eq}
 use Rattle.buffers.specs.Words.{over, zeros}
 use Rattle.buffers.proofs.Pads.{length-zeros}
 use Rattle.system.specs.declared.Shape.{Shape}
 use Rattle.system.specs.declared.layout.rules.RuleSpan.{RuleSpan}
-use Rattle.system.specs.Limits.{variable, variables}
+use Rattle.system.specs.Limits.{variables}
 use Rattle.system.specs.BuiltIns.{literal}
 use Rattle.system.specs.Answers.{signatureOf}
 use Rattle.system.specs.Book.{systemOf, Accepted}
@@ -19,7 +19,6 @@ use Rattle.system.proofs.layout.Books.{Turn}
 use Rattle.matching.specs.declared.Match.{Match}
 use Rattle.matching.specs.declared.redexes.Redex.{Redex}
 use Rattle.matching.specs.declared.FirstRule.{FirstRule}
-use Rattle.matching.specs.declared.FirstRule.the-variants.{Nothing, First}
 use Rattle.matching.specs.Matching.{computed}
 use Rattle.matching.specs.Bindings.{noBindings, taken, withBinding, computedRule, matchOf}
 use Rattle.matching.specs.rules.Searches.{unnumbered}

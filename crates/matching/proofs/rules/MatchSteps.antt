@@ -1,7 +1,6 @@
 -- One word of a left side and one rule, in the terms of the loops of the search.
 use Prim.Native.Nat.{ℕ, zero, suc, _+_, _-_, _≤_, _<_}
 use native.Mathlib.Omega.{arith}
-use native.Mathlib.Nat.{add-sub-cancel-left}
 use native.Mathlib.Numerals.{add-one}
 use native.Mathlib.Decide.{decLt, ℕ-discrete}
 use mathlib.Core.Path.{_≡_, refl, sym, _∙_}
@@ -27,14 +26,6 @@ use Rattle.matching.proofs.Stretches.{none-length, within-set}
 -- the part from q on
 pub tail : (ws : List ℕ) (q : ℕ) → take (length ws - q) (drop q ws) ≡ drop q ws
 tail ws q = take-all (length ws - q) (drop q ws) (rw (length-drop q ws) (omega arith))
-
--- two parts compared: the stretch of variable v, and the n words from q on
-pub parts-alike : (ws : List ℕ) (a : Bindings) (v q n : ℕ) {r : Bool} →
-    r ≡ sameWords (take (getD (a .starts) v 0 + getD (a .lengths) v 0 - getD (a .starts) v 0) (drop (getD (a .starts) v 0) ws)) (take (q + n - q) (drop q ws)) →
-    r ≡ sameWords (value ws a v) (take n (drop q ws))
-unfolding value
-parts-alike ws a v q n e =
-    rw (add-sub-cancel-left (getD (a .starts) v 0) (getD (a .lengths) v 0), add-sub-cancel-left q n) at e
 
 module _ (g : Signature) (l : ℕ) (ws : List ℕ) where
   pub consumed-end : length ws ≡ 0 → consumed g l ws ≡ 0

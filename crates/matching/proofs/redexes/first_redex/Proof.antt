@@ -2,10 +2,9 @@
 use Prim.Native.Nat.{ℕ, _+_, _-_, _≤_, _<_}
 use native.Mathlib.Omega.{arith}
 use mathlib.Core.Path.{_≡_, sym, ap, _∙_}
-use mathlib.Core.Logic.{⊎-elim}
 use mathlib.Core.List.{List}
 use lib.ListN.{length, getD, drop}
-use Rattle.system.specs.Limits.{variable, variables, termWords}
+use Rattle.system.specs.Limits.{termWords}
 use Rattle.system.specs.BuiltIns.{literal}
 use Rattle.system.specs.Answers.{signatureOf}
 use Rattle.system.specs.Book.{systemOf}
@@ -15,7 +14,7 @@ use Rattle.rows.specs.gap.Gaps.{termIn}
 use Rattle.rows.proofs.lengths.Measures.{words-length}
 use Rattle.matching.specs.Bindings.{taken}
 use Rattle.matching.specs.redexes.Redexes.{boundIn}
-use Rattle.matching.proofs.rules.Lists.{Along, along-starts, along-next}
+use Rattle.matching.proofs.rules.Lists.{along-starts, along-next}
 use Rattle.matching.proofs.redexes.Taking.{word-from}
 use Rattle.matching.proofs.redexes.Tries.{Searching, Trying, try-starts, try-fails, try-fits, try-goes, finds-computed, finds-nothing, finds-rule}
 use borrow.Author.Needs.{needs}

@@ -1,21 +1,20 @@
 -- `rules::first_rule` meets its contract.
 use mathlib.Core.Path.{_≡_, sym, ap, _∙_}
 use mathlib.Core.Logic.{⊎-elim}
-use mathlib.Core.Bool.{Bool}
 use mathlib.Core.List.{[], _∷_}
-use lib.ListN.{length, getD, take, drop}
+use lib.ListN.{length, getD, drop}
 use Rattle.system.specs.Limits.{variable, variables}
 use Rattle.system.specs.Answers.{signatureOf}
 use Rattle.system.specs.Book.{systemOf}
 use Rattle.matching.proofs.Computed.{computed-words}
 use Rattle.matching.proofs.Sources.{match-low, match-words}
-use Rattle.matching.proofs.rules.MatchSteps.{tail, parts-alike}
+use Rattle.matching.proofs.rules.MatchSteps.{tail}
 use Rattle.matching.proofs.rules.Searches.{Searched, Walked, search-starts, search-ends, given-up, root-differs, walk-starts, matches-here}
 use Rattle.matching.proofs.rules.Searches.{word-unequal, word-fits, symbol-matched, variable-new, variable-again, variable-unlike}
 use Rattle.system.proofs.layout.Books.{Turn, room, turn-of}
 use native.Mathlib.Omega.{arith}
 use Prim.Native.Nat.{_+_, _-_, _≤_, _<_}
-use Rattle.matching.specs.Matching.{sameWords, computed}
+use Rattle.matching.specs.Matching.{computed}
 use Rattle.matching.specs.Bindings.{Bindings, noBindings, consumed, value, computedRule, matchListed, matchOf}
 use borrow.Author.Tests.{not-true, not-false}
 use borrow.Author.Needs.{needs}
@@ -165,48 +164,19 @@ array-write-s c = few (c .before .before)
 array-write-l : tie.Need-array-write-l Inv-words μ-words Inv-rules μ-rules
 array-write-l c = few (c .before .before)
 
-add-same-words : tie.Need-add-same-words Inv-words μ-words Inv-rules μ-rules
-add-same-words c = let s = stretch (c .before .before) in omega arith
-
-mul-same-words : tie.Need-mul-same-words Inv-words μ-words Inv-rules μ-rules
-mul-same-words c = let s = stretch (c .before .before) in omega arith
-
-part-same-words-end : tie.Need-part-same-words-end Inv-words μ-words Inv-rules μ-rules
-part-same-words-end c = let s = stretch (c .before .before) in omega arith
-
-add-same-words-2 : tie.Need-add-same-words-2 Inv-words μ-words Inv-rules μ-rules
-add-same-words-2 c = let f = fits (c .before .before .before .before .before) in omega arith
-
-mul-same-words-2 : tie.Need-mul-same-words-2 Inv-words μ-words Inv-rules μ-rules
-mul-same-words-2 c = let f = fits (c .before .before .before .before .before) in omega arith
-
-part-same-words-end-2 : tie.Need-part-same-words-end-2 Inv-words μ-words Inv-rules μ-rules
-part-same-words-end-2 c = let f = fits (c .before .before .before .before .before) in omega arith
-
--- whether both are alike
-alike : {r : Bool} (c : tie.After-wide2 Inv-words μ-words Inv-rules μ-rules) →
-    let l = met (c .before .before) .before in
-    let a = stretches c in
-    let x = c .wide2 .result - variable in
-    let n = c .before .before .consumed2 .result in
-    let ws = entry (head (read l)) .args .ws .now in
-    r ≡ sameWords (take (getD (a .starts) x 0 + getD (a .lengths) x 0 - getD (a .starts) x 0) (drop (getD (a .starts) x 0) ws)) (take (l .words .q + n - l .words .q) (drop (l .words .q) ws)) →
-    sameWords (value ws a x) (take n (drop (l .words .q) ws)) ≡ r
-alike c e =
-    let l = met (c .before .before) .before in
-    sym (parts-alike (entry (head (read l)) .args .ws .now) (stretches c) (c .wide2 .result - variable) (l .words .q) (c .before .before .consumed2 .result) e)
+same-parts-requires : tie.Need-same-parts-requires Inv-words μ-words Inv-rules μ-rules
+same-parts-requires c κs = let v = c .before .before in (stretch v, fits (v .before .before))
 
 rules-again-3 : tie.Need-rules-again-3 Inv-words μ-words Inv-rules μ-rules
 rules-again-3 c =
-    let s = c .before in
-    let e = s .before .before .before in
+    let e = c .before .before in
     let v = e .before .before in
     let k = v .before .before in
     let m = met k in
     let r = read (m .before) in
     given-up (turn r) (head r .rules .inv)
     (variable-unlike (turn r) (m .before .words .inv) (m .words-test .taken) (took k) (v .wide2 .ensures .0) (e .before .if5 .taken)
-    (let z = e .if6 .left in omega arith) (alike v (s .same-words .ensures) ∙ not-true _ (c .if7 .taken)))
+    (let z = e .if6 .left in omega arith) (unfold value in sym (c .before .same-parts .ensures) ∙ not-true _ (c .if7 .taken)))
 
 words-again : tie.Need-words-again Inv-words μ-words Inv-rules μ-rules
 words-again c =
@@ -222,8 +192,8 @@ words-again c =
     (λ e. rw (e .2, e .3) (variable-new t o here (took k) is (e .0 .taken) much (e .1 .taken)))
     (⊎-elim
     (λ e.
-    rw (e .6, e .7)
-    (variable-again t o here (took k) is (e .0 .taken) (let z = e .1 .left in omega arith) much (alike v (e .4 .ensures) ∙ not-false _ (e .5 .left))))
+    rw (e .4, e .5)
+    (variable-again t o here (took k) is (e .0 .taken) (let z = e .1 .left in omega arith) much (unfold value in sym (e .2 .ensures) ∙ not-false _ (e .3 .left))))
     (λ e. rw (e .1, e .2) (symbol-matched t o here (took k) is much (e .0 .left))))
     (c .if5 .came)
 
@@ -244,6 +214,5 @@ first-rule-spec =
     (λ c κs. search needs) (λ c. search needs) rules-again words-holds add-w mul-w shared-slice-read-w (λ c. search needs)
     (λ c. search needs) (λ c. search needs) (λ c. search needs) (λ c κs. search needs) (λ c. search needs) rules-again-2
     (λ c κs. search needs) (λ c. search needs) array-read-p (λ c. search needs) array-read-m (λ c. search needs) array-write-s
-    (λ c. search needs) array-write-l add-same-words mul-same-words (λ c. search needs) (λ c. search needs) part-same-words-end
-    add-same-words-2 mul-same-words-2 (λ c. search needs) (λ c. search needs) part-same-words-end-2 (λ c κs. search needs)
+    (λ c. search needs) array-write-l same-parts-requires
     (λ c. search needs) rules-again-3 (λ c. search needs) (λ c. search needs) (λ c. search needs) words-again returns-2 returns-3)

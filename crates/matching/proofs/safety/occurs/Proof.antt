@@ -1,9 +1,9 @@
 -- `safety::occurs` meets its contract.
-use Prim.Native.Nat.{ℕ, _+_, _-_, _≤_}
+use Prim.Native.Nat.{_-_, _≤_}
 use native.Mathlib.Omega.{arith}
 use mathlib.Core.Path.{_≡_, sym, ap, _∙_}
 use mathlib.Core.Logic.{⊎-elim}
-use lib.ListN.{length, getD, take}
+use lib.ListN.{length, take}
 use lib.Seq.{take-all}
 use Rattle.system.specs.Terms.{occurs}
 use Rattle.system.proofs.Occurrences.{occurs-nil, occurs-next, occurs-skip}
