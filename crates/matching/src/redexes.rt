@@ -123,7 +123,8 @@ fn same_at(area: &[u16], gap: Gap, p: usize, q: usize, n: usize) -> bool
 // How many words of the subterm word l of a left side takes, from word q of the term on; 0 where the words are unequal. A variable that has no
 // stretch yet has this one then. One that has takes the same words again (02, F-7): other lengths are told at once.
 fn bind(area: &[u16], spot: Spot, bindings: &mut [u16], l: u16, q: usize) -> usize
-    requires { ⌜ ((g : Signature) × Measured g (now area) (spot .gap)) × (spot .at ≤ q) × (l < variable + variables) × (length (now bindings) ≡ bindingWords)
+    requires { ⌜ ((g : Signature) × Measured g (now area) (spot .gap)) × (spot .at ≤ q) × (l < variable + variables)
+        × (length (now bindings) ≡ bindingWords)
         × Within (drop (spot .at) (termIn (now area) (spot .gap))) (boundIn (now bindings) .starts) (boundIn (now bindings) .lengths) ⌝ }
     ensures taken { λ r. ⌜ ((g : Signature) → Measured g (now (area .entry)) (spot .gap) →
         r ≡ taken g (drop (spot .at) (termIn (now (area .entry)) (spot .gap))) l (q - spot .at) (boundIn (now (bindings .entry)))) ⌝ }
