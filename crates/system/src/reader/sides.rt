@@ -105,7 +105,8 @@ fn learn(role: SideRole, known: usize, w: u16) -> usize
 {
     match role {
         SideRole::Left => {
-            if w as usize == VARIABLE + known {
+            let next = VARIABLE + known;
+            if w as usize == next {
                 return known + 1;
             }
             known

@@ -1,9 +1,9 @@
 -- `redexes::bind` meets its contract.
 use Prim.Native.Nat.{ℕ, _+_, _-_, _≤_, _<_}
 use native.Mathlib.Omega.{arith}
-use mathlib.Core.Path.{refl, sym, _∙_}
+use mathlib.Core.Path.{_≡_, refl, _∙_}
 use mathlib.Core.List.{List}
-use lib.ListN.{set, length-set}
+use lib.ListN.{getD, length-set}
 use Rattle.system.specs.Limits.{variable, variables}
 use Rattle.rows.specs.gap.Gaps.{wordsIn, termIn}
 use Rattle.rows.proofs.lengths.Measures.{words-length}
@@ -80,7 +80,7 @@ slice-read-wide : tie.Need-slice-read-wide
 slice-read-wide c = let w = c .before .before .before in let f = few w in let n = entry (met w) .pre .3 in omega arith
 
 sub-bindings : tie.Need-sub-bindings
-sub-bindings c = entry (met (word (c .before .before))) .pre .1
+sub-bindings c = let o = entry (met (word (c .before .before))) .pre .1 in omega arith
 
 cast-bindings : tie.Need-cast-bindings
 cast-bindings c = let w = word (c .before .before) in let i = inside (variable-met (c .before .before)) in let l = entry (met w) .pre .0 .1 .gapped .lies in omega arith
@@ -110,12 +110,7 @@ slice-write-bindings-2 c =
     omega arith
 
 same-length : tie.Need-same-length
-same-length c =
-    let w = word (c .before .before) in
-    let s = entry (met w) in
-    let v = w .wide .result - variable in
-    length-set (set (s .args .bindings .now) v (s .args .q - s .args .spot .at)) (variables + v) (met w .consumed-at .result)
-    ∙ length-set (s .args .bindings .now) v (s .args .q - s .args .spot .at)
+same-length c = let v = word (c .before .before) .wide .result - variable in length-set _ (variables + v) _ ∙ length-set _ v _
 
 returns-3 : tie.Need-returns-3
 returns-3 c =
@@ -125,7 +120,7 @@ returns-3 c =
     let bs = s .args .bindings .now in
     let is = w .wide .ensures .0 in
     let high = variable-met m .before .if1 .left in
-    let new = sym (m .wide2 .ensures .0) ∙ c .before .if3 .taken in (
+    let new : getD bs (variables + (w .wide .result - variable)) 0 ≡ 0 = (let e = m .wide2 .ensures .0 in let z = c .before .if3 .taken in omega arith) in (
       λ g m. new-takes g (term s) (s .args .l) (s .pre .1) bs (met w .consumed-at .ensures g m) is high (few w) new,
       λ d. new-bound bs is high (few w) (s .args .q - s .args .spot .at) (met w .consumed-at .result) new,
     )
@@ -134,9 +129,11 @@ returns-4 : tie.Need-returns-4
 returns-4 c =
     let m = c .before .before in
     let w = word m in
-    let s = entry (met w) in (
+    let s = entry (met w) in
+    let o = c .before .if3 .left in
+    let d = c .if4 .taken in (
       λ g e. length-differs g (term s) (s .args .l) (s .pre .1) (s .args .bindings .now) (met w .consumed-at .ensures g e) (w .wide .ensures .0) (variable-met m .before .if1 .left) (few w)
-          (m .wide2 .ensures .0) (c .before .if3 .left) (s .pre .4) (c .if4 .taken),
+          (m .wide2 .ensures .0) (λ z. omega arith) (s .pre .4) (λ z. omega arith),
       λ d. absurd (d refl),
     )
 

@@ -73,6 +73,9 @@ returns c =
     let b = both (c .before) in
     sym (same-stops (even s) (l .before .loop .inv) (let n = long s .0 in let h = l .loop-test .taken in omega arith) (λ e. c .if1 .taken (b .0 ∙ e ∙ sym (b .1))))
 
+add-i : tie.Need-add-i Inv-loop μ-loop
+add-i c = let s = entry (c .before .before .before .before) .pre in let l = s .0 .lies in omega arith
+
 loop-again : tie.Need-loop-again Inv-loop μ-loop
 loop-again c =
     let l = c .before .before .before in
@@ -87,5 +90,5 @@ pub same-at-spec : {M : Type 1} → statement M
 same-at-spec =
     tie.close
     (tie.spec
-    Inv-loop μ-loop loop-holds add-word-at word-at-requires add-word-at-2 word-at-requires-2 returns (λ c. search needs) (λ c. search needs)
+    Inv-loop μ-loop loop-holds add-word-at word-at-requires add-word-at-2 word-at-requires-2 returns add-i (λ c. search needs)
     loop-again returns-2)

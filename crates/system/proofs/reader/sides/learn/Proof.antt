@@ -10,26 +10,26 @@ use Rattle.system.proofs.reader.sides.learn.Tie as tie
 enum-told : tie.Need-enum-told
 enum-told c = search needs
 
-add-if1 : tie.Need-add-if1
-add-if1 c = search needs
+add-next : tie.Need-add-next
+add-next c = search needs
 
 add-result : tie.Need-add-result
 add-result c = search needs
 
 returns : tie.Need-returns
 returns c = let a = c .before .before .before .args in
-    (add-one (a .known) ∙ sym (learn-new (a .role) (a .known) (a .w) (c .before .enum-told .given .1) (c .if1 .taken)), omega arith)
+    (add-one (a .known) ∙ sym (learn-new (a .role) (a .known) (a .w) (c .before .enum-told .given .1) (let h = c .if1 .taken in omega arith)), omega arith)
 
 enum-told-2 : tie.Need-enum-told-2
 enum-told-2 c = search needs
 
 returns-2 : tie.Need-returns-2
 returns-2 c = let a = c .before .before .before .args in
-    (sym (learn-old (a .role) (a .known) (a .w) (c .if1 .left)), omega arith)
+    (sym (learn-old (a .role) (a .known) (a .w) (let d = c .if1 .left in λ e. omega arith)), omega arith)
 
 returns-3 : tie.Need-returns-3
 returns-3 c = let a = c .before .before .args in
     (sym (learn-right (a .role) (a .known) (a .w) (c .enum-told2 .given .1)), omega arith)
 
 pub learn-spec : {M : Type 1} → statement M
-learn-spec = tie.close (tie.spec enum-told add-if1 add-result returns enum-told-2 returns-2 returns-3)
+learn-spec = tie.close (tie.spec enum-told add-next add-result returns enum-told-2 returns-2 returns-3)

@@ -1,6 +1,7 @@
 -- The checks of a variable: one law for each way out.
 use Rattle.system.proofs.SideWords.{variable-head, variable-next, variable-skips, variable-known, variable-unbound}
 use Rattle.system.specs.reader.Sections.{numberOr0}
+use native.Mathlib.Omega.{arith}
 use mathlib.Core.Path.{sym, ap}
 use borrow.Author.Needs.{needs}
 use Rattle.system.proofs.reader.sides.variable_fault.Statement.{statement}
@@ -12,7 +13,8 @@ returns c = let a = c .before .before .before .args in
 
 returns-2 : tie.Need-returns-2
 returns-2 c = let a = c .before .before .before .before .args in
-    sym (ap numberOr0 (variable-next (a .role) (a .first) (a .known) (a .k) (c .before .before .enum-told .given .1) (c .before .if1 .left) (c .if2 .taken)))
+    sym (ap numberOr0 (variable-next (a .role) (a .first) (a .known) (a .k) (c .before .before .enum-told .given .1) (c .before .if1 .left)
+    (let h = c .if2 .taken in omega arith)))
 
 returns-3 : tie.Need-returns-3
 returns-3 c = let a = c .before .before .before .args in
@@ -20,7 +22,8 @@ returns-3 c = let a = c .before .before .before .args in
 
 returns-4 : tie.Need-returns-4
 returns-4 c = let a = c .before .before .before .before .args in
-    sym (ap numberOr0 (variable-skips (a .role) (a .first) (a .known) (a .k) (c .before .before .enum-told .given .1) (c .before .if1 .left) (c .if2 .left)))
+    sym (ap numberOr0 (variable-skips (a .role) (a .first) (a .known) (a .k) (c .before .before .enum-told .given .1) (c .before .if1 .left)
+    (let h = c .if2 .left in omega arith)))
 
 returns-5 : tie.Need-returns-5
 returns-5 c = let a = c .before .before .before .args in
