@@ -101,16 +101,7 @@ mul-bindings-2 : tie.Need-mul-bindings-2
 mul-bindings-2 c = let f = few (word (c .before .before)) in omega arith
 
 slice-write-bindings-2 : tie.Need-slice-write-bindings-2
-slice-write-bindings-2 c =
-    let w = word (c .before .before) in
-    let s = entry (met w) in
-    let f = few w in
-    let n = s .pre .3 in
-    let l = length-set (s .args .bindings .now) (w .wide .result - variable) (s .args .q - s .args .spot .at) in
-    omega arith
-
-same-length : tie.Need-same-length
-same-length c = let v = word (c .before .before) .wide .result - variable in length-set _ (variables + v) _ ∙ length-set _ v _
+slice-write-bindings-2 c = let w = word (c .before .before) in let f = few w in let n = entry (met w) .pre .3 in simp length-set (omega arith)
 
 returns-3 : tie.Need-returns-3
 returns-3 c =
@@ -201,5 +192,5 @@ bind-spec =
     tie.close
     (tie.spec
     consumed-at-requires (λ c κs. search needs) returns returns-2 add-wide mul-wide slice-read-wide (λ c κs. search needs) sub-bindings cast-bindings
-    mul-bindings slice-write-bindings cast-bindings-2 add-bindings mul-bindings-2 slice-write-bindings-2 same-length returns-3 returns-4 mul-wide-2
+    mul-bindings slice-write-bindings cast-bindings-2 add-bindings mul-bindings-2 slice-write-bindings-2 (λ c. search needs) returns-3 returns-4 mul-wide-2
     slice-read-wide-2 (λ c κs. search needs) add-same-at same-at-requires returns-5 returns-6)
