@@ -32,7 +32,7 @@ extern "C" {
 
 /* The version: a change of what a function takes or answers raises the first number, anything new the second. */
 #define CUE_VERSION_MAJOR 3
-#define CUE_VERSION_MINOR 1
+#define CUE_VERSION_MINOR 2
 
 /* Sizes, in words. */
 #define CUE_TERM_WORDS 4096 /* the most words of a cue, and the least of an answer buffer */
@@ -45,7 +45,7 @@ extern "C" {
 #define CUE_ENTRIES 16 /* the most entries of an order */
 #define CUE_RULES 128 /* the most rules of a book */
 #define CUE_SIDE_WORDS 64 /* the most words of a rule's side */
-#define CUE_VARIABLES 16 /* the most placeholders of a rule */
+#define CUE_VARIABLES 16 /* the most different placeholders of a rule */
 #define CUE_VARIABLE 32768 /* placeholder k is the word 32768 + k */
 #define CUE_LEVELS 64 /* the deepest level at which an argument is evaluated; the whole cue is level 1 */
 #define CUE_MAX_WEIGHT 1000 /* the largest weight of a name */
@@ -72,7 +72,7 @@ enum {
   CUE_STRANGER = 4,   /* a side's word is neither name nor placeholder */
   CUE_RAGGED = 5,     /* a side is complete too early, or not at its last word */
   CUE_HEADLESS = 6,   /* a left side starts with a placeholder */
-  CUE_STRAY = 7,      /* a left placeholder is not the next one, or a right one is not in the left */
+  CUE_STRAY = 7,      /* a left placeholder is above the count of different ones before it, or a right one is not in the left */
   CUE_SURPLUS = 8,    /* words after the last rule */
   CUE_BROKEN = 9,     /* the cue is not whole */
   CUE_CRAMPED = 10,   /* answer buffer below 4,096 words, or work buffer below 12,288 */
@@ -121,7 +121,8 @@ typedef struct cue_part {
 /*
  * A rule that fits, if found is 1: its number (from 0), the index in the book of its right side's first word, how many words the right
  * side has, and for each placeholder of the left side the index of the first word, and the number of words, of the argument that it
- * stands for. Placeholders that the left side does not have are 0 and 0. A built-in rule has number 128 to 130 and no right side in the
+ * stands for; where the left side repeats it, of the first such argument: the others have the same words. Placeholders that the left side does
+ * not have are 0 and 0. A built-in rule has number 128 to 130 and no right side in the
  * book (rhs and size are 0): word is the level that a step puts there, as a word of a cue; of any other rule it is 0. If found is 0, all
  * is 0. (`number` is a rule's here, and no number of the table.)
  */
@@ -179,8 +180,8 @@ cue_answer cue_test_strategies(const uint16_t *book, size_t book_words);
 
 /*
  * The test by weights: whether a book can't run on. The list has a weight from 1 to 1,000 for each name of the book, name 0 first. A rule
- * falls if its left side's words weigh more in all than its right side's, and no placeholder is on the right twice. A name weighs what the
- * list says, a placeholder or a level nothing, "higher of", "lower of" and "curve" one each. So the built-in rules always fall.
+ * falls if its left side's words weigh more in all than its right side's, and no placeholder is on the right more often than on the left. A
+ * name weighs what the list says, a placeholder or a level nothing, "higher of", "lower of" and "curve" one each. So the built-in rules always fall.
  *
  *   number    place                        what it says
  *   0         0                            every rule falls

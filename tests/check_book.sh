@@ -47,7 +47,9 @@ refused 'a left side of two cues' ragged 7 "$ragged" 1 0 1 0 1 2 0 0 1 0
 refused 'a left side without its argument: the word after it' ragged 7 "$ragged" 1 1 1 0 1 1 0
 refused 'a left side that is a placeholder' headless 6 'a left side starts with a placeholder' 1 0 1 0 1 1 32768 1 0
 stray='a left placeholder is above the count of different ones before it, or a right one is not in the left'
-refused 'C4, word 29 of book B made 32768' stray 29 "$stray" "${b[@]:0:29}" 32768 "${b[@]:30}"
+refused 'word 29 of book B made 32770' stray 29 "$stray" "${b[@]:0:29}" 32770 "${b[@]:30}"
+# name 0 of four arguments: a, a, and then c, which is the next but one
+refused 'a placeholder again, and one too many' stray 9 "$stray" 1 4 1 0 1 5 0 32768 32768 32770 32768 1 0
 refused 'placeholder 1 before 0' stray 7 "$stray" 1 1 1 0 1 2 0 32769 1 0
 refused 'a placeholder on the right alone' stray 8 "$stray" 1 0 1 0 1 1 0 1 32768
 # 02, F-2 and F-4: 15, checked where 6 is; 4 for the words next to levels and built-in words
@@ -77,6 +79,12 @@ taken 'one name and no rules' 5 "$passes" 1 0 1 0 0
 taken '256 names' 515 "$passes" 256 $(printf '0 %.0s' {1..256}) 256 $(printf '0 %.0s' {1..256}) 0
 taken 'C10, the order of head 0 1' 39 "$(fails 2)" "${b[@]:0:11}" 0 1 "${b[@]:13}"
 taken 'a rule for a name whose order is empty' 9 "$(fails 0)" 1 0 1 0 1 1 0 1 0
+# 02, F-7: "Case C4 becomes: taken, place 39", and a placeholder that its left side holds twice is not idle
+taken 'C4, word 29 of book B made 32768' 39 "$passes" "${b[@]:0:29}" 32768 "${b[@]:30}"
+taken 'same(a, a), evaluated before the 0' 16 "$passes" 2 0 2 2 0 3 1 2 0 1 3 1 32768 32768 1 0
+taken 'same(a, a), evaluated after the 0' 15 "$(fails 1)" 2 0 2 2 0 2 0 2 1 3 1 32768 32768 1 0
+taken 'same(a, b), evaluated after the 0' 15 "$passes" 2 0 2 2 0 2 0 2 1 3 1 32768 32769 1 0
+taken 'a, a and b, in this order' 13 "$passes" 1 3 1 1 0 1 4 0 32768 32768 32769 1 32769
 taken 'an idle argument after the last 0' 14 "$passes" 2 0 1 2 0 2 0 1 1 2 1 32768 1 0
 # 02, F-1: the lowest-numbered name that fails
 mend() { taken "$1" "$2" "$3" 5 0 0 1 1 2 5 0 0 "${@:4}" 2 1 2 4 2 2 0 1 1 2 2 1 1 0 2 3 0 3 4 0 0 2 3 1 3 4 1 1; }

@@ -62,25 +62,37 @@ shows '64 toggles' 1 "$full" "${taken[@]}" 'the cue weighs 65, and that is its a
 # C15's d(a) to p(a, a): no weights mend it
 words 3 0 2 1 3 0 0 2 1 0 1 2 2 32768 3 1 32768 32768 > show.book
 list 1 1 2
-shows 'C15' 1 "$bare" "$heading" '   0     2     1  placeholder 0 twice' "$numbers" '19 0 0 rising'
+shows 'C15' 1 "$bare" "$heading" '   0     2     1  placeholder 0 from 1 to 2' "$numbers" '19 0 0 rising'
 list 1 1 1000
-shows 'C15, a heavy d' 1 "$bare" "$heading" '   0  1000     1  placeholder 0 twice' "$numbers" '19 0 0 rising'
+shows 'C15, a heavy d' 1 "$bare" "$heading" '   0  1000     1  placeholder 0 from 1 to 2' "$numbers" '19 0 0 rising'
 list 1 1 1
-shows 'C15, both reasons' 1 "$bare" "$heading" '   0     1     1  not lighter, placeholder 0 twice' "$numbers" '19 0 0 rising'
+shows 'C15, both reasons' 1 "$bare" "$heading" '   0     1     1  not lighter, placeholder 0 from 1 to 2' "$numbers" '19 0 0 rising'
 # z, p(x, y), t(x, y, z): t(a, b, c) to p(c, p(b, a)), to p(p(c, a), p(c, a)), to p(b, p(b, b)), and to z
 three='4 2 32768 32769 32770'
 words 3 0 2 3 3 0 0 1 0 4 $three 5 1 32770 1 32769 32768 $three 7 1 1 32770 32768 1 32770 32768 $three 5 1 32769 1 32769 32769 $three 1 0 > show.book
 list 1 1 4
 shows 'placeholders in another order, twice, three times, and dropped' 1 "$bare" "$heading" '   0     4     2  falls' \
-    '   1     4     3  placeholder 0 twice, placeholder 2 twice' '   2     4     2  placeholder 1 twice' '   3     4     1  falls' \
+    '   1     4     3  placeholder 0 from 1 to 2, placeholder 2 from 1 to 2' '   2     4     2  placeholder 1 from 1 to 3' '   3     4     1  falls' \
     "$numbers" '19 1 0 rising'
 list 3 2 3
-shows 'every reason' 1 "$bare" "$heading" '   0     3     4  not lighter' '   1     3     6  not lighter, placeholder 0 twice, placeholder 2 twice' \
-    '   2     3     4  not lighter, placeholder 1 twice' '   3     3     3  not lighter' "$numbers" '19 0 0 rising'
+shows 'every reason' 1 "$bare" "$heading" '   0     3     4  not lighter' '   1     3     6  not lighter, placeholder 0 from 1 to 2, placeholder 2 from 1 to 2' \
+    '   2     3     4  not lighter, placeholder 1 from 1 to 3' '   3     3     3  not lighter' "$numbers" '19 0 0 rising'
 # z, p of eight, q(x, y): p(p(0 to 7), p(8 to 15), z, z, z, z, z, z) to q(15, 15)
 words 3 0 8 2 3 0 0 0 1 25 1 1 $(seq 32768 32775) 1 $(seq 32776 32783) 0 0 0 0 0 0 3 2 32783 32783 > show.book
 list 1 1 1
-shows 'the last placeholder' 1 "$bare" "$heading" '   0     9     1  placeholder 15 twice' "$numbers" '19 0 0 rising'
+shows 'the last placeholder' 1 "$bare" "$heading" '   0     9     1  placeholder 15 from 1 to 2' "$numbers" '19 0 0 rising'
+
+# 02, F-7: "a placeholder may be on the right as often as on the left". z, p(x, y), s(x, y): s(a, a) to p(a, a), to p(a, p(a, a)), and
+# s(p(a, b), a) to p(a, p(b, a)) and to p(b, p(b, a))
+words 3 0 2 2 3 0 0 1 0 4 3 2 32768 32768 3 1 32768 32768 3 2 32768 32768 5 1 32768 1 32768 32768 5 2 1 32768 32769 32768 5 1 32768 1 32769 32768 \
+    5 2 1 32768 32769 32768 5 1 32769 1 32769 32768 > show.book
+list 1 1 3
+shows 'placeholders twice on the left' 1 "$bare" "$heading" '   0     3     1  falls' '   1     3     2  placeholder 0 from 2 to 3' '   2     4     2  falls' \
+    '   3     4     2  placeholder 1 from 1 to 2' "$numbers" '19 1 0 rising'
+words 3 0 2 2 3 0 0 3 1 2 0 1 3 2 32768 32768 3 1 32768 32768 > show.book
+list 1 1 2; cue 0 2 2 0 0 2 0 0
+shows 'a cue of twins' 0 "$full" "$heading" '   0     2     1  falls' "$numbers" '0 0 0 taken' 'the cue weighs 10, and that is its allowance' "$numbers" \
+    '0 7 3 taken' 'the answer weighs 7'
 
 # f(x), and what no book lists: f(higher of(a, b)) to higher of(a, b), f(level 255) to level 0, f(a) to lower of(a, level 6), f(a) to
 # curve(curve(a)), f(a) to higher of(lower of(a, level 0), level 0)

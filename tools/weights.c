@@ -63,15 +63,16 @@ static size_t occurs(cue_part p, unsigned word) {
   return n;
 }
 
-/* a rule's line, and whether it falls. Every reason is told: no weights mend a placeholder that is on the right twice */
+/* a rule's line, and whether it falls. Every reason is told: no weights mend a placeholder that is on the right more often than on the left */
 static int print_rule(size_t k, cue_part left, cue_part right) {
   unsigned long from = weight(book + left.start, left.length), to = weight(book + right.start, right.length);
   int falls = from > to;
   unsigned v;
   printf("%4lu %5lu %5lu %s", (unsigned long)k, from, to, falls ? "" : " not lighter");
   for (v = 0; v < CUE_VARIABLES; v++) {
-    if (occurs(right, CUE_VARIABLE + v) <= occurs(left, CUE_VARIABLE + v)) continue;
-    printf("%s placeholder %u twice", falls ? "" : ",", v);
+    unsigned long had = occurs(left, CUE_VARIABLE + v), has = occurs(right, CUE_VARIABLE + v);
+    if (has <= had) continue;
+    printf("%s placeholder %u from %lu to %lu", falls ? "" : ",", v, had, has);
     falls = 0;
   }
   printf("%s\n", falls ? " falls" : "");
