@@ -1,6 +1,6 @@
 #!/usr/bin/env bash
 # The checks from outside: the C interface and its header, the stack of each operation, the C example, random books against the second
-# evaluator (which must also find twenty planted faults), the words tool, the examples, the programs' files, the steps tool and the weights
+# evaluator (which must also find 27 planted faults), the words tool, the examples, the programs' files, the steps tool and the weights
 # tool. Everything is written under target/outside.
 #     tests/run.sh [CASES of the random run; 100000 if not said]
 set -euo pipefail
@@ -45,7 +45,7 @@ say "the C example prints what the paper prints"
 # 4. random books against the second evaluator, and the planted faults
 quiet rustc -O --edition 2021 -D warnings -L target/staticlib tests/second/main.rs -o "$to/second"
 "$to/second" "$cases" || fail "the product and the second evaluator differ, or a number came too seldom"
-for plant in {1..20}; do
+for plant in {1..27}; do
     status=0
     "$to/second" --plant "$plant" > "$to/plant-$plant" || status=$?
     if [ "$status" != 1 ] || ! grep -q 'cut down' "$to/plant-$plant"; then

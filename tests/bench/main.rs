@@ -119,8 +119,8 @@ fn expansion(w: &Work, least: f64, agree: &mut bool) {
 
 /// Whether the other archive is measured.
 fn takes_part(other: &Archive, w: &Work) -> bool {
-    let older = || other.expand(&w.book, &w.cue, &mut [0; ANSWER_WORDS], &mut [0; WORK_WORDS]).number == 9;
-    !w.deep && !(w.levels && older())
+    let refuses = |number: u32| other.expand(&w.book, &w.cue, &mut [0; ANSWER_WORDS], &mut [0; WORK_WORDS]).number == number;
+    !w.deep && !(w.levels && refuses(9)) && !(w.twins && refuses(7))
 }
 
 /// Maude's answer is to be the same; its speed, if it tells one.
@@ -171,7 +171,7 @@ fn all() -> i32 {
     agree &= largest_book("weights, largest book", least, vec![PRODUCT], |_, b| product::test_weights(b, &FALLING), falls, 0);
     println!("(ratio: the product's time by the second evaluator's, which works on shared trees with a heap; both from words to words.");
     println!(" new/other: the product's steps for each second by the other archive's, or where there are no steps its time by the product's. A");
-    println!(" nest of repeats that the other would not end is left out there, and so are levels and the curve, if it does not know them.");
+    println!(" nest of repeats that the other would not end is left out there, and so are levels, the curve and same(a, a), if it does not know them.");
     println!(" maude: its rewrites, which are fewer where it shares equal parts, and how many of them it does in a second.)");
     agree &= records::table(&works, least);
     if !maude::present() {

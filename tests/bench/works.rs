@@ -14,10 +14,12 @@ pub struct Work {
     pub deep: bool,
     /// its cue has levels (02, F-2) or the curve (F-4): another archive that answers 9 is older, and left out; so is maude
     pub levels: bool,
+    /// its book repeats a placeholder on a left side (02, F-7): another archive that answers 7 is older, and left out
+    pub twins: bool,
 }
 
 fn work(label: &str, book: Vec<u16>, cue: Vec<u16>) -> Work {
-    Work { label: label.into(), book, cue, deep: false, levels: false }
+    Work { label: label.into(), book, cue, deep: false, levels: false, twins: false }
 }
 
 type Names<'a> = &'a [(usize, &'a [usize])];
@@ -161,6 +163,22 @@ fn kept(label: &str, order: &[usize], n: usize, leaves: usize) -> Work {
     work(label, book, cue)
 }
 
+/// same(a, a) over two arguments of 1,500 words, tried in each of n rounds: they differ in the word at an index.
+fn same(label: &str, n: usize, at: usize) -> Work {
+    let (z, s, p, same, run, y, q) = (0, 1, 2, 3, 4, 5, 6);
+    let book = write(
+        &[(0, &[]), (1, &[]), (2, &[]), (2, &[0]), (2, &[2, 0]), (0, &[]), (1, &[])],
+        &[(&[run, z, A], &[A]), (&[run, s, A, B], &[run, A, B]), (&[same, A, A], &[z])],
+    );
+    let first = [vec![s], balanced(p, 750, &[vec![z]])].concat();
+    assert_eq!(first.len(), 1500);
+    let mut second = first.clone();
+    // a word with as many arguments: the first one has one, the last one none
+    second[at] = if at == 0 { q } else { y };
+    let cue = [vec![run], nest(s, n, &[z]), vec![same], first, second].concat();
+    Work { twins: true, ..work(label, book, cue) }
+}
+
 /// The nth Fibonacci number by the last five of 128 rules, which start with 60 different names: those before them with 58 others.
 fn late(label: &str, n: usize) -> Work {
     let (z, s, fib, add, others) = (0, 1, 2, 3, 4);
@@ -258,6 +276,8 @@ pub fn all() -> Vec<Work> {
         lists("eager lists", 50),
         kept("kept argument, 3,511", &[1, 0], 500, 1756),
         kept("the same, evaluated", &[1, 2, 0], 50, 1756),
+        same("same(a, a), last word", 400, 1499),
+        same("same(a, a), first word", 400, 0),
         repeats(4),
         repeats(62),
         group("group, higher of", &[HIGHER], 1000),

@@ -37,7 +37,7 @@ module _ (g : Signature) where
       )
 
   -- the subterm at the root
-  root-subterm : {u : List ℕ} → Whole g u → subterm g u 0 ≡ u
+  pub root-subterm : {u : List ℕ} → Whole g u → subterm g u 0 ≡ u
   root-subterm {u} h = rw (append-nil u) at (at-subterm g (Symbol g) [] [] h)
 
   module _ (few : length g ≤ variable) where

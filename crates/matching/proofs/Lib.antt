@@ -17,5 +17,7 @@ pub mod Idle
 pub mod SafetyTest
 pub mod FirstFailing
 pub mod Tests
+-- A variable twice on a left side
+pub mod Twins
 -- The starred case
 pub mod Cases

@@ -4,6 +4,7 @@ pub mod SquareLaw
 pub mod Signatures
 pub mod Members
 pub mod Occurrences
+pub mod Numbering
 pub mod Rules
 pub mod Forests
 pub mod Places

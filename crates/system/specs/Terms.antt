@@ -3,7 +3,7 @@ use Prim.Native.Nat.{ℕ, zero, suc, _+_, _≤_, _<_}
 use mathlib.Core.Path.{_≡_}
 use mathlib.Core.Logic.{_⊎_}
 use mathlib.Core.Bool.{Bool, false, cond, _||_}
-use mathlib.Core.List.{List, [], _∷_}
+use mathlib.Core.List.{List, [], _∷_, _++_}
 use lib.ListN.{length, getD}
 use lib.Dec.{eqb}
 use Rattle.system.specs.Limits.{maxSymbols, maxArity, maxEntries, maxRules, sideWords, variable, variables}
@@ -42,6 +42,14 @@ unfoldable pub occurs : ℕ → List ℕ → ℕ
 occurs e [] = 0
 occurs e (d ∷ ds) = cond (eqb d e) 1 0 + occurs e ds
 
+-- how many of the variables 0 to n - 1 stand in a list, and how many different ones
+unfoldable pub standing : ℕ → List ℕ → ℕ
+standing zero ws = 0
+standing (suc n) ws = cond (among (variable + n) ws) 1 0 + standing n ws
+
+abbrev pub different : List ℕ → ℕ
+different ws = standing variables ws
+
 -- `Numbered n m ws`: after n different variables, ws leads to m: each of its variables is the next new one or again one from before
 -- ("its placeholders appear as 0, 1, 2, .. in reading order"; 02, F-7: "A left side may now repeat a placeholder")
 pub data Numbered : ℕ → ℕ → List ℕ → Type 0 where
@@ -49,6 +57,10 @@ pub data Numbered : ℕ → ℕ → List ℕ → Type 0 where
   symbol : {n m w : ℕ} {ws : List ℕ} → w < variable → Numbered n m ws → Numbered n m (w ∷ ws)
   next : {n m w : ℕ} {ws : List ℕ} → w ≡ variable + n → Numbered (suc n) m ws → Numbered n m (w ∷ ws)
   again : {n m v w : ℕ} {ws : List ℕ} → w ≡ variable + v → v < n → Numbered n m ws → Numbered n m (w ∷ ws)
+
+-- the same by places, as 02, F-7 says it: no placeholder is "above the count of different ones before it", and none is above 15 (`numbered-exactly`)
+abbrev pub InOrder : List ℕ → Type 0
+InOrder ws = (a b : List ℕ) (w : ℕ) → ws ≡ a ++ w ∷ b → variable ≤ w → (w ≤ variable + different a) × (w < variable + variables)
 
 -- a rule that 01 allows: "a length 1 to 64 and its left side, then a length 1 to 64 and its right side";
 -- "A left side starts with a name" (here any symbol, so that the built-in rules are well formed too; of the book's own rules see `ownRules`);
