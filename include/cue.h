@@ -2,7 +2,7 @@
  * The cue expander: show books, the order test, the test by weights, expansion, and the record of an expansion's steps.
  *
  * Link with libcue.a (`rt staticlib cue` writes it to target/staticlib/). The target is x86-64 (System V ABI, ELF; SSE registers are
- * used, so save them in a task that can be interrupted). About 24 KB of code and read-only constants, no data, no bss; it needs memcpy and
+ * used, so save them in a task that can be interrupted). About 25 KB of code and read-only constants, no data, no bss; it needs memcpy and
  * memset and nothing else, and links with -nostdlib. Stack, read from the compiled archive with everything that is called: cue_expand
  * 2,400 bytes, cue_expand_twice, the deepest, 2,496, every function below 4,096 (`bash tests/stack.sh` measures it). Another target needs
  * another back end, and the stack measured anew.

@@ -35,11 +35,12 @@ consumed g l (w ∷ ws) = cond (ltb l variable) (cond (eqb l w) 1 0) (span g (w 
 unfoldable pub value : List ℕ → Bindings → ℕ → List ℕ
 value ws a v = take (getD (a .lengths) v 0) (drop (getD (a .starts) v 0) ws)
 
--- whether a word is a variable that has a stretch already, which has a word at least
+-- whether a word is a variable that has a stretch already (a stretch has a word at least)
 unfoldable pub isBound : ℕ → Bindings → Bool
 isBound l a = leb variable l && ltb 0 (getD (a .lengths) (l - variable) 0)
 
--- how many words of ws it takes from word q on: a variable that has a stretch only those of the same, "all their words" (02, F-7)
+-- how many words of ws a word of a left side takes from word q on. A variable that has a stretch takes equal words, "all their words", or none
+-- (02, F-7)
 unfoldable pub taken : Signature → List ℕ → ℕ → ℕ → Bindings → ℕ
 taken g ws l q a =
     let n = consumed g l (drop q ws) in
