@@ -9,6 +9,7 @@ pub mod Stretches
 pub mod BindingsAgree
 pub mod Sources
 pub mod Reducts
+pub mod Fits
 -- Where the stretches lie, and what a cut of the left side cuts
 pub mod Placed
 pub mod Splits

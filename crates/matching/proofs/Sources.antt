@@ -157,23 +157,25 @@ module _ (b : List ℕ) (sh : Shape) (acc : Accepted b sh) where
         go (from-book e q) = rw q (found .within)
         go (from-words z q) = rw (q ∙ computed-unbound) (reads-none ws .within)
 
--- ---- of a book that was scanned
+-- ---- of a book's words
 
-module _ (b : List ℕ) (s : Scan) (is : s ≡ scanOf (read b)) where
-  match-refused : {f : Fault} {i : ℕ} → read b ≡ fault f i → (ws : List ℕ) → matchIn b ws ≡ noMatch
+module _ (b : List ℕ) where
+  pub match-refused : {f : Fault} {i : ℕ} → read b ≡ fault f i → (ws : List ℕ) → matchIn b ws ≡ noMatch
   unfolding matchIn
   match-refused e ws = rw (e, matchIn)
 
-  match-accepted : {x : System} {i : ℕ} → read b ≡ ok x i → (ws : List ℕ) → matchIn b ws ≡ matchOf x ws
+  pub match-accepted : {x : System} {i : ℕ} → read b ≡ ok x i → (ws : List ℕ) → matchIn b ws ≡ matchOf x ws
   unfolding matchIn
   match-accepted e ws = rw (e, matchIn)
 
+-- of a book that was scanned
+module _ (b : List ℕ) (s : Scan) (is : s ≡ scanOf (read b)) where
   pub scan-refuses : (s .answer .number ≡ 0 → ⊥) → (ws : List ℕ) → noMatch ≡ matchIn b ws
   scan-refuses bad ws = go (read b) refl
     where
       go : (o : Parsed System) → read b ≡ o → noMatch ≡ matchIn b ws
       go (ok x i) e = absurd (bad (ap (λ y. y .answer .number) (is ∙ ap scanOf e)))
-      go (fault f i) e = sym (match-refused e ws)
+      go (fault f i) e = sym (match-refused b e ws)
 
   pub scan-matches : s .answer .number ≡ 0 → (ws : List ℕ) → matchOf (systemOf b) ws ≡ matchIn b ws
-  scan-matches good ws = sym (match-accepted (scan-accepted b s is good .accepted) ws)
+  scan-matches good ws = sym (match-accepted b (scan-accepted b s is good .accepted) ws)

@@ -1,6 +1,6 @@
 -- A variable twice on a left side (02, F-7): wherever the rule matches, the same words stand at both places; and same(a, a) matches exactly where
 -- both arguments are equal.
-use Prim.Native.Nat.{ℕ, _+_, _<_, _≤_}
+use Prim.Native.Nat.{ℕ, _+_, _≤_}
 use native.Mathlib.Omega.{arith}
 use mathlib.Core.Path.{_≡_, refl, sym, ap, _∙_, subst}
 use mathlib.Core.Logic.{_↔_}

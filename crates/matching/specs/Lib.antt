@@ -1,5 +1,6 @@
 pub mod Matching
 pub mod Bindings
+pub mod Fits
 pub mod Safety
 pub mod StrategyTest
 pub mod Cases

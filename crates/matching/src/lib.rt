@@ -3,6 +3,7 @@
 // interface for the layers above, over a book that was scanned.
 ghost use mathlib.Core.Path.{_≡_};
 ghost use Rattle.matching.specs.Bindings.{matchIn};
+ghost use Rattle.matching.specs.Fits.{TellsMatch};
 ghost use Rattle.matching.specs.Safety.{Tells};
 ghost use Rattle.matching.specs.StrategyTest.{testAnswer};
 use system::Answer;
@@ -37,9 +38,11 @@ pub struct Match {
     pub lengths: [usize; VARIABLES],
 }
 
-// The first rule that matches the subterm at the front of ws, listed or built in; nothing over a book that the reader refuses.
+// The first rule that matches the subterm at the front of ws, listed or built in; nothing over a book that the reader refuses. `told` says what
+// that means by substitutions.
 pub fn first_match(book: &[u16], ws: &[u16]) -> Match
-    ensures { λ r. ⌜ r ≡ matchIn (now (book .entry)) (now (ws .entry)) ⌝ }
+    ensures matched { λ r. ⌜ r ≡ matchIn (now (book .entry)) (now (ws .entry)) ⌝ }
+    ensures told { λ r. ⌜ TellsMatch (now (book .entry)) (now (ws .entry)) r ⌝ }
 {
     let s = scan_book(book);
     if s.answer.number != TAKEN {

@@ -16,6 +16,7 @@ pub mod Parses
 pub mod ParsesMany
 pub mod SideWords
 pub mod Sides
+pub mod Strays
 pub mod Strategies
 pub mod Accepts
 pub mod Located

@@ -85,6 +85,11 @@ unfoldable pub learn : SideRole → ℕ → ℕ → ℕ
 learn Left known w = cond (eqb w (variable + known)) (suc known) known
 learn Right known w = known
 
+-- and after some words of a left side, one by one as `readWords` goes along them
+unfoldable pub learnAll : ℕ → List ℕ → ℕ
+learnAll known [] = known
+learnAll known (w ∷ ws) = learnAll (learn Left known w) ws
+
 module _ (ws : List ℕ) where
   -- the next word, unless there is something wrong with it
   unfoldable pub word : (ℕ → Option Fault) → Parser ℕ

@@ -7,13 +7,13 @@ use Rattle.cue.proofs.cue_first_match.Statement.{statement}
 use Rattle.cue.proofs.cue_first_match.Tie as tie
 
 returns : tie.Need-returns
-returns c = match-nothing _ (c .enum-told .given .1) ∙ ap matchFor (c .before .before .before .before .first-match .ensures)
+returns c = match-nothing _ (c .enum-told .given .1) ∙ ap matchFor (c .before .before .before .before .first-match .ensures .0)
 
 returns-2 : tie.Need-returns-2
-returns-2 c = match-first _ _ _ _ (c .before .found .given .1) ∙ ap matchFor (c .before .before .before .before .before .first-match .ensures)
+returns-2 c = match-first _ _ _ _ (c .before .found .given .1) ∙ ap matchFor (c .before .before .before .before .before .first-match .ensures .0)
 
 returns-3 : tie.Need-returns-3
-returns-3 c = match-computed _ _ _ (c .before .found2 .given .1) ∙ ap matchFor (c .before .before .before .before .before .first-match .ensures)
+returns-3 c = match-computed _ _ _ (c .before .found2 .given .1) ∙ ap matchFor (c .before .before .before .before .before .first-match .ensures .0)
 
 pub cue-first-match-spec : {M : Type 1} → statement M
 cue-first-match-spec =

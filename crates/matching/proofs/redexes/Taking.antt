@@ -22,21 +22,21 @@ module _ {g : Signature} {area : List ℕ} {gap : Gap} (m : Measured g area gap)
   abbrev here : List ℕ
   here = drop q (termIn area gap)
 
-  pub taken-none : wordsIn gap ≤ q → 0 ≡ consumed g l (drop q (termIn area gap))
-  taken-none h = sym (consumed-end g l here (let n = length-drop q (termIn area gap) in let k = words-length (m .gapped) in omega arith))
+  pub consumes-none : wordsIn gap ≤ q → 0 ≡ consumed g l (drop q (termIn area gap))
+  consumes-none h = sym (consumed-end g l here (let n = length-drop q (termIn area gap) in let k = words-length (m .gapped) in omega arith))
 
   module _ (inside : q < wordsIn gap) where
     some-words : 0 < length here
     some-words = let n = length-drop q (termIn area gap) in let k = words-length (m .gapped) in omega arith
 
-    pub taken-variable : {n : ℕ} → n ≡ getD (lengthsIn area gap) q 0 → variable ≤ l → n ≡ consumed g l (drop q (termIn area gap))
-    taken-variable e h = e ∙ measured-length m q ∙ sym (consumed-variable g l here some-words h)
+    pub consumes-variable : {n : ℕ} → n ≡ getD (lengthsIn area gap) q 0 → variable ≤ l → n ≡ consumed g l (drop q (termIn area gap))
+    consumes-variable e h = e ∙ measured-length m q ∙ sym (consumed-variable g l here some-words h)
 
     first : {w : ℕ} → w ≡ getD (termIn area gap) q 0 → w ≡ getD here 0 0
     first e = word-from (termIn area gap) q 0 q (omega arith) e
 
-    pub taken-differ : {w : ℕ} → w ≡ getD (termIn area gap) q 0 → l < variable → (l ≡ w → ⊥) → 0 ≡ consumed g l (drop q (termIn area gap))
-    taken-differ e low d = sym (consumed-differ g l here some-words low (λ z. d (z ∙ sym (first e))))
+    pub consumes-differ : {w : ℕ} → w ≡ getD (termIn area gap) q 0 → l < variable → (l ≡ w → ⊥) → 0 ≡ consumed g l (drop q (termIn area gap))
+    consumes-differ e low d = sym (consumed-differ g l here some-words low (λ z. d (z ∙ sym (first e))))
 
-    pub taken-same : {w : ℕ} → w ≡ getD (termIn area gap) q 0 → l < variable → l ≡ w → 1 ≡ consumed g l (drop q (termIn area gap))
-    taken-same e low z = sym (consumed-same g l here some-words low (z ∙ first e))
+    pub consumes-same : {w : ℕ} → w ≡ getD (termIn area gap) q 0 → l < variable → l ≡ w → 1 ≡ consumed g l (drop q (termIn area gap))
+    consumes-same e low z = sym (consumed-same g l here some-words low (z ∙ first e))
