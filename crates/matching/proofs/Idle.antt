@@ -130,7 +130,7 @@ module _ (g : Signature) where
         i < length us → Whole g v → HeldOnce g lhs i → Fills lhs (head lhs ∷ flatten (set us i v)) → Fills lhs (head lhs ∷ flatten us)
     idle-fills us i v (more {w} {k} {ws} _ f) nm d l h z e =
         let c = parts-of g (Word g) (0 + arity g w) f in
-        rw (c .equal) (go (c .parts) (c .count) (c .wholes) (rw (c .equal) at (z .placeholder)) (rw (c .equal) at (z .once)) (rw (c .equal) at e))
+        rw (c .equal) (go (c .parts) (c .count) (c .wholes) (rw (c .equal) at (z .isVariable)) (rw (c .equal) at (z .once)) (rw (c .equal) at e))
       where
         go : (ps : List (List ℕ)) → length ps ≡ 0 + arity g w → Wholes g (Word g) ps → variable ≤ argumentWord g (w ∷ flatten ps) i →
             occurs (argumentWord g (w ∷ flatten ps) i) (w ∷ flatten ps) ≡ 1 →

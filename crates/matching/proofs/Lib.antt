@@ -19,6 +19,6 @@ pub mod SafetyTest
 pub mod FirstFailing
 pub mod Tests
 -- A variable twice on a left side
-pub mod Twins
+pub mod Repeats
 -- The starred case
 pub mod Cases

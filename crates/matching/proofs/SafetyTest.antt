@@ -44,11 +44,11 @@ held-sound : (g : Signature) (lhs : List ℕ) (i : ℕ) → heldOnce g lhs i ≡
 unfolding heldOnce
 held-sound g lhs i e =
     let p = both (leb variable (argumentWord g lhs i)) (eqb (occurs (argumentWord g lhs i) lhs) 1) e in
-    record { placeholder = leb-true variable _ (p .0); once = eqb-true _ 1 (p .1) }
+    record { isVariable = leb-true variable _ (p .0); once = eqb-true _ 1 (p .1) }
 
 held-complete : (g : Signature) (lhs : List ℕ) (i : ℕ) → HeldOnce g lhs i → heldOnce g lhs i ≡ true
 unfolding heldOnce
-held-complete g lhs i h = both-true _ _ (le-leb variable _ (h .placeholder)) (eq-eqb _ 1 (h .once))
+held-complete g lhs i h = both-true _ _ (le-leb variable _ (h .isVariable)) (eq-eqb _ 1 (h .once))
 
 module _ (s : System) (f : ℕ) (plain : builtInArity f ≡ 0) where
   pub idle-sound : (i : ℕ) → idleTest s f i ≡ true → Idle s f i

@@ -21,7 +21,7 @@ argumentWord g t i = getD t (argument g t 0 i) 0
 
 -- "a placeholder that its left side holds once" (02, F-7), in all its words
 pub record HeldOnce (g : Signature) (lhs : List ℕ) (i : ℕ) : Type 0 where
-  pub placeholder : variable ≤ argumentWord g lhs i
+  pub isVariable : variable ≤ argumentWord g lhs i
   pub once : occurs (argumentWord g lhs i) lhs ≡ 1
 
 -- "An argument is idle if, and only if, it is a placeholder that its left side holds once, in every left side of the name" (02, F-7): the

@@ -120,8 +120,8 @@ fn same_at(area: &[u16], gap: Gap, p: usize, q: usize, n: usize) -> bool
     true
 }
 
-// How many words of the subterm word l of a left side takes, from word q of the term on; 0 where the words are unequal. A variable that has no
-// stretch yet has this one then. One that has takes the same words again (02, F-7): other lengths are told at once.
+// How many words of the subterm word l of a left side takes, from word q of the term on; 0, and no binding, where the words are unequal. A
+// variable that has no stretch yet has this one then. One that has takes the same words again (02, F-7): other lengths are told at once.
 fn bind(area: &[u16], spot: Spot, bindings: &mut [u16], l: u16, q: usize) -> usize
     requires { ⌜ ((g : Signature) × Measured g (now area) (spot .gap)) × (spot .at ≤ q) × (l < variable + variables)
         × (length (now bindings) ≡ bindingWords)
@@ -130,6 +130,7 @@ fn bind(area: &[u16], spot: Spot, bindings: &mut [u16], l: u16, q: usize) -> usi
         r ≡ taken g (drop (spot .at) (termIn (now (area .entry)) (spot .gap))) l (q - spot .at) (boundIn (now (bindings .entry)))) ⌝ }
     ensures bound { λ r. ⌜ ((r ≡ 0 → ⊥) →
         boundIn (now (bindings .exit)) ≡ withBinding l (q - spot .at) r (boundIn (now (bindings .entry)))) ⌝ }
+    ensures unbound { λ r. ⌜ (r ≡ 0 → now (bindings .exit) ≡ now (bindings .entry)) ⌝ }
 {
     let n = consumed_at(area, spot.gap, l, q);
     let w = wide(l);

@@ -16,7 +16,7 @@ pub mod Parses
 pub mod ParsesMany
 pub mod SideWords
 pub mod Sides
-pub mod Strays
+pub mod Unbound
 pub mod Strategies
 pub mod Accepts
 pub mod Located

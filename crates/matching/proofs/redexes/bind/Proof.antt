@@ -61,14 +61,14 @@ returns c =
     let bs = s .args .bindings .now in
     let is = w .wide .ensures .0 in (
       λ g m. symbol-takes g (term s) (s .args .l) (s .pre .1) bs (met w .consumed-at .ensures g m) is (c .if1 .taken),
-      λ d. symbol-bound bs is (c .if1 .taken) (s .args .q - s .args .spot .at) (met w .consumed-at .result),
+      (λ d. symbol-bound bs is (c .if1 .taken) (s .args .q - s .args .spot .at) (met w .consumed-at .result), λ z. refl),
     )
 
 returns-2 : tie.Need-returns-2
 returns-2 c =
     let k = met (c .before .before) in
     let s = entry k in
-    (λ g m. nothing-takes g (term s) (s .args .l) (s .pre .1) (s .args .bindings .now) (k .consumed-at .ensures g m) (c .if2 .taken), λ d. absurd (d refl))
+    (λ g m. nothing-takes g (term s) (s .args .l) (s .pre .1) (s .args .bindings .now) (k .consumed-at .ensures g m) (c .if2 .taken), (λ d. absurd (d refl), λ z. refl))
 
 add-wide : tie.Need-add-wide
 add-wide c = let f = few (c .before .before) in omega arith
@@ -113,7 +113,7 @@ returns-3 c =
     let high = variable-met m .before .if1 .left in
     let new : getD bs (variables + (w .wide .result - variable)) 0 ≡ 0 = (let e = m .wide2 .ensures .0 in let z = c .before .if3 .taken in omega arith) in (
       λ g m. new-takes g (term s) (s .args .l) (s .pre .1) bs (met w .consumed-at .ensures g m) is high (few w) new,
-      λ d. new-bound bs is high (few w) (s .args .q - s .args .spot .at) (met w .consumed-at .result) new,
+      (λ d. new-bound bs is high (few w) (s .args .q - s .args .spot .at) (met w .consumed-at .result) new, λ z. absurd (variable-met m .if2 .left z)),
     )
 
 returns-4 : tie.Need-returns-4
@@ -125,7 +125,7 @@ returns-4 c =
     let d = c .if4 .taken in (
       λ g e. length-differs g (term s) (s .args .l) (s .pre .1) (s .args .bindings .now) (met w .consumed-at .ensures g e) (w .wide .ensures .0) (variable-met m .before .if1 .left) (few w)
           (m .wide2 .ensures .0) (λ z. omega arith) (s .pre .4) (λ z. omega arith),
-      λ d. absurd (d refl),
+      (λ d. absurd (d refl), λ z. refl),
     )
 
 mul-wide-2 : tie.Need-mul-wide-2
@@ -169,7 +169,7 @@ returns-5 c =
     let s = entry (met w) in (
       λ g e. words-differ g (term s) (s .args .l) (s .pre .1) (s .args .bindings .now) (met w .consumed-at .ensures g e) (w .wide .ensures .0) (variable-met m .before .if1 .left) (few w)
           (m .wide2 .ensures .0) (x .before .before .before .if3 .left) (x .before .before .if4 .left) (x .wide3 .ensures .0) (c .before .same-at .ensures) (not-true _ (c .if5 .taken)),
-      λ d. absurd (d refl),
+      (λ d. absurd (d refl), λ z. refl),
     )
 
 returns-6 : tie.Need-returns-6
@@ -184,7 +184,7 @@ returns-6 c =
     let old = x .before .before .before .if3 .left in (
       λ g e. again-takes g (term s) (s .args .l) (s .pre .1) bs (met w .consumed-at .ensures g e) is high (few w) (m .wide2 .ensures .0) old (x .before .before .if4 .left)
           (x .wide3 .ensures .0) (c .before .same-at .ensures) (not-false _ (c .if5 .left)),
-      λ d. old-bound bs is high (few w) (s .args .q - s .args .spot .at) (met w .consumed-at .result) (λ z. old (m .wide2 .ensures .0 ∙ z)),
+      (λ d. old-bound bs is high (few w) (s .args .q - s .args .spot .at) (met w .consumed-at .result) (λ z. old (m .wide2 .ensures .0 ∙ z)), λ z. refl),
     )
 
 pub bind-spec : {M : Type 1} → statement M

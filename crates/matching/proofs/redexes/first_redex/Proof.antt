@@ -195,7 +195,7 @@ words-again c =
     let s = entry (head (read k)) in
     let o = met k .before .words .inv in
     let much = c .if3 .left in
-    try-goes (turn (read k)) (term s) (s .args .spot .at) o (met k .words-test .taken) (took k) much (k .bind .kept .1 .1 .0 ∙ o .sized) (k .bind .ensures .1 much)
+    try-goes (turn (read k)) (term s) (s .args .spot .at) o (met k .words-test .taken) (took k) much (k .bind .kept .1 .1 .0 ∙ o .sized) (k .bind .ensures .1 .0 much)
 
 same-length : tie.Need-same-length Inv-words μ-words Inv-rules μ-rules
 same-length c = let s = entry (head (cleared (c .before .before))) in c .before .words .inv .sized ∙ sym (s .pre .4)

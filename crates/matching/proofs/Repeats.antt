@@ -18,9 +18,9 @@ use Rattle.matching.proofs.Words.{instance-append}
 use Rattle.matching.proofs.Idle.{same-front, root-subterm}
 
 -- "it fits if both arguments are equal, all their words": the part there has what the variable stands for at both places
-pub twins-equal : (g : Signature) (t : List ℕ) (p : ℕ) (r : Rule) (v : ℕ) (a b c : List ℕ) → r .lhs ≡ a ++ (variable + v) ∷ (b ++ (variable + v) ∷ c) →
+pub repeats-equal : (g : Signature) (t : List ℕ) (p : ℕ) (r : Rule) (v : ℕ) (a b c : List ℕ) → r .lhs ≡ a ++ (variable + v) ∷ (b ++ (variable + v) ∷ c) →
     (m : Matches g t p r) → subterm g t p ≡ instance (m .σ) a ++ (m .σ v ++ (instance (m .σ) b ++ (m .σ v ++ instance (m .σ) c)))
-twins-equal g t p r v a b c is m =
+repeats-equal g t p r v a b c is m =
     sym (m .equal) ∙ ap (instance (m .σ)) is ∙ instance-append (m .σ) a ((variable + v) ∷ (b ++ (variable + v) ∷ c))
     ∙ ap (λ y. instance (m .σ) a ++ y) (instance-variable (m .σ) (variable + v) v (b ++ (variable + v) ∷ c) refl
     ∙ ap (λ y. m .σ v ++ y) (instance-append (m .σ) b ((variable + v) ∷ c)

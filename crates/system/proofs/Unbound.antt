@@ -28,8 +28,8 @@ pub learns-different : (a : List ℕ) → InOrder a → learnAll 0 a ≡ differe
 learns-different a h = let n = numbered-exactly a .1 h in learns (n .1 .1) ∙ sym (numbered-different (n .1 .1) (n .1 .0))
 
 -- behind the words a of a left side, 7 is for a variable above that count
-pub stray-exactly : (a : List ℕ) (k : ℕ) → InOrder a → (variableFault Left false (learnAll 0 a) k ≡ some unbound) ↔ (different a < k)
-stray-exactly a k h =
+pub unbound-exactly : (a : List ℕ) (k : ℕ) → InOrder a → (variableFault Left false (learnAll 0 a) k ≡ some unbound) ↔ (different a < k)
+unbound-exactly a k h =
     let d = learns-different a h in (
       λ e. elim (decLt (different a) k) [
         | yes l ↦ l
