@@ -4,7 +4,7 @@ use Prim.Native.String.{String}
 use mathlib.Core.List.{List, _++_}
 use Rattle.system.specs.declared.Answer.{Answer}
 use Rattle.system.specs.Numbers.{Fault, missing, range, entry, unknown, unbalanced, variableHead, unbound, trailing, builtInHead}
-use Rattle.system.specs.Parser.{ok, fault, read}
+use Rattle.reader.specs.Parser.{ok, fault, read}
 use Rattle.matching.specs.StrategyTest.{testAnswer}
 use Rattle.printing.specs.Text.{ascii, decimal, line}
 use Rattle.files.specs.Files.{File, bookBytes, Checked, stops, holds, check}

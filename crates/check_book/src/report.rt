@@ -13,8 +13,8 @@ use files::checks::BOOK_WORDS;
 use files::checks::refuse;
 use files::words::load;
 use matching::safety::test;
+use reader::scan::scan_book;
 use system::numbers::TAKEN;
-use system::reader::scan_book;
 
 // The bytes that any text has room in.
 pub const TEXT_BYTES: usize = 256;

@@ -1,7 +1,7 @@
 -- The structs that C sees, as what the libraries answer.
 use Rattle.system.specs.declared.Answer.{Answer}
-use Rattle.system.specs.declared.Shape.{Shape}
-use Rattle.system.specs.declared.ArgumentSpan.{ArgumentSpan}
+use Rattle.reader.specs.declared.Shape.{Shape}
+use Rattle.reader.specs.declared.ArgumentSpan.{ArgumentSpan}
 use Rattle.matching.specs.declared.Match.{Match}
 use Rattle.matching.specs.declared.FirstRule.the-variants.{Nothing, First, Computed}
 use Rattle.cue.specs.declared.CueAnswer.{CueAnswer}

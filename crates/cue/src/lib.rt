@@ -1,8 +1,9 @@
 // The libraries' public operations for C and other languages: include/cue.h declares what stands here. Each function hands its
 // arguments on and its answer back; none asks anything of its caller.
 ghost use mathlib.Core.Path.{_≡_};
-ghost use Rattle.system.specs.Answers.{answerOf, shapeOf, termAnswer, argumentSpan, signatureOf};
-ghost use Rattle.system.specs.Parser.{read};
+ghost use Rattle.reader.specs.Answers.{answerOf, shapeOf, termAnswer, argumentSpan};
+ghost use Rattle.system.specs.Signature.{signatureOf};
+ghost use Rattle.reader.specs.Parser.{read};
 ghost use Rattle.system.specs.Signature.{span};
 ghost use Rattle.matching.specs.Bindings.{matchIn};
 ghost use Rattle.matching.specs.Safety.{Tells};
@@ -115,7 +116,7 @@ fn replayed_for(e: Replayed) -> CueReplayed
 pub extern "C" fn cue_read(book: &[u16]) -> CueAnswer
     ensures { λ r. ⌜ r ≡ answerFor (answerOf (read (now (book .entry)))) ⌝ }
 {
-    answer_for(system::read(book))
+    answer_for(reader::read(book))
 }
 
 // The shape of an accepted book; all 0 of a refused one.
@@ -123,7 +124,7 @@ pub extern "C" fn cue_read(book: &[u16]) -> CueAnswer
 pub extern "C" fn cue_shape_of(book: &[u16]) -> CueShape
     ensures { λ r. ⌜ r ≡ shapeFor (shapeOf (read (now (book .entry)))) ⌝ }
 {
-    let s = system::shape_of(book);
+    let s = reader::shape_of(book);
     CueShape {
         symbols: s.symbols,
         strategies: s.strategies,
@@ -137,7 +138,7 @@ pub extern "C" fn cue_shape_of(book: &[u16]) -> CueShape
 pub extern "C" fn cue_check_term(book: &[u16], term: &[u16]) -> CueAnswer
     ensures { λ r. ⌜ r ≡ answerFor (termAnswer (now (book .entry)) (now (term .entry))) ⌝ }
 {
-    answer_for(system::check_term(book, term))
+    answer_for(terms::check_term(book, term))
 }
 
 // Argument i (from 1) of the term's first symbol.
@@ -145,7 +146,7 @@ pub extern "C" fn cue_check_term(book: &[u16], term: &[u16]) -> CueAnswer
 pub extern "C" fn cue_argument(book: &[u16], term: &[u16], i: usize) -> CuePart
     ensures { λ r. ⌜ r ≡ partFor (argumentSpan (now (book .entry)) (now (term .entry)) i) ⌝ }
 {
-    let s = system::argument_span(book, term, i);
+    let s = terms::argument_span(book, term, i);
     CuePart {
         start: s.start,
         length: s.length,

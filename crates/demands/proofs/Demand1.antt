@@ -6,10 +6,10 @@ use mathlib.Core.List.{List}
 use Rattle.system.specs.declared.Answer.{Answer}
 use Rattle.system.specs.Numbers.{Verdict, numberOf}
 use Rattle.system.specs.System.{System}
-use Rattle.system.specs.Parser.{Parsed, ok, fault, read}
+use Rattle.reader.specs.Parser.{Parsed, ok, fault, read}
 use Rattle.system.specs.TermCheck.{termFault}
-use Rattle.system.specs.Answers.{wholeAnswer, termAnswer}
-use Rattle.system.specs.Book.{systemOf}
+use Rattle.reader.specs.Answers.{wholeAnswer, termAnswer}
+use Rattle.reader.specs.Book.{systemOf}
 use Rattle.rewriting.specs.Evaluation.{Limits, Outcome, finished, stopped, evaluation}
 use Rattle.evaluation.specs.Expansion.{result, expansionOf, expansion}
 use Rattle.demands.specs.Demand1.{Early, book, term, buffers, Refused, untouched, cleared}

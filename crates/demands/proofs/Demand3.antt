@@ -5,10 +5,10 @@ use mathlib.Core.List.{List}
 use lib.ListN.{length}
 use Rattle.system.specs.Limits.{termWords}
 use Rattle.system.specs.Terms.{Whole}
-use Rattle.system.specs.Parser.{ok, read}
-use Rattle.system.specs.Answers.{termAnswer}
+use Rattle.reader.specs.Parser.{ok, read}
+use Rattle.reader.specs.Answers.{termAnswer}
 use Rattle.system.proofs.TermChecks.{whole-fault}
-use Rattle.system.specs.Book.{systemOf}
+use Rattle.reader.specs.Book.{systemOf}
 use Rattle.matching.specs.Safety.{Safe}
 use Rattle.matching.proofs.Tests.{test-safe}
 use Rattle.rewriting.specs.Evaluation.{Limits, unrecorded, start, evaluation}

@@ -9,7 +9,7 @@ use Rattle.system.specs.declared.Answer.{Answer}
 use Rattle.system.specs.Numbers.{Limit, spent, overlong, nested, full, Verdict, numberOf, limitNumber}
 use Rattle.system.specs.System.{System}
 use Rattle.system.specs.Terms.{WellFormed}
-use Rattle.system.specs.Book.{systemOf}
+use Rattle.reader.specs.Book.{systemOf}
 use Rattle.system.proofs.FaultNumbers.{fault-range}
 use Rattle.rewriting.specs.Evaluation.{Limits, Config, steps, Outcome, finished, stopped, evaluation}
 use Rattle.termination.specs.Weights.{Weights, weight}

@@ -4,4 +4,3 @@ pub mod Demand3
 pub mod Retracing
 pub mod Square
 pub mod Finite
-pub mod Cases

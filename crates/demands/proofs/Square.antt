@@ -13,15 +13,15 @@ use Rattle.system.specs.Signature.{Signature, Symbol, arity, span, argument, re
 use Rattle.system.specs.System.{System, strategy}
 use Rattle.system.specs.Rules.{squareRule}
 use Rattle.system.specs.Terms.{Forest, empty, more, Whole, WellFormed}
-use Rattle.system.specs.Parser.{Parsed, ok, fault, read}
-use Rattle.system.specs.Answers.{answerOf}
-use Rattle.system.specs.Book.{systemOf}
+use Rattle.reader.specs.Parser.{Parsed, ok, fault, read}
+use Rattle.reader.specs.Answers.{answerOf}
+use Rattle.reader.specs.Book.{systemOf}
 use Rattle.system.proofs.BuiltIns.{eager, literal-is, range-builtin, arity-one, arity-none, strategy-eager}
 use Rattle.system.proofs.SquareLaw.{square-below, square-rises}
 use Rattle.system.proofs.Signatures.{symbol-builtin, arity-unlisted, few-listed}
 use Rattle.system.proofs.Rules.{strategy-unlisted}
 use Rattle.system.proofs.FaultNumbers.{fault-not-zero}
-use Rattle.system.proofs.Accepts.{read-sound}
+use Rattle.reader.proofs.Accepts.{read-sound}
 use Rattle.matching.specs.Matching.{Contraction, computedContraction, contraction}
 use Rattle.matching.proofs.Computed.{computed-square}
 use Rattle.matching.proofs.Firsts.{contraction-computed, first-high}

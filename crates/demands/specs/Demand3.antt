@@ -4,8 +4,8 @@ use Prim.Native.Nat.{ℕ, zero, suc, _≤_}
 use mathlib.Core.Path.{_≡_}
 use mathlib.Core.List.{List}
 use lib.ListN.{length}
-use Rattle.system.specs.Answers.{termAnswer}
-use Rattle.system.specs.Book.{systemOf}
+use Rattle.reader.specs.Answers.{termAnswer}
+use Rattle.reader.specs.Book.{systemOf}
 use Rattle.matching.specs.StrategyTest.{PassedBook}
 use Rattle.rewriting.specs.Evaluation.{Limits, Config, unrecorded, steps, finished, evaluation}
 use Rattle.rewriting.specs.Outcomes.{Done, Stable}

@@ -5,8 +5,8 @@ use mathlib.Core.List.{List, [], _∷_}
 use lib.ListN.{length, getD}
 use Rattle.system.specs.Limits.{areaWords, termWords}
 use Rattle.system.specs.BuiltIns.{literal, square, squareLaw}
-use Rattle.system.specs.Parser.{read}
-use Rattle.system.specs.Answers.{answerOf}
+use Rattle.reader.specs.Parser.{read}
+use Rattle.reader.specs.Answers.{answerOf}
 use Rattle.evaluation.specs.Expansion.{Expansion, handedBack}
 
 -- "Word 16642 is 'curve', one argument": curve(level n)

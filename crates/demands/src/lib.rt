@@ -9,17 +9,17 @@ ghost use Rattle.replay.specs.Replaying.{asAnswer};
 ghost use Rattle.demands.specs.Retracing.{retracing, IsRetraced};
 ghost use Rattle.demands.specs.Demand3.{IsDone, IsHandedBack, IsFound, secondly, RestsAgain};
 ghost use Rattle.demands.specs.Square.{squareOf, IsSquared, NeverFalls};
-use evaluation::recording::Bounds;
 use evaluation::scanned::expand_scanned;
 use evaluation::scanned::expand_within;
 use matching::safety::test;
+use reader::scan::scan_book;
+use records::recording::Bounds;
 use replay::Replayed;
 use replay::scanned::replay_scanned;
 use system::Answer;
 use system::built_ins::LITERAL;
 use system::built_ins::SQUARE;
 use system::numbers::TAKEN;
-use system::reader::scan_book;
 
 pub mod weighed;
 

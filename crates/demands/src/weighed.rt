@@ -6,11 +6,11 @@ ghost use Rattle.rewriting.specs.Evaluation.{unrecorded, recorded};
 ghost use Rattle.termination.specs.WeightTest.{weightsAnswer, weightLimit};
 ghost use Rattle.evaluation.specs.Expansion.{result, expansion, recordAfter};
 ghost use Rattle.demands.specs.Finite.{IsFinite, NeverSpent};
-use evaluation::recording::Bounds;
 use evaluation::scanned::expand_scanned;
 use evaluation::scanned::expand_within;
+use reader::scan::scan_book;
+use records::recording::Bounds;
 use system::Answer;
-use system::reader::scan_book;
 use termination::testing::test;
 use termination::weighing::weigh;
 

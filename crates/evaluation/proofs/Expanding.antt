@@ -12,22 +12,24 @@ use Rattle.system.specs.Limits.{areaWords, termWords}
 use Rattle.buffers.specs.Words.{over, zeros}
 use Rattle.buffers.proofs.Pads.{length-zeros}
 use Rattle.system.specs.declared.Answer.{Answer}
-use Rattle.system.specs.declared.Shape.{Shape}
+use Rattle.reader.specs.declared.Shape.{Shape}
 use Rattle.system.specs.Terms.{Whole, WellFormed}
-use Rattle.system.specs.Parser.{read, ok}
-use Rattle.system.specs.Answers.{shapeOf, termAnswer}
-use Rattle.system.proofs.Accepts.{read-sound}
-use Rattle.system.proofs.Answering as answering
+use Rattle.reader.specs.Parser.{read, ok}
+use Rattle.reader.specs.Answers.{shapeOf, termAnswer}
+use Rattle.reader.proofs.Accepts.{read-sound}
+use Rattle.terms.proofs.Answering as answering
 use Rattle.system.proofs.TermChecks.{fault-whole}
-use Rattle.system.specs.Book.{systemOf, Accepted}
+use Rattle.reader.specs.Book.{systemOf, Accepted}
 use Rattle.rows.specs.declared.gap.Gap.{Gap}
 use Rattle.rows.specs.gap.Gaps.{closed, termIn, wordsIn, Lies}
 use Rattle.rows.proofs.gap.Closed.{closed-length}
 use Rattle.rewriting.specs.Evaluation.{Limits, Outcome, finished, stopped, evaluation}
-use Rattle.evaluation.specs.declared.run.RunResult.{RunResult}
-use Rattle.evaluation.specs.run.RunResult.{outcomeNumber, left, Ran}
-use Rattle.evaluation.specs.recording.Kept.{kept}
-use Rattle.evaluation.specs.Expansion.{Expansion, result, expansionOf, room, earlier, checked, afterChecks, traceOf, keep, recordAfter}
+use Rattle.runs.specs.declared.run.RunResult.{RunResult}
+use Rattle.runs.specs.run.RunResult.{outcomeNumber, left, Ran}
+use Rattle.records.specs.recording.Kept.{kept}
+use Rattle.evaluation.specs.Expansion.{Expansion, result, expansionOf, room, earlier, checked, afterChecks, recordAfter}
+use Rattle.rewriting.specs.Evaluation.{traceOf}
+use Rattle.rewriting.specs.Trace.{keep}
 
 -- ---- what the check of a term tells
 

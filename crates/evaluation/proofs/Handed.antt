@@ -7,13 +7,13 @@ use lib.ListN.{length}
 use lib.Seq.{length-sets}
 use Rattle.system.specs.Limits.{areaWords, termWords}
 use Rattle.system.specs.Numbers.{Limit, spent, overlong, nested, full, limitNumber}
-use Rattle.system.specs.Answers.{termAnswer}
-use Rattle.system.specs.Book.{systemOf}
+use Rattle.reader.specs.Answers.{termAnswer}
+use Rattle.reader.specs.Book.{systemOf}
 use Rattle.rewriting.specs.Evaluation.{Limits, Config, steps, Outcome, finished, stopped, evaluation}
 use Rattle.rewriting.specs.Outcomes.{Done}
 use Rattle.rewriting.proofs.Done.{theorem-done, steps-last}
 use Rattle.evaluation.specs.Expansion.{Expansion, expansionOf, expansion, handedBack}
-use Rattle.evaluation.proofs.Records.{written}
+use Rattle.records.proofs.Records.{written}
 use Rattle.evaluation.proofs.Expanding.{Checks, checks, checks-well, Course, narrow, wrong, runs, course}
 
 -- no limit has number 0

@@ -7,10 +7,10 @@ use lib.Dec.{leb}
 use Rattle.buffers.specs.Words.{over, zeros}
 use Rattle.system.specs.declared.Answer.{Answer}
 use Rattle.system.specs.Numbers.{taken, cramped, numberOf, limitNumber}
-use Rattle.system.specs.Answers.{termAnswer}
-use Rattle.system.specs.Book.{systemOf}
-use Rattle.rewriting.specs.Trace.{Trace, inOrder}
-use Rattle.rewriting.specs.Evaluation.{Limits, steps, Outcome, finished, stopped, evaluation}
+use Rattle.reader.specs.Answers.{termAnswer}
+use Rattle.reader.specs.Book.{systemOf}
+use Rattle.rewriting.specs.Trace.{keep}
+use Rattle.rewriting.specs.Evaluation.{Limits, steps, Outcome, finished, stopped, evaluation, traceOf}
 use Rattle.system.specs.Limits.{areaWords, termWords}
 
 -- the three numbers, the answer buffer and the work buffer
@@ -64,15 +64,6 @@ abbrev pub handedBack : Expansion → List ℕ
 handedBack x = take (x .numbers .place) (x .answer)
 
 -- ---- the record (02, F-3)
-
--- the steps that an outcome reports
-abbrev pub traceOf : Outcome → Trace
-traceOf (finished r) = r .trace
-traceOf (stopped n h) = h
-
--- "the record holds the pairs of the steps reported, its other words unchanged"
-unfoldable pub keep : List ℕ → Trace → List ℕ
-keep words h = over words 0 (inOrder h [])
 
 -- "After any answer": where a check refuses the call, no step is reported
 unfoldable pub recordAfter : List ℕ → List ℕ → Limits → List ℕ → List ℕ → List ℕ → List ℕ

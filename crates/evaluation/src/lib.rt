@@ -5,13 +5,11 @@ ghost use lib.ListN.{length};
 ghost use Rattle.rewriting.specs.Evaluation.{unrecorded, recorded};
 ghost use Rattle.evaluation.specs.Expansion.{result, expansion, recordAfter};
 
-pub mod recording;
-pub mod run;
 pub mod scanned;
 
-use crate::recording::Bounds;
+use reader::scan::scan_book;
+use records::recording::Bounds;
 use system::Answer;
-use system::reader::scan_book;
 
 // Expands a term (01: a cue) over a book, with at most `limit` steps (01: the allowance).
 //

@@ -4,25 +4,25 @@ ghost use mathlib.Core.Bool.{cond};
 ghost use Prim.Native.Nat.{_≤_};
 ghost use lib.ListN.{length};
 ghost use Rattle.buffers.specs.Words.{over, zeros};
-ghost use Rattle.system.specs.Answers.{termAnswer};
+ghost use Rattle.reader.specs.Answers.{termAnswer};
 ghost use Rattle.system.specs.Limits.{areaWords, termWords};
-ghost use Rattle.system.specs.Parser.{read};
-ghost use Rattle.system.specs.reader.Sections.{scanOf};
+ghost use Rattle.reader.specs.Parser.{read};
+ghost use Rattle.reader.specs.scan.Sections.{scanOf};
 ghost use Rattle.rows.specs.gap.Gaps.{Lies, termIn};
 ghost use Rattle.rewriting.specs.Evaluation.{unrecorded};
 ghost use Rattle.evaluation.specs.Expansion.{result, room, earlier, expansion, recordAfter};
-ghost use Rattle.evaluation.specs.recording.Kept.{limitsOf};
-use crate::recording::Bounds;
-use crate::run::run;
+ghost use Rattle.records.specs.recording.Kept.{limitsOf};
+use reader::scan::Scan;
+use records::recording::Bounds;
 use rows::gap::Gap;
 use rows::gap::words;
+use runs::run::run;
 use system::Answer;
 use system::limits::AREA_WORDS;
 use system::limits::TERM_WORDS;
 use system::numbers::CRAMPED;
 use system::numbers::TAKEN;
-use system::reader::Scan;
-use system::terms::check;
+use terms::checking::check;
 
 // What `expand` does, over a book that was scanned.
 pub fn expand_scanned(

@@ -1,4 +1,2 @@
 -- All of it is inner: no public contract rests on it
 pub mod advance
-pub mod rewrites
-pub mod steps

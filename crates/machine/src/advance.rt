@@ -1,23 +1,23 @@
 // The machine in an area of lent words: from a state to just before its next rewrite, without recursion.
 ghost use mathlib.Core.Path.{_≡_};
-ghost use Rattle.system.specs.Book.{systemOf, Accepted};
+ghost use Rattle.reader.specs.Book.{systemOf, Accepted};
 ghost use Rattle.machine.specs.declared.advance.Stop.the-variants.{Ready};
 ghost use Rattle.machine.specs.advance.Area.{Tracks};
 ghost use Rattle.machine.specs.advance.Transition.{sinceAt, Performed};
 ghost use Rattle.machine.specs.advance.Arrivals.{Advances};
-ghost use Rattle.system.specs.layout.Index.{Indexed};
-use matching::redexes::BINDINGS;
-use matching::redexes::Redex;
-use matching::redexes::Spot;
-use matching::redexes::first_redex;
+ghost use Rattle.layout.specs.index.Index.{Indexed};
+use layout::entries::Entry;
+use layout::entries::entry_of;
 use matching::rules::UNNUMBERED;
+use reader::Shape;
+use redexes::search::BINDINGS;
+use redexes::search::Redex;
+use redexes::search::Spot;
+use redexes::search::first_redex;
 use rows::gap::Gap;
 use rows::gap::word_at;
 use rows::lengths::COUNTS;
 use rows::lengths::hop;
-use system::Shape;
-use system::layout::entries::Entry;
-use system::layout::entries::entry_of;
 use system::limits::LEVELS;
 use system::words::wide;
 

@@ -14,9 +14,9 @@ use Rattle.system.specs.Limits.{variable, variables}
 use Rattle.system.specs.Signature.{Signature, span, subterm}
 use Rattle.system.specs.System.{Rule, noRule, instance}
 use Rattle.system.specs.Terms.{Numbered, end, symbol, next, again, WellFormedRule}
-use Rattle.system.specs.Format.{encodeRules}
+use Rattle.reader.specs.Format.{encodeRules}
 use Rattle.system.proofs.Members.{member-getD, numbered-le}
-use Rattle.system.proofs.Located.{RuleAt, rule-encoded}
+use Rattle.reader.proofs.Located.{RuleAt, rule-encoded}
 use Rattle.system.proofs.words.SpanSteps.{span-le}
 use Rattle.matching.specs.Matching.{sameWords, bind, Contraction, firstMatch}
 use Rattle.matching.specs.declared.Match.{Match}

@@ -6,8 +6,8 @@ use Rattle.system.specs.BuiltIns.{isBuiltIn, isBinary, builtInArity, builtInStr
 use Rattle.system.specs.Signature.{isSymbol, arity, span, argument}
 use Rattle.system.specs.System.{strategy}
 use Rattle.system.specs.Terms.{occurs}
-use Rattle.system.specs.Parser.{read, readSystem, readRules, readEnd, readRule, readSide, readWords, readStrategy, number, word, learn, sideFault, symbolFault, variableFault, outside, each, times}
-use Rattle.system.specs.Cases.{Hold, bookB, earlyB}
+use Rattle.reader.specs.Parser.{read, readSystem, readRules, readEnd, readRule, readSide, readWords, readStrategy, number, word, learn, sideFault, symbolFault, variableFault, outside, each, times}
+use Rattle.reader.specs.Cases.{Hold, bookB, earlyB}
 use Rattle.matching.specs.StrategyTest.{passes, every, closes, idles, idleTest, heldOnce, constructs, firstFailing, testAnswer}
 use Rattle.matching.specs.Cases.{testing, strategyCases}
 

@@ -6,9 +6,9 @@ use mathlib.Core.Option.{some}
 use mathlib.Core.List.{List, [], _++_}
 use Rattle.system.specs.System.{Rule}
 use Rattle.system.specs.Rules.{RuleOf}
-use Rattle.system.specs.Answers.{shapeOf}
-use Rattle.system.specs.Parser.{read}
-use Rattle.system.specs.Book.{systemOf, Accepted}
+use Rattle.reader.specs.Answers.{shapeOf}
+use Rattle.reader.specs.Parser.{read}
+use Rattle.reader.specs.Book.{systemOf, Accepted}
 use Rattle.matching.specs.declared.Match.{Match}
 use Rattle.matching.specs.declared.FirstRule.the-variants.{Nothing}
 use Rattle.matching.specs.Matching.{Matches, Contraction, FirstMatch}

@@ -10,18 +10,18 @@ use mathlib.Core.List.{List, [], _∷_, _++_}
 use lib.ListN.{length, getD, take, drop, length-append, drop-of-length-le}
 use lib.Seq.{drop-cons}
 use borrow.Author.Tests.{lt-ltb, le-ltb}
-use Rattle.system.specs.declared.Shape.{Shape}
+use Rattle.reader.specs.declared.Shape.{Shape}
 use Rattle.system.specs.Limits.{variable}
 use Rattle.system.specs.System.{System, Rule, rule, instance}
 use Rattle.system.specs.Rules.{RuleOf, listed, builtIn}
 use Rattle.system.specs.Terms.{Whole, WellFormedRule}
-use Rattle.system.specs.Answers.{signatureOf}
+use Rattle.system.specs.Signature.{signatureOf}
 use Rattle.system.proofs.Signatures.{few-symbols, few-listed}
 use Rattle.system.proofs.Rules.{built-ground}
 use Rattle.matching.specs.declared.Match.{Match}
 use Rattle.matching.specs.declared.FirstRule.{FirstRule}
 use Rattle.matching.specs.declared.FirstRule.the-variants.{Nothing, First, Computed}
-use Rattle.system.specs.Book.{systemOf, Accepted}
+use Rattle.reader.specs.Book.{systemOf, Accepted}
 use Rattle.matching.specs.Matching.{FirstMatch, Matches, bind, Contraction, contraction}
 use Rattle.matching.specs.Bindings.{Bindings, matchListed, matchOf, value, bindingsOf, contractionOf}
 use Rattle.matching.specs.rules.Searches.{reductLength, RightSideAt, Within}
@@ -31,7 +31,7 @@ use Rattle.matching.proofs.Firsts.{contraction-rest, fired, unfired}
 use Rattle.matching.proofs.Stretches.{value-length}
 use Rattle.matching.proofs.BindingsAgree.{Chosen}
 use Rattle.matching.proofs.Sources.{found, all-within, match-listed, match-computed, match-contraction}
-use Rattle.system.proofs.layout.Books.{well, signature}
+use Rattle.layout.proofs.Books.{well, signature}
 
 -- ---- lengths
 

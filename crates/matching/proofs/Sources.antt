@@ -5,17 +5,17 @@ use mathlib.Core.Path.{_≡_, refl, sym, ap, _∙_}
 use mathlib.Core.Option.{Option, none, some}
 use mathlib.Core.List.{List}
 use lib.ListN.{getD, take, drop}
-use Rattle.system.specs.declared.Shape.{Shape}
+use Rattle.reader.specs.declared.Shape.{Shape}
 use Rattle.system.specs.Numbers.{Fault}
 use Rattle.system.specs.BuiltIns.{literal}
 use Rattle.system.specs.System.{System, instance}
-use Rattle.system.specs.Answers.{signatureOf}
-use Rattle.system.specs.declared.reader.Scan.{Scan}
-use Rattle.system.specs.Parser.{Parsed, ok, fault, read}
-use Rattle.system.specs.reader.Sections.{scanOf}
-use Rattle.system.specs.Book.{systemOf, Accepted}
-use Rattle.system.proofs.layout.Accepting.{scan-accepted}
-use Rattle.system.proofs.layout.Books.{well, signature, first-rest, wellFormedRules, rule-count}
+use Rattle.system.specs.Signature.{signatureOf}
+use Rattle.reader.specs.declared.scan.Scan.{Scan}
+use Rattle.reader.specs.Parser.{Parsed, ok, fault, read}
+use Rattle.reader.specs.scan.Sections.{scanOf}
+use Rattle.reader.specs.Book.{systemOf, Accepted}
+use Rattle.layout.proofs.Accepting.{scan-accepted}
+use Rattle.layout.proofs.Books.{well, signature, first-rest, wellFormedRules, rule-count}
 use Rattle.matching.specs.declared.Match.{Match}
 use Rattle.matching.specs.declared.FirstRule.{FirstRule}
 use Rattle.matching.specs.declared.FirstRule.the-variants.{Nothing, First, Computed}

@@ -8,18 +8,18 @@ use mathlib.Core.Option.{Option, none, some}
 use mathlib.Core.List.{List, [], _∷_, _++_}
 use lib.ListN.{length, getD, take, drop, length-append, length-drop, take-append-drop}
 use lib.Seq.{take-append-le, drop-append-le}
-use Rattle.system.specs.declared.Shape.{Shape}
+use Rattle.reader.specs.declared.Shape.{Shape}
 use Rattle.system.specs.Limits.{variable}
 use Rattle.system.specs.Signature.{Signature, Symbol, span}
 use Rattle.system.specs.System.{System, Rule, rule, noRule, instance}
 use Rattle.system.specs.Terms.{Whole, Member, WellFormedRule}
-use Rattle.system.specs.Format.{encodeStrategies, encodeRules}
-use Rattle.system.specs.Book.{systemOf, Accepted}
+use Rattle.reader.specs.Format.{encodeStrategies, encodeRules}
+use Rattle.reader.specs.Book.{systemOf, Accepted}
 use Rattle.system.proofs.Signatures.{few-symbols, symbol-below}
 use Rattle.system.proofs.Members.{numbered-below}
 use Rattle.system.proofs.Forests.{Wholes}
-use Rattle.system.proofs.Located.{RuleAt, rule-encoded}
-use Rattle.system.proofs.layout.Books.{well, sections}
+use Rattle.reader.proofs.Located.{RuleAt, rule-encoded}
+use Rattle.layout.proofs.Books.{well, sections}
 use Rattle.matching.specs.declared.Match.{Match}
 use Rattle.matching.specs.declared.FirstRule.the-variants.{First}
 use Rattle.matching.specs.Matching.{bind, contraction}

@@ -12,16 +12,16 @@ use Rattle.system.specs.Numbers.{Fault, unsettled, numberOf}
 use Rattle.system.specs.Signature.{Listed}
 use Rattle.system.specs.System.{System}
 use Rattle.system.specs.Terms.{WellFormed}
-use Rattle.system.specs.declared.reader.Scan.{Scan}
-use Rattle.system.specs.Parser.{Parsed, ok, fault, read}
-use Rattle.system.specs.Answers.{answerOf}
-use Rattle.system.specs.reader.Sections.{scanOf}
-use Rattle.system.proofs.Accepts.{read-sound}
+use Rattle.reader.specs.declared.scan.Scan.{Scan}
+use Rattle.reader.specs.Parser.{Parsed, ok, fault, read}
+use Rattle.reader.specs.Answers.{answerOf}
+use Rattle.reader.specs.scan.Sections.{scanOf}
+use Rattle.reader.proofs.Accepts.{read-sound}
 use Rattle.system.proofs.FaultNumbers.{fault-range, fault-not-zero}
 use Rattle.system.proofs.BuiltIns.{range-builtin, refuted}
 use Rattle.system.proofs.Signatures.{symbol-lt, symbol-cases}
-use Rattle.system.specs.Book.{systemOf}
-use Rattle.system.proofs.layout.Accepting.{reads-system, scan-accepted}
+use Rattle.reader.specs.Book.{systemOf}
+use Rattle.layout.proofs.Accepting.{reads-system, scan-accepted}
 use Rattle.matching.specs.Safety.{Passes, Safe, FailsFirst, SafeBook, UnsafeBook, Tells}
 use Rattle.matching.specs.StrategyTest.{passes, firstUnsafe, safetyAnswer, testAnswer, PassedBook}
 use Rattle.matching.proofs.FirstFailing.{none-all, all-none, some-lowest, lowest-some}

@@ -8,8 +8,8 @@ use lib.Dec.{ltb, leb, eqb}
 use Rattle.system.specs.Limits.{variable, variables}
 use Rattle.system.specs.Signature.{Signature, span}
 use Rattle.system.specs.System.{System, Rule, instance}
-use Rattle.system.specs.Format.{encodeStrategies}
-use Rattle.system.specs.Parser.{ok, fault, read}
+use Rattle.reader.specs.Format.{encodeStrategies}
+use Rattle.reader.specs.Parser.{ok, fault, read}
 use Rattle.matching.specs.declared.Match.{Match}
 use Rattle.matching.specs.declared.FirstRule.{FirstRule}
 use Rattle.matching.specs.declared.FirstRule.the-variants.{Nothing, First, Computed}

@@ -1,7 +1,7 @@
 -- The starred case of the strategy test (01: "Rehearsal cues"), which carries on the reader's table. What is expected is written from 01.
 use Prim.Native.Nat.{ℕ}
 use mathlib.Core.List.{List, [], _∷_}
-use Rattle.system.specs.Cases.{Case, numbers, bookB, earlyB}
+use Rattle.reader.specs.Cases.{Case, numbers, bookB, earlyB}
 use Rattle.matching.specs.StrategyTest.{testAnswer}
 
 abbrev pub testing : List ℕ → List ℕ

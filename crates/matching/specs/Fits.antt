@@ -9,8 +9,8 @@ use Rattle.system.specs.Numbers.{Fault}
 use Rattle.system.specs.System.{Rule}
 use Rattle.system.specs.Rules.{RuleOf}
 use Rattle.system.specs.Terms.{Whole}
-use Rattle.system.specs.Parser.{ok, fault, read}
-use Rattle.system.specs.Book.{systemOf}
+use Rattle.reader.specs.Parser.{ok, fault, read}
+use Rattle.reader.specs.Book.{systemOf}
 use Rattle.matching.specs.declared.Match.{Match}
 use Rattle.matching.specs.declared.FirstRule.the-variants.{Nothing}
 use Rattle.matching.specs.Matching.{Matches, Contraction, FirstMatch}

@@ -4,6 +4,5 @@ pub mod Fits
 pub mod Safety
 pub mod StrategyTest
 pub mod Cases
--- Inner: the search over the rules
+-- Inner: the search among the rules
 pub mod rules
-pub mod redexes

@@ -11,9 +11,9 @@ use Rattle.system.specs.Signature.{Signature, Symbol, Listed, argument}
 use Rattle.system.specs.System.{System, Rule, strategy, head}
 use Rattle.system.specs.Rules.{RuleOf}
 use Rattle.system.specs.Terms.{Member, occurs}
-use Rattle.system.specs.Book.{systemOf}
-use Rattle.system.specs.Parser.{ok, fault, read}
-use Rattle.system.specs.Answers.{answerOf}
+use Rattle.reader.specs.Book.{systemOf}
+use Rattle.reader.specs.Parser.{ok, fault, read}
+use Rattle.reader.specs.Answers.{answerOf}
 
 -- the first word of the argument with i others before it
 abbrev pub argumentWord : Signature → List ℕ → ℕ → ℕ

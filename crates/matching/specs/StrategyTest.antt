@@ -12,8 +12,8 @@ use Rattle.system.specs.Limits.{variable}
 use Rattle.system.specs.Signature.{Signature}
 use Rattle.system.specs.System.{System, Rule, strategy, head}
 use Rattle.system.specs.Terms.{occurs}
-use Rattle.system.specs.Parser.{ok, fault, read}
-use Rattle.system.specs.Answers.{answerOf}
+use Rattle.reader.specs.Parser.{ok, fault, read}
+use Rattle.reader.specs.Answers.{answerOf}
 use Rattle.matching.specs.Safety.{argumentWord}
 
 -- a test that every rule passes

@@ -1,18 +1,16 @@
-// Matching a left side, the first rule that matches, and the strategy test (01: the order test): the second library, built on the
-// contracts of `system` and `rows`. The two operations here ask nothing of their caller; `redexes`, `rules` and `safety::test` are the inner
-// interface for the layers above, over a book that was scanned.
+// Matching a left side, the first rule that matches, and the strategy test (01: fitting with the order test): the second library. Its operations
+// ask nothing of their caller; `rules`, `operators` and `safety` are the inner interface for the layers above.
 ghost use mathlib.Core.Path.{_≡_};
 ghost use Rattle.matching.specs.Bindings.{matchIn};
 ghost use Rattle.matching.specs.Fits.{TellsMatch};
 ghost use Rattle.matching.specs.Safety.{Tells};
 ghost use Rattle.matching.specs.StrategyTest.{testAnswer};
+use reader::scan::scan_book;
 use system::Answer;
 use system::limits::VARIABLES;
 use system::numbers::TAKEN;
-use system::reader::scan_book;
 
-mod operators;
-pub mod redexes;
+pub mod operators;
 pub mod rules;
 pub mod safety;
 

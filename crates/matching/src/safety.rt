@@ -1,21 +1,21 @@
 // The strategy test, symbol by symbol, over an accepted book whose shape is known.
 ghost use mathlib.Core.Path.{_≡_};
 ghost use mathlib.Core.Bool.{not};
-ghost use Rattle.system.specs.Parser.{read};
-ghost use Rattle.system.specs.Answers.{signatureOf};
-ghost use Rattle.system.specs.reader.Sections.{scanOf};
+ghost use Rattle.reader.specs.Parser.{read};
+ghost use Rattle.system.specs.Signature.{signatureOf};
+ghost use Rattle.reader.specs.scan.Sections.{scanOf};
 ghost use Rattle.system.specs.System.{strategy};
 ghost use Rattle.system.specs.Terms.{occurs};
-ghost use Rattle.system.specs.Book.{systemOf, Accepted};
-ghost use Rattle.system.specs.layout.Accepted.{StrategyAt};
+ghost use Rattle.reader.specs.Book.{systemOf, Accepted};
+ghost use Rattle.layout.specs.index.Accepted.{StrategyAt};
 ghost use Rattle.matching.specs.StrategyTest.{heldOnce, idleTest, closes, constructs, passes, firstUnsafe, safetyAnswer, testAnswer};
+use layout::rules::rule_at;
+use reader::Shape;
+use reader::scan::Scan;
 use system::Answer;
-use system::Shape;
-use system::layout::rules::rule_at;
 use system::limits::VARIABLE;
 use system::numbers::TAKEN;
 use system::numbers::UNSETTLED;
-use system::reader::Scan;
 use system::words::spans;
 use system::words::wide;
 

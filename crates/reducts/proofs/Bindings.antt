@@ -6,7 +6,7 @@ use mathlib.Core.List.{List}
 use lib.ListN.{length, getD, drop, length-drop}
 use lib.Seq.{getD-take, getD-drop}
 use Rattle.system.specs.Limits.{variables}
-use Rattle.matching.specs.redexes.Redexes.{bindingWords}
+use Rattle.redexes.specs.search.Redexes.{bindingWords}
 use Rattle.reducts.specs.sides.Sides.{stretchesIn}
 
 module _ (bs : List ℕ) where

@@ -4,7 +4,7 @@ ghost use Prim.Native.Nat.{_-_, _≤_};
 ghost use lib.ListN.{length, drop};
 ghost use Rattle.system.specs.Limits.{variables};
 ghost use Rattle.matching.specs.rules.Searches.{reductLength};
-ghost use Rattle.matching.specs.redexes.Redexes.{bindingWords};
+ghost use Rattle.redexes.specs.search.Redexes.{bindingWords};
 ghost use Rattle.reducts.specs.sides.Sides.{Sided};
 use system::limits::VARIABLE;
 use system::limits::VARIABLES;

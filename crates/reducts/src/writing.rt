@@ -2,7 +2,7 @@
 ghost use mathlib.Core.Path.{_≡_};
 ghost use Prim.Native.Nat.{_≤_};
 ghost use Rattle.buffers.specs.moves.Parts.{part};
-ghost use Rattle.system.specs.Answers.{signatureOf};
+ghost use Rattle.system.specs.Signature.{signatureOf};
 ghost use Rattle.rows.specs.lengths.Written.{Written};
 ghost use Rattle.reducts.specs.sides.Sides.{stretchesIn};
 ghost use Rattle.reducts.specs.writing.Reduct.{stretchAt, Stretchable, Writable, reduct};

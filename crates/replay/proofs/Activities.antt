@@ -13,7 +13,7 @@ use Rattle.system.specs.Signature.{Signature, arity, span, argument}
 use Rattle.system.specs.System.{System, strategy}
 use Rattle.system.specs.Terms.{Forest, empty, more, Whole, WellFormed, among}
 use Rattle.system.proofs.Forests.{span-zero}
-use Rattle.system.proofs.layout.entries.Repeats.{among-member, member-among}
+use Rattle.layout.proofs.entries.Repeats.{among-member, member-among}
 use Rattle.rewriting.specs.Rewriting.{Active, root, below}
 use Rattle.rewriting.proofs.Laws.{next-entry}
 use Rattle.rewriting.proofs.Actives.{active-whole, at-parted}

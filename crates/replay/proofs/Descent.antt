@@ -12,7 +12,7 @@ use Rattle.system.specs.System.{System, strategy}
 use Rattle.system.specs.Terms.{Whole, Member, WellFormed, among}
 use Rattle.system.proofs.Forests.{span-forest}
 use Rattle.system.proofs.words.SpanSteps.{span-le}
-use Rattle.system.proofs.layout.entries.Repeats.{among-member}
+use Rattle.layout.proofs.entries.Repeats.{among-member}
 use Rattle.rewriting.specs.Rewriting.{root, below}
 use Rattle.rewriting.proofs.Actives.{active-whole, at-parted}
 use Rattle.rewriting.proofs.Contractions.{active-within}

@@ -7,20 +7,22 @@ use mathlib.Core.Logic.{_⊎_, inl, inr}
 use mathlib.Core.Option.{Option, none, some}
 use mathlib.Core.List.{List, []}
 use lib.ListN.{length, take}
-use Rattle.system.specs.Answers.{wholeAnswer, termAnswer}
-use Rattle.system.specs.Parser.{Parsed, ok, fault, read}
+use Rattle.reader.specs.Answers.{wholeAnswer, termAnswer}
+use Rattle.reader.specs.Parser.{Parsed, ok, fault, read}
 use Rattle.system.specs.TermCheck.{termFault}
 use Rattle.system.proofs.FaultNumbers.{fault-range}
-use Rattle.system.specs.Book.{systemOf}
+use Rattle.reader.specs.Book.{systemOf}
 use Rattle.system.specs.Limits.{areaWords, termWords}
 use Rattle.system.specs.System.{System}
 use Rattle.rewriting.specs.Trace.{Trace, inOrder}
 use Rattle.rewriting.specs.Evaluation.{Config, recorded, start}
 use Rattle.rewriting.specs.Rewriting.{Path}
 use Rattle.rewriting.proofs.Done.{path-last}
-use Rattle.evaluation.specs.Expansion.{Expansion, expansion, traceOf, keep, recordAfter, handedBack}
+use Rattle.evaluation.specs.Expansion.{Expansion, expansion, recordAfter, handedBack}
+use Rattle.rewriting.specs.Evaluation.{traceOf}
+use Rattle.rewriting.specs.Trace.{keep}
 use Rattle.evaluation.proofs.Expanding.{Checks, checks, checks-well, Course, narrow, wrong, runs, course, Passed, evaluates, record-told}
-use Rattle.evaluation.proofs.Records.{written, keep-cut}
+use Rattle.records.proofs.Records.{written, keep-cut}
 use Rattle.evaluation.proofs.Handed.{handed, handed-checks, handed-done, handed-numbers, handed-words}
 use Rattle.replay.specs.Replay.{Replay, followed, mistold, exceeded, replay, Verdict, accepted}
 use Rattle.replay.specs.Replaying.{replayOf, replaying, AcceptsExactly, NoStep, IsMistold}

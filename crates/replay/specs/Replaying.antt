@@ -7,9 +7,9 @@ use Rattle.buffers.specs.Words.{over, zeros}
 use Rattle.system.specs.declared.Answer.{Answer}
 use Rattle.system.specs.Numbers.{taken, stopping, overlong, untrue, numberOf}
 use Rattle.system.specs.Limits.{areaWords, termWords}
-use Rattle.system.specs.Answers.{termAnswer}
+use Rattle.reader.specs.Answers.{termAnswer}
 use Rattle.system.specs.System.{System}
-use Rattle.system.specs.Book.{systemOf}
+use Rattle.reader.specs.Book.{systemOf}
 use Rattle.rewriting.specs.Trace.{Trace, inOrder}
 use Rattle.rewriting.specs.Evaluation.{start, steps}
 use Rattle.rewriting.specs.Rewriting.{Step, Path}

@@ -8,7 +8,7 @@ pub mod retrace;
 pub mod scanned;
 pub mod walk;
 
-use system::reader::scan_book;
+use reader::scan::scan_book;
 
 // Three numbers, as those of an answer; but a record may have more pairs than 32 bits tell.
 pub struct Replayed {

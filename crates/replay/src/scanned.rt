@@ -1,16 +1,16 @@
 // The replay over a book that was scanned: its checks, the pairs followed in the work buffer, and what is handed back.
 ghost use mathlib.Core.Path.{_≡_};
-ghost use Rattle.system.specs.Parser.{read};
-ghost use Rattle.system.specs.reader.Sections.{scanOf};
+ghost use Rattle.reader.specs.Parser.{read};
+ghost use Rattle.reader.specs.scan.Sections.{scanOf};
 ghost use Rattle.evaluation.specs.Expansion.{result};
 ghost use Rattle.replay.specs.Replaying.{asAnswer, replaying};
 use crate::Replayed;
 use crate::retrace::retrace;
 use evaluation::scanned::check_call;
 use evaluation::scanned::hand_back;
+use reader::scan::Scan;
 use system::limits::AREA_WORDS;
 use system::numbers::TAKEN;
-use system::reader::Scan;
 
 // What `replay` does, over a book that was scanned.
 pub fn replay_scanned(

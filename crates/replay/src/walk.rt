@@ -5,22 +5,22 @@
 // is counted any more").
 ghost use mathlib.Core.Path.{_≡_};
 ghost use Prim.Native.Nat.{_<_};
-ghost use Rattle.system.specs.Book.{systemOf, Accepted};
+ghost use Rattle.reader.specs.Book.{systemOf, Accepted};
 ghost use Rattle.system.specs.Signature.{Signature};
 ghost use Rattle.system.specs.System.{System};
 ghost use Rattle.system.specs.Terms.{WellFormed};
-ghost use Rattle.system.specs.layout.Index.{Indexed};
+ghost use Rattle.layout.specs.index.Index.{Indexed};
 ghost use Rattle.rows.specs.gap.Gaps.{wordsIn, termIn, Gapped};
 ghost use Rattle.rows.specs.lengths.Measured.{Measured};
 ghost use Rattle.replay.specs.walk.Descent.{Readable, within, Above, Held};
 ghost use Rattle.replay.specs.walk.Way.{PointsIn, PointsForSome, Over, Found};
+use layout::entries::stands_in;
+use reader::Shape;
 use rows::gap::Gap;
 use rows::gap::length_at;
 use rows::gap::word_at;
 use rows::gap::words;
 use rows::lengths::COUNTS;
-use system::Shape;
-use system::layout::entries::stands_in;
 use system::words::arity;
 use system::words::wide;
 

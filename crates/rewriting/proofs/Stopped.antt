@@ -13,7 +13,7 @@ use Rattle.system.specs.Numbers.{Limit, spent, overlong, nested, full}
 use Rattle.system.specs.Signature.{argument}
 use Rattle.system.specs.System.{System}
 use Rattle.system.specs.Terms.{Whole, WellFormed}
-use Rattle.system.proofs.Parsed.{drop-head}
+use Rattle.reader.proofs.Parsed.{drop-head}
 use Rattle.matching.specs.Matching.{Contraction, contraction}
 use Rattle.rewriting.specs.Trace.{Trace}
 use Rattle.rewriting.specs.Evaluation.{Limits, hasRoom, Config, start, stepped, steps, Outcome, finished, stopped, evaluation}

@@ -100,3 +100,8 @@ module _ (s : System) (limits : Limits) where
 -- "The whole cue starts at level 1", and there are 64
 unfoldable pub evaluation : System → Limits → List ℕ → Outcome
 evaluation s limits t = evaluate s limits levels 0 (start t)
+
+-- the steps that an outcome reports
+abbrev pub traceOf : Outcome → Trace
+traceOf (finished r) = r .trace
+traceOf (stopped n h) = h

@@ -7,7 +7,7 @@ ghost use lib.ListN.{length, drop};
 ghost use Rattle.buffers.specs.moves.Parts.{part};
 ghost use Rattle.system.specs.Limits.{termWords};
 ghost use Rattle.system.specs.Signature.{Signature, span};
-ghost use Rattle.system.specs.Answers.{signatureOf};
+ghost use Rattle.system.specs.Signature.{signatureOf};
 ghost use Rattle.rows.specs.gap.Gaps.{wordsIn, countsAt, behind, wordRow, termIn, Gapped};
 ghost use Rattle.rows.specs.lengths.Measured.{Measured};
 ghost use Rattle.rows.specs.lengths.Written.{Written, Copyable, Apart, Laid};

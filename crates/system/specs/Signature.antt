@@ -44,3 +44,7 @@ subterm g t p = take (span g (drop p t) 1) (drop p t)
 -- the term with the subterm at p replaced by u
 unfoldable pub replace : Signature → List ℕ → ℕ → List ℕ → List ℕ
 replace g t p u = take p t ++ (u ++ drop (p + span g (drop p t) 1) t)
+
+-- the arities as the words of any book list them, before it is known whether it is accepted
+unfoldable pub signatureOf : List ℕ → Signature
+signatureOf ws = take (getD ws 0 0) (drop 1 ws)

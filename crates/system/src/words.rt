@@ -3,7 +3,7 @@ ghost use mathlib.Core.Path.{_≡_};
 ghost use Prim.Native.Nat.{_≤_};
 ghost use lib.ListN.{length};
 ghost use Rattle.system.specs.Signature.{isSymbol, arity, span};
-ghost use Rattle.system.specs.Answers.{signatureOf};
+ghost use Rattle.system.specs.Signature.{signatureOf};
 use crate::built_ins::built_in_arity;
 use crate::built_ins::is_built_in;
 

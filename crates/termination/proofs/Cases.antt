@@ -2,8 +2,8 @@
 use mathlib.Core.Path.{refl}
 use Rattle.system.specs.BuiltIns.{isLiteral, isBuiltIn, isBinary, builtInArity, smaller}
 use Rattle.system.specs.Signature.{isSymbol, arity}
-use Rattle.system.specs.Parser.{read, readSystem, readRules, readEnd, readRule, readSide, readWords, readStrategy, number, word, learn, sideFault, symbolFault, variableFault, outside, each, times}
-use Rattle.system.specs.Cases.{Hold, bookB}
+use Rattle.reader.specs.Parser.{read, readSystem, readRules, readEnd, readRule, readSide, readWords, readStrategy, number, word, learn, sideFault, symbolFault, variableFault, outside, each, times}
+use Rattle.reader.specs.Cases.{Hold, bookB}
 use Rattle.matching.specs.StrategyTest.{firstFailing}
 use Rattle.termination.specs.Weights.{builtInWeight, wordWeight, weight}
 use Rattle.system.specs.Terms.{occurs}

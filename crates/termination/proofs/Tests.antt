@@ -12,12 +12,12 @@ use Rattle.system.specs.declared.Answer.{Answer}
 use Rattle.system.specs.Numbers.{Fault, misweighed, rising, numberOf}
 use Rattle.system.specs.System.{System, Rule, rule}
 use Rattle.system.specs.Rules.{RuleOf, listed, builtIn}
-use Rattle.system.specs.Parser.{Parsed, ok, fault, read}
-use Rattle.system.specs.Answers.{answerOf}
-use Rattle.system.specs.Book.{systemOf}
+use Rattle.reader.specs.Parser.{Parsed, ok, fault, read}
+use Rattle.reader.specs.Answers.{answerOf}
+use Rattle.reader.specs.Book.{systemOf}
 use Rattle.system.proofs.BuiltIns.{refuted, clash}
 use Rattle.system.proofs.FaultNumbers.{fault-range, fault-not-zero}
-use Rattle.system.proofs.layout.Accepting.{reads-system}
+use Rattle.layout.proofs.Accepting.{reads-system}
 use Rattle.matching.proofs.FirstFailing.{none-all, all-none, some-lowest, lowest-some}
 use Rattle.termination.specs.Weights.{Weights, Falls, Falling, RisesFirst, Weighs}
 use Rattle.termination.specs.WeightTest.{falls, weighs, firstRising, fallAnswer, misweighedAnswer, systemAnswer, weightsAnswer, PassedWeights}

@@ -3,7 +3,7 @@
 use Prim.Native.Nat.{ℕ}
 use mathlib.Core.List.{List, [], _∷_, _++_}
 use lib.ListN.{take, drop}
-use Rattle.system.specs.Cases.{Case, numbers, bookB, cutB}
+use Rattle.reader.specs.Cases.{Case, numbers, bookB, cutB}
 use Rattle.termination.specs.WeightTest.{weightsAnswer, weightLimit}
 
 -- B with other rules: its names are flash 0, then 1 (two arguments), head 2, rest 3 (one each) and chase 4

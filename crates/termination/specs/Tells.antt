@@ -7,9 +7,9 @@ use mathlib.Core.List.{List}
 use lib.ListN.{length}
 use Rattle.system.specs.declared.Answer.{Answer}
 use Rattle.system.specs.Numbers.{Fault}
-use Rattle.system.specs.Book.{systemOf}
-use Rattle.system.specs.Parser.{ok, fault, read}
-use Rattle.system.specs.Answers.{answerOf}
+use Rattle.reader.specs.Book.{systemOf}
+use Rattle.reader.specs.Parser.{ok, fault, read}
+use Rattle.reader.specs.Answers.{answerOf}
 use Rattle.termination.specs.Weights.{Weights, Falling, RisesFirst, Weighs}
 use Rattle.termination.specs.WeightTest.{fallAnswer, misweighedAnswer}
 

@@ -11,8 +11,8 @@ use Rattle.system.specs.Limits.{variable, variables, maxSteps, maxWeight}
 use Rattle.system.specs.Numbers.{taken, misweighed, rising, numberOf}
 use Rattle.system.specs.BuiltIns.{smaller}
 use Rattle.system.specs.System.{System, Rule, rule}
-use Rattle.system.specs.Parser.{ok, fault, read}
-use Rattle.system.specs.Answers.{answerOf}
+use Rattle.reader.specs.Parser.{ok, fault, read}
+use Rattle.reader.specs.Answers.{answerOf}
 use Rattle.matching.specs.StrategyTest.{firstFailing}
 use Rattle.termination.specs.Weights.{Weights, weight}
 use Rattle.system.specs.Terms.{occurs}

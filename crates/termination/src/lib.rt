@@ -4,8 +4,8 @@
 ghost use mathlib.Core.Path.{_≡_};
 ghost use Rattle.termination.specs.Tells.{TellsWeights};
 ghost use Rattle.termination.specs.WeightTest.{weightsAnswer};
+use reader::scan::scan_book;
 use system::Answer;
-use system::reader::scan_book;
 
 mod falling;
 pub mod testing;

@@ -1,19 +1,19 @@
 // The termination test by weights, over a book that was scanned.
 ghost use mathlib.Core.Path.{_≡_};
 ghost use mathlib.Core.Bool.{true};
-ghost use Rattle.system.specs.Parser.{read};
-ghost use Rattle.system.specs.Book.{systemOf, Accepted};
-ghost use Rattle.system.specs.reader.Sections.{scanOf};
+ghost use Rattle.reader.specs.Parser.{read};
+ghost use Rattle.reader.specs.Book.{systemOf, Accepted};
+ghost use Rattle.reader.specs.scan.Sections.{scanOf};
 ghost use Rattle.termination.specs.WeightTest.{inRange, weighs, firstRising, fallAnswer, weightsAnswer};
 use crate::falling::falls;
+use layout::rules::rule_at;
+use reader::Shape;
+use reader::scan::Scan;
 use system::Answer;
-use system::Shape;
-use system::layout::rules::rule_at;
 use system::limits::MAX_WEIGHT;
 use system::numbers::MISWEIGHED;
 use system::numbers::RISING;
 use system::numbers::TAKEN;
-use system::reader::Scan;
 use system::words::wide;
 
 // Whether each weight is from 1 to 1,000.

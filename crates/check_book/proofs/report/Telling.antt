@@ -6,8 +6,8 @@ use mathlib.Core.List.{List}
 use lib.ListN.{length}
 use Rattle.system.specs.declared.Answer.{Answer}
 use Rattle.system.specs.System.{System}
-use Rattle.system.specs.Parser.{Parsed, ok, fault, read}
-use Rattle.system.specs.Answers.{answerOf}
+use Rattle.reader.specs.Parser.{Parsed, ok, fault, read}
+use Rattle.reader.specs.Answers.{answerOf}
 use Rattle.system.proofs.FaultNumbers.{fault-not-zero}
 use Rattle.matching.specs.StrategyTest.{testAnswer}
 use Rattle.printing.specs.Text.{inRoom, Written}

@@ -6,12 +6,12 @@ use mathlib.Core.Bool.{true}
 use mathlib.Core.List.{List, [], _∷_, _++_}
 use lib.ListN.{length, getD, take, drop, length-append}
 use lib.Seq.{take-all, take-suc, length-take-le, append-snoc}
-use Rattle.system.specs.declared.Shape.{Shape}
+use Rattle.reader.specs.declared.Shape.{Shape}
 use Rattle.system.specs.System.{System}
-use Rattle.matching.specs.declared.redexes.Redex.{Redex}
+use Rattle.redexes.specs.declared.search.Redex.{Redex}
 use Rattle.matching.specs.rules.Searches.{unnumbered}
-use Rattle.system.specs.Book.{systemOf, Accepted}
-use Rattle.matching.specs.redexes.Redexes.{redexOf}
+use Rattle.reader.specs.Book.{systemOf, Accepted}
+use Rattle.redexes.specs.search.Redexes.{redexOf}
 use Rattle.machine.specs.declared.advance.State.{State}
 use Rattle.machine.specs.declared.advance.Event.{Event}
 use Rattle.machine.specs.declared.advance.Event.the-variants.{End, Repeated, Rules, Argument}
@@ -20,14 +20,14 @@ use Rattle.rewriting.specs.levels.Opened.{Opened}
 use Rattle.rows.specs.declared.gap.Gap.{Gap}
 use Rattle.rows.specs.gap.Gaps.{termIn}
 use Rattle.rows.specs.lengths.Measured.{Measured}
-use Rattle.system.specs.Answers.{signatureOf}
-use Rattle.system.proofs.layout.Books.{signature}
+use Rattle.system.specs.Signature.{signatureOf}
+use Rattle.layout.proofs.Books.{signature}
 use Rattle.machine.specs.advance.Area.{outerIn, countIn, Stands, Valid, Tracks}
 use Rattle.machine.specs.advance.Transition as to
 use Rattle.machine.specs.advance.Transition.{sinceAt, Transition, countsAfter, Performed}
 use Rattle.machine.specs.advance.Arrivals.{comes}
 use Rattle.rewriting.proofs.Laws.{entry-at}
-use Rattle.system.proofs.layout.entries.Asks.{stood}
+use Rattle.layout.proofs.entries.Asks.{stood}
 use Rattle.machine.proofs.advance.Skipping.{Skips, Skipped, skipped-start, skipped-again, skipped-more, skipped-open, skipped-left}
 use Rattle.machine.proofs.advance.Measure.{remaining, less-end, less-entry, less-argument}
 use Rattle.machine.proofs.advance.Advances.{advance-pop, advance-pass, advance-open}

@@ -13,7 +13,7 @@ use Rattle.rows.specs.declared.gap.Gap.{Gap}
 use Rattle.rows.specs.gap.Gaps.{countsAt, termIn}
 use Rattle.rows.specs.lengths.Measured.{Measured}
 use Rattle.rows.proofs.lengths.Measures.{measured-counts, term-counts}
-use Rattle.matching.specs.redexes.Redexes.{bindingWords}
+use Rattle.redexes.specs.search.Redexes.{bindingWords}
 use Rattle.machine.specs.advance.Area.{outerIn, countIn, Stands, Valid, Positioned, Represents, frameWords, Tracks}
 
 -- the words behind the rows

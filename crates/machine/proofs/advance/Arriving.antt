@@ -5,12 +5,12 @@ use mathlib.Core.Path.{_≡_, sym, ap, _∙_, subst, subst₂}
 use mathlib.Core.List.{List, [], _∷_, _++_}
 use lib.ListN.{length, getD, drop, length-append}
 use Rattle.system.specs.System.{System}
-use Rattle.matching.specs.declared.redexes.Redex.{Redex}
+use Rattle.redexes.specs.declared.search.Redex.{Redex}
 use Rattle.matching.specs.rules.Searches.{unnumbered}
-use Rattle.system.specs.Book.{systemOf}
+use Rattle.reader.specs.Book.{systemOf}
 use Rattle.matching.specs.Matching.{contraction}
 use Rattle.matching.specs.Bindings.{matchOf}
-use Rattle.matching.specs.redexes.Redexes.{redexOf, Bound}
+use Rattle.redexes.specs.search.Redexes.{redexOf, Bound}
 use Rattle.system.specs.Limits as limits
 use Rattle.machine.specs.declared.advance.Advanced.{Advanced}
 use Rattle.machine.specs.declared.advance.Event.the-variants.{End, Rules, TooDeep}

@@ -6,10 +6,10 @@ use mathlib.Core.List.{List}
 use lib.ListN.{length, getD}
 use lib.Seq.{take-all}
 use Rattle.system.specs.Limits.{areaWords, termWords}
-use Rattle.system.specs.declared.Shape.{Shape}
+use Rattle.reader.specs.declared.Shape.{Shape}
 use Rattle.system.specs.System.{System}
-use Rattle.system.specs.Book.{systemOf, Accepted}
-use Rattle.system.proofs.layout.Books.{well}
+use Rattle.reader.specs.Book.{systemOf, Accepted}
+use Rattle.layout.proofs.Books.{well}
 use Rattle.rewriting.specs.Machine.{position}
 use Rattle.rows.specs.declared.gap.Gap.{Gap}
 use Rattle.rows.specs.gap.Gaps.{termIn, wordsIn, Gapped}

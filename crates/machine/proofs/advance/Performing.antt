@@ -8,26 +8,26 @@ use mathlib.Core.Bool.{false}
 use mathlib.Core.List.{List, [], _∷_, _++_}
 use lib.ListN.{length, getD, take, drop, set, length-append, length-set}
 use lib.Seq.{take-all, take-suc, take-take, take-append-le, getD-set-same, getD-set-other, length-take-le}
-use Rattle.system.specs.declared.Shape.{Shape}
+use Rattle.reader.specs.declared.Shape.{Shape}
 use Rattle.system.specs.Signature.{span, argument}
 use Rattle.system.specs.System.{System, strategy}
 use Rattle.system.specs.Terms.{WellFormed}
-use Rattle.system.specs.Book.{systemOf, Accepted}
-use Rattle.system.proofs.layout.Books.{well}
-use Rattle.system.specs.declared.layout.entries.Entry.{Entry}
-use Rattle.system.specs.declared.layout.entries.Entry.the-variants as entry
+use Rattle.reader.specs.Book.{systemOf, Accepted}
+use Rattle.layout.proofs.Books.{well}
+use Rattle.layout.specs.declared.entries.Entry.{Entry}
+use Rattle.layout.specs.declared.entries.Entry.the-variants as entry
 use Rattle.machine.specs.declared.advance.Event.the-variants.{End, Repeated, Rules, Argument, TooDeep}
 use Rattle.machine.specs.declared.advance.Innermost.{Innermost}
 use Rattle.rewriting.specs.Machine.{strategyAt, down, position}
 use Rattle.rows.specs.declared.gap.Gap.{Gap}
 use Rattle.rows.specs.gap.Gaps.{countsAt, termIn, wordsIn}
 use Rattle.machine.specs.advance.Area.{outerIn, countIn, Stands, Valid, Positioned, Tracks}
-use Rattle.system.specs.layout.Entries.{entryOf}
+use Rattle.layout.specs.entries.Entries.{entryOf}
 use Rattle.machine.specs.advance.Transition as to
 use Rattle.machine.specs.advance.Transition.{Transition, eventOf, countsAfter, countsIn, positionsAfter, next, Performed}
 use Rattle.rewriting.proofs.Laws.{position-snoc}
 use Rattle.machine.proofs.advance.States.{valid-within, valid-pop, valid-pass, valid-open}
-use Rattle.system.proofs.layout.entries.Asks.{stood, Asks, asks, asked-end, asked-again, asked-rules, asked-argument}
+use Rattle.layout.proofs.entries.Asks.{stood, Asks, asks, asked-end, asked-again, asked-rules, asked-argument}
 use Rattle.machine.proofs.advance.Areas.{stands-set, stands-outer, stands-state, count-set, holds}
 use Rattle.machine.proofs.advance.Bounds.{spot, bounds}
 use Rattle.machine.proofs.advance.Transitions.{leads-end, leads-repeated, leads-rules, leads-argument, leads-deep}

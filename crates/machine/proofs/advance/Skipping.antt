@@ -17,11 +17,11 @@ use Rattle.system.specs.Terms.{Member, first, later, among}
 use Rattle.matching.specs.Matching.{contraction}
 use Rattle.rewriting.specs.Machine.{strategyAt, down, position, final, around, scan, enter}
 use Rattle.rewriting.specs.levels.Opened.{Opened, level}
-use Rattle.system.specs.layout.Entries.{between}
+use Rattle.layout.specs.entries.Entries.{between}
 use Rattle.machine.specs.advance.Transition.{sinceAt}
 use Rattle.rewriting.proofs.Laws.{position-snoc}
 use Rattle.rewriting.proofs.Iterate.{scan-pass}
-use Rattle.system.proofs.layout.entries.Repeats.{among-member, between-none, between-more, between-all}
+use Rattle.layout.proofs.entries.Repeats.{among-member, between-none, between-more, between-all}
 
 module _ (s : System) (t : List ℕ) where
   -- at p, with l levels left below

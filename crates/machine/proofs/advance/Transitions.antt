@@ -9,13 +9,13 @@ use lib.ListN.{length, getD}
 use borrow.Author.Tests.{le-leb, lt-leb}
 use Rattle.system.specs.Limits.{levels}
 use Rattle.system.specs.System.{System}
-use Rattle.system.specs.declared.layout.entries.Entry.{Entry}
+use Rattle.layout.specs.declared.entries.Entry.{Entry}
 use Rattle.machine.specs.declared.advance.Event.{Event}
 use Rattle.machine.specs.declared.advance.Event.the-variants.{End, Repeated, Rules, Argument, TooDeep}
 use Rattle.rewriting.specs.Machine.{strategyAt, position}
 use Rattle.machine.specs.advance.Transition as to
 use Rattle.machine.specs.advance.Transition.{transition, eventOf}
-use Rattle.system.proofs.layout.entries.Asks.{stood, entry-past, entry-again, entry-rules, entry-argument, Asks, again, opens, asks, end, rules}
+use Rattle.layout.proofs.entries.Asks.{stood, entry-past, entry-again, entry-rules, entry-argument, Asks, again, opens, asks, end, rules}
 
 module _ (s : System) (t outer : List ℕ) (f c : ℕ) where
   abbrev entries : List ℕ

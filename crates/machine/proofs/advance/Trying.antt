@@ -4,17 +4,17 @@ use mathlib.Core.Path.{_≡_, ap, _∙_, subst}
 use mathlib.Core.Option.{none, some}
 use mathlib.Core.List.{List}
 use lib.ListN.{getD, drop}
-use Rattle.system.specs.declared.Shape.{Shape}
+use Rattle.reader.specs.declared.Shape.{Shape}
 use Rattle.system.specs.System.{System}
-use Rattle.system.specs.Book.{systemOf, Accepted}
+use Rattle.reader.specs.Book.{systemOf, Accepted}
 use Rattle.rows.specs.declared.gap.Gap.{Gap}
 use Rattle.rows.specs.gap.Gaps.{termIn}
-use Rattle.matching.specs.declared.redexes.Redex.{Redex}
+use Rattle.redexes.specs.declared.search.Redex.{Redex}
 use Rattle.matching.specs.rules.Searches.{unnumbered}
 use Rattle.matching.specs.Matching.{Contraction, contraction}
 use Rattle.matching.specs.Bindings.{matchOf}
-use Rattle.matching.specs.redexes.Redexes.{redexOf, Bound}
-use Rattle.matching.proofs.redexes.Found.{redex-none, redex-some}
+use Rattle.redexes.specs.search.Redexes.{redexOf, Bound}
+use Rattle.redexes.proofs.search.Found.{redex-none, redex-some}
 use Rattle.rewriting.specs.Machine.{position}
 use Rattle.machine.specs.advance.Area.{outerIn, Tracks}
 use Rattle.machine.proofs.advance.Bounds.{spot}

@@ -11,7 +11,7 @@ use Rattle.system.specs.Terms.{Whole}
 use Rattle.rows.specs.declared.gap.Gap.{Gap}
 use Rattle.rows.specs.gap.Gaps.{countsAt, termIn}
 use Rattle.rows.specs.lengths.Measured.{Measured}
-use Rattle.matching.specs.redexes.Redexes.{bindingWords}
+use Rattle.redexes.specs.search.Redexes.{bindingWords}
 use Rattle.rewriting.specs.Machine.{strategyAt, position}
 use Rattle.rewriting.specs.levels.Opened.{Opened}
 use Rattle.system.specs.Limits.{areaWords, levels, termWords}

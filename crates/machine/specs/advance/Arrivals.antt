@@ -7,7 +7,7 @@ use lib.ListN.{length, drop}
 use Rattle.system.specs.System.{System}
 use Rattle.matching.specs.Matching.{Contraction, contraction}
 use Rattle.matching.specs.Bindings.{matchOf}
-use Rattle.matching.specs.redexes.Redexes.{redexOf, Bound}
+use Rattle.redexes.specs.search.Redexes.{redexOf, Bound}
 use Rattle.system.specs.Limits.{levels}
 use Rattle.machine.specs.declared.advance.State.{State}
 use Rattle.machine.specs.declared.advance.Advanced.{Advanced}

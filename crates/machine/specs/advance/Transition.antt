@@ -10,8 +10,8 @@ use Rattle.system.specs.System.{System}
 use Rattle.rewriting.specs.Machine.{strategyAt, position}
 use Rattle.rows.specs.gap.Gaps.{termIn}
 use Rattle.machine.specs.advance.Area.{outerIn, countIn, Stands, Tracks}
-use Rattle.system.specs.layout.Entries.{entryOf}
-use Rattle.system.specs.declared.layout.entries.Entry.the-variants as entry
+use Rattle.layout.specs.entries.Entries.{entryOf}
+use Rattle.layout.specs.declared.entries.Entry.the-variants as entry
 use Rattle.machine.specs.declared.advance.Event.{Event}
 use Rattle.machine.specs.declared.advance.Event.the-variants.{End, Repeated, Rules, Argument, TooDeep}
 use Rattle.machine.specs.declared.advance.Innermost.{Innermost}

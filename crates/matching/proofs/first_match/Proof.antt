@@ -1,6 +1,6 @@
 -- `first_match` meets its contract.
 use mathlib.Core.Path.{_∙_}
-use Rattle.system.proofs.layout.Accepting.{scan-accepted}
+use Rattle.layout.proofs.Accepting.{scan-accepted}
 use Rattle.matching.specs.Bindings.{noBindings}
 use Rattle.matching.proofs.Sources.{scan-refuses, scan-matches}
 use Rattle.matching.proofs.Fits.{match-tells}

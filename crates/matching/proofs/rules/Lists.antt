@@ -7,20 +7,20 @@ use mathlib.Core.Path.{_≡_, refl, sym, _∙_}
 use mathlib.Core.Option.{none, some}
 use mathlib.Core.List.{List}
 use lib.ListN.{length, drop}
-use Rattle.system.specs.declared.Shape.{Shape}
-use Rattle.system.specs.declared.layout.rules.RuleSpan.{RuleSpan}
+use Rattle.reader.specs.declared.Shape.{Shape}
+use Rattle.layout.specs.declared.rules.RuleSpan.{RuleSpan}
 use Rattle.system.specs.Limits.{variable}
 use Rattle.system.specs.System.{rule, head}
-use Rattle.system.specs.Answers.{signatureOf}
-use Rattle.system.specs.Book.{systemOf, Accepted}
-use Rattle.system.specs.layout.Accepted.{RulesAt}
-use Rattle.system.specs.layout.Rules.{ruleSpan}
-use Rattle.system.specs.layout.Index.{bucket, ruleFrom, ruleAfter}
+use Rattle.system.specs.Signature.{signatureOf}
+use Rattle.reader.specs.Book.{systemOf, Accepted}
+use Rattle.layout.specs.index.Accepted.{RulesAt}
+use Rattle.layout.specs.rules.Rules.{ruleSpan}
+use Rattle.layout.specs.index.Index.{bucket, ruleFrom, ruleAfter}
 use Rattle.system.proofs.Signatures.{few-symbols}
 use Rattle.system.proofs.Forests.{forest-length}
 use Rattle.system.proofs.Rules.{listed-head}
-use Rattle.system.proofs.layout.Books.{well, rule-count, first-rest, turn-of, rule-unique}
-use Rattle.system.proofs.layout.index.Lists.{from-within, from-found, skips-first, skips-next}
+use Rattle.layout.proofs.Books.{well, rule-count, first-rest, turn-of, rule-unique}
+use Rattle.layout.proofs.index.Lists.{from-within, from-found, skips-first, skips-next}
 use Rattle.matching.specs.declared.FirstRule.the-variants.{First}
 use Rattle.matching.specs.Bindings.{Bindings, noBindings, consumed, bindings, noMatch, matchFrom, matchListed}
 use Rattle.matching.proofs.rules.MatchSteps.{consumed-end, consumed-differ, taken-first, words-stop, rules-end, rules-next, rules-here}

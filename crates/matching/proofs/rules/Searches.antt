@@ -6,18 +6,18 @@ use mathlib.Core.Bool.{true, false}
 use mathlib.Core.Option.{none, some}
 use mathlib.Core.List.{List}
 use lib.ListN.{length, getD, take, drop, set, length-drop}
-use Rattle.system.specs.declared.Shape.{Shape}
+use Rattle.reader.specs.declared.Shape.{Shape}
 use Rattle.system.specs.Limits.{variable}
 use Rattle.system.specs.System.{Rule, rule}
-use Rattle.system.specs.Answers.{signatureOf}
+use Rattle.system.specs.Signature.{signatureOf}
 use Rattle.matching.specs.declared.FirstRule.{FirstRule}
 use Rattle.matching.specs.declared.FirstRule.the-variants.{Nothing, First}
-use Rattle.system.specs.declared.layout.rules.RuleSpan.{RuleSpan}
-use Rattle.system.specs.Book.{systemOf, Accepted}
+use Rattle.layout.specs.declared.rules.RuleSpan.{RuleSpan}
+use Rattle.reader.specs.Book.{systemOf, Accepted}
 use Rattle.matching.specs.Matching.{sameWords}
 use Rattle.matching.specs.Bindings.{Bindings, noBindings, consumed, value, taken, withBinding, bindings, matchFrom, matchListed}
 use Rattle.matching.specs.rules.Searches.{Within}
-use Rattle.system.proofs.layout.Books.{Rest, Here, Turn, signature, rule-count, first-index, first-rest}
+use Rattle.layout.proofs.Books.{Rest, Here, Turn, signature, rule-count, first-index, first-rest}
 use Rattle.matching.proofs.Stretches.{within-none}
 use Rattle.matching.proofs.rules.MatchSteps.{consumed-le, withBinding-symbol, withBinding-old, withBinding-new, within-binding}
 use Rattle.matching.proofs.rules.MatchSteps.{taken-symbol, taken-new, taken-again, taken-unlike, taken-some, taken-none, taken-first}

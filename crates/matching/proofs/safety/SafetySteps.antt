@@ -10,19 +10,19 @@ use lib.ListN.{length, getD, take, drop, drop-of-length-le, length-drop, List·g
 use lib.Seq.{drop-cons, take-suc, getD-take, getD-drop, length-take-le, take-length}
 use lib.Dec.{eqb, ltb}
 use borrow.Author.Tests.{eq-eqb, ne-eqb, lt-ltb, le-ltb, le-leb, lt-leb}
-use Rattle.system.specs.declared.Shape.{Shape}
+use Rattle.reader.specs.declared.Shape.{Shape}
 use Rattle.system.specs.Limits.{variable}
 use Rattle.system.specs.Signature.{Signature, argument, span}
 use Rattle.system.specs.System.{System, Rule, noRule, rule, head, strategy}
 use Rattle.system.specs.Terms.{occurs}
-use Rattle.system.specs.Answers.{signatureOf}
-use Rattle.system.specs.declared.layout.rules.RuleSpan.{RuleSpan}
-use Rattle.system.specs.Book.{systemOf, Accepted}
-use Rattle.system.specs.layout.Accepted.{StrategyAt, SuffixAt}
+use Rattle.system.specs.Signature.{signatureOf}
+use Rattle.layout.specs.declared.rules.RuleSpan.{RuleSpan}
+use Rattle.reader.specs.Book.{systemOf, Accepted}
+use Rattle.layout.specs.index.Accepted.{StrategyAt, SuffixAt}
 use Rattle.matching.specs.StrategyTest.{every, heldOnce, idleTest, idles, closes, constructs, passes, firstFailing, firstUnsafe, safetyAnswer}
 use Rattle.matching.proofs.rules.MatchSteps.{tail}
-use Rattle.system.proofs.layout.Books.{Rest, Turn, rule-count, symbol-count, first-rest, signature}
-use Rattle.system.proofs.layout.Suffixes.{suffix-strategy, suffix-start, suffix-next}
+use Rattle.layout.proofs.Books.{Rest, Turn, rule-count, symbol-count, first-rest, signature}
+use Rattle.layout.proofs.Suffixes.{suffix-strategy, suffix-start, suffix-next}
 use Rattle.matching.proofs.FirstFailing.{sought, sought-starts, sought-ends, sought-passes, sought-fails}
 
 -- ---- whether an argument is a variable that is held once

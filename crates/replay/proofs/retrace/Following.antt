@@ -7,32 +7,32 @@ use mathlib.Core.Option.{Option, none, some}
 use mathlib.Core.List.{List}
 use lib.ListN.{length, getD, drop}
 use borrow.Author.Tests.{eq-eqb, ne-eqb}
-use Rattle.system.specs.declared.Shape.{Shape}
-use Rattle.system.specs.Book.{systemOf, Accepted}
+use Rattle.reader.specs.declared.Shape.{Shape}
+use Rattle.reader.specs.Book.{systemOf, Accepted}
 use Rattle.system.specs.Limits.{areaWords, termWords}
 use Rattle.system.specs.Signature.{Signature, span, replace}
 use Rattle.system.specs.System.{System}
 use Rattle.system.specs.Terms.{WellFormed}
-use Rattle.system.specs.layout.Index.{Indexed}
-use Rattle.system.proofs.layout.Books.{well}
+use Rattle.layout.specs.index.Index.{Indexed}
+use Rattle.layout.proofs.Books.{well}
 use Rattle.rows.specs.declared.gap.Gap.{Gap}
 use Rattle.rows.specs.gap.Gaps.{termIn, lengthsIn, wordsIn, Lies}
 use Rattle.rows.proofs.lengths.Measures.{measured-length}
 use Rattle.reducts.specs.declared.putting.Reduced.{Reduced}
 use Rattle.reducts.specs.declared.putting.Subterm.{Subterm}
 use Rattle.reducts.specs.putting.Replaced.{Placed}
-use Rattle.matching.specs.declared.redexes.Redex.{Redex}
+use Rattle.redexes.specs.declared.search.Redex.{Redex}
 use Rattle.matching.specs.Matching.{Contraction, contraction}
 use Rattle.matching.specs.Bindings.{matchOf}
-use Rattle.matching.specs.redexes.Redexes.{redexOf, bindingWords, Bound}
+use Rattle.redexes.specs.search.Redexes.{redexOf, bindingWords, Bound}
 use Rattle.matching.specs.rules.Searches.{unnumbered}
-use Rattle.matching.proofs.redexes.Found.{redex-some, redex-number}
+use Rattle.redexes.proofs.search.Found.{redex-some, redex-number}
 use Rattle.rewriting.specs.Rewriting.{Active}
 use Rattle.rewriting.proofs.Contractions.{first-there}
 use Rattle.rewriting.proofs.Ways.{way-active}
-use Rattle.machine.specs.rewrites.Rewritten.{Reducible, Rewrites}
-use Rattle.machine.specs.steps.Raised.{Raisable, Raised}
-use Rattle.machine.proofs.steps.Stepping.{Left, left}
+use Rattle.steps.specs.rewrites.Rewritten.{Reducible, Rewrites}
+use Rattle.steps.specs.steps.Raised.{Raisable, Raised}
+use Rattle.steps.proofs.steps.Stepping.{Left, left}
 use Rattle.replay.specs.declared.walk.Finger.{Finger}
 use Rattle.replay.specs.declared.retrace.Pair.{Pair}
 use Rattle.replay.specs.Activity.{activeAt}

@@ -6,9 +6,9 @@ use mathlib.Core.List.{List, [], _∷_}
 use lib.ListN.{length, getD, drop, drop-of-length-le}
 use lib.Seq.{drop-cons}
 use borrow.Author.Tests.{eq-eqb, ne-eqb}
-use Rattle.system.specs.declared.Shape.{Shape}
-use Rattle.system.specs.Answers.{signatureOf}
-use Rattle.system.specs.Book.{systemOf, Accepted}
+use Rattle.reader.specs.declared.Shape.{Shape}
+use Rattle.system.specs.Signature.{signatureOf}
+use Rattle.reader.specs.Book.{systemOf, Accepted}
 use Rattle.system.specs.Limits.{areaWords}
 use Rattle.system.specs.Numbers.{taken, untrue, numberOf}
 use Rattle.system.specs.System.{System}

@@ -6,13 +6,13 @@ use mathlib.Core.Bool.{Bool, true, false}
 use mathlib.Core.List.{List}
 use lib.ListN.{getD, set}
 use borrow.Author.Tests.{eq-eqb, ne-eqb}
-use Rattle.system.specs.declared.Shape.{Shape}
-use Rattle.system.specs.Book.{systemOf, Accepted}
+use Rattle.reader.specs.declared.Shape.{Shape}
+use Rattle.reader.specs.Book.{systemOf, Accepted}
 use Rattle.system.specs.Limits.{maxArity}
 use Rattle.system.specs.System.{System, strategy}
 use Rattle.system.specs.Terms.{Member, WellFormed, among}
-use Rattle.system.proofs.layout.Books.{well}
-use Rattle.system.proofs.layout.entries.Repeats.{among-member, member-among}
+use Rattle.layout.proofs.Books.{well}
+use Rattle.layout.proofs.entries.Repeats.{among-member, member-among}
 use Rattle.rows.specs.gap.Gaps.{countsAt, termIn}
 use Rattle.replay.specs.declared.walk.Argument.{Argument}
 use Rattle.replay.specs.declared.walk.Finger.{Finger}

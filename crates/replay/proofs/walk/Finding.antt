@@ -4,11 +4,11 @@ use native.Mathlib.Omega.{arith}
 use mathlib.Core.Path.{sym, _∙_, subst}
 use mathlib.Core.List.{List}
 use borrow.Author.Tests.{ne-eqb}
-use Rattle.system.specs.declared.Shape.{Shape}
-use Rattle.system.specs.Book.{systemOf, Accepted}
+use Rattle.reader.specs.declared.Shape.{Shape}
+use Rattle.reader.specs.Book.{systemOf, Accepted}
 use Rattle.system.specs.System.{System}
 use Rattle.system.specs.Terms.{WellFormed}
-use Rattle.system.proofs.layout.Books.{well}
+use Rattle.layout.proofs.Books.{well}
 use Rattle.rows.specs.gap.Gaps.{wordsIn, termIn}
 use Rattle.replay.specs.declared.walk.Finger.{Finger}
 use Rattle.replay.specs.declared.retrace.Pair.{Pair}

@@ -4,11 +4,11 @@ use native.Mathlib.Omega.{arith}
 use mathlib.Core.Path.{_≡_, sym, ap, _∙_, subst}
 use mathlib.Core.List.{List}
 use lib.ListN.{length, getD, drop}
-use Rattle.system.specs.Answers.{signatureOf}
-use Rattle.system.specs.Book.{systemOf}
+use Rattle.system.specs.Signature.{signatureOf}
+use Rattle.reader.specs.Book.{systemOf}
 use Rattle.system.specs.Signature.{Signature, arity, span, argument}
 use Rattle.system.specs.System.{System}
-use Rattle.system.proofs.layout.Books.{signature}
+use Rattle.layout.proofs.Books.{signature}
 use Rattle.replay.specs.walk.Descent.{Readable, Above, From, Held}
 use Rattle.replay.proofs.Arguments.{argument-first, argument-next}
 use Rattle.replay.proofs.Descent.{above-within, from-first, from-next, from-last}

@@ -5,34 +5,34 @@ use mathlib.Core.Path.{_≡_, refl, sym, ap, _∙_, subst}
 use mathlib.Core.Option.{some}
 use mathlib.Core.List.{List}
 use lib.ListN.{length, take, drop, length-drop}
-use Rattle.system.specs.declared.Shape.{Shape}
-use Rattle.system.specs.Answers.{signatureOf}
-use Rattle.system.specs.Book.{systemOf, Accepted}
+use Rattle.reader.specs.declared.Shape.{Shape}
+use Rattle.system.specs.Signature.{signatureOf}
+use Rattle.reader.specs.Book.{systemOf, Accepted}
 use Rattle.system.specs.Limits.{areaWords, termWords}
 use Rattle.system.specs.Signature.{span, replace}
 use Rattle.system.specs.System.{System}
 use Rattle.system.specs.Terms.{Whole, WellFormed}
-use Rattle.system.specs.layout.Index.{Indexed}
+use Rattle.layout.specs.index.Index.{Indexed}
 use Rattle.system.proofs.Places.{replace-length}
-use Rattle.system.proofs.layout.Books.{well, signature}
+use Rattle.layout.proofs.Books.{well, signature}
 use Rattle.system.proofs.words.SpanSteps.{span-le}
 use Rattle.rows.specs.declared.gap.Gap.{Gap}
 use Rattle.rows.specs.gap.Gaps.{wordsIn}
 use Rattle.rows.specs.lengths.Measured.{Measured}
 use Rattle.rows.specs.lengths.Written.{Laid}
 use Rattle.rows.proofs.lengths.Measures.{words-length}
-use Rattle.matching.specs.declared.redexes.Redex.{Redex}
+use Rattle.redexes.specs.declared.search.Redex.{Redex}
 use Rattle.matching.specs.Matching.{Contraction, contraction}
 use Rattle.matching.specs.Bindings.{matchOf}
-use Rattle.matching.specs.redexes.Redexes.{redexOf, bindingWords, Bound}
+use Rattle.redexes.specs.search.Redexes.{redexOf, bindingWords, Bound}
 use Rattle.reducts.specs.putting.Replaced.{Placed}
 use Rattle.rewriting.specs.levels.Lengths.{Way, top}
 use Rattle.rewriting.specs.Rewriting.{Active}
 use Rattle.rewriting.proofs.Contractions.{replaced-whole}
 use Rattle.rewriting.proofs.Ways.{way-active, way-step}
-use Rattle.machine.specs.rewrites.Rewritten.{Reducible}
-use Rattle.machine.specs.steps.Raised.{Raisable, Raised}
-use Rattle.machine.proofs.steps.Raising.{raisable, raised-term, raised-measured}
+use Rattle.steps.specs.rewrites.Rewritten.{Reducible}
+use Rattle.steps.specs.steps.Raised.{Raisable, Raised}
+use Rattle.steps.proofs.steps.Raising.{raisable, raised-term, raised-measured}
 use Rattle.replay.specs.declared.walk.Finger.{Finger}
 use Rattle.replay.specs.walk.Way.{wayIn, Points}
 use Rattle.replay.proofs.walk.Pointing.{points-words, points-bounds}

@@ -5,10 +5,10 @@ use mathlib.Core.Bool.{Bool, _&&_}
 use mathlib.Core.List.{List}
 use lib.ListN.{length, getD, drop}
 use lib.Dec.{leb, ltb}
-use Rattle.system.specs.declared.Shape.{Shape}
+use Rattle.reader.specs.declared.Shape.{Shape}
 use Rattle.system.specs.Signature.{Signature, arity, span, argument}
 use Rattle.system.specs.System.{System}
-use Rattle.system.specs.Book.{Accepted}
+use Rattle.reader.specs.Book.{Accepted}
 use Rattle.rewriting.specs.Rewriting.{Active}
 use Rattle.replay.specs.declared.walk.Argument.{Argument}
 

@@ -8,21 +8,21 @@ use mathlib.Core.List.{List}
 use lib.ListN.{length, getD, take, drop}
 use lib.Dec.{ltb, eqb}
 use borrow.Author.Tests.{lt-ltb, le-ltb}
-use Rattle.system.specs.declared.Shape.{Shape}
+use Rattle.reader.specs.declared.Shape.{Shape}
 use Rattle.system.specs.declared.Answer.{Answer}
-use Rattle.system.specs.declared.reader.Scan.{Scan}
-use Rattle.system.specs.declared.layout.rules.RuleSpan.{RuleSpan}
+use Rattle.reader.specs.declared.scan.Scan.{Scan}
+use Rattle.layout.specs.declared.rules.RuleSpan.{RuleSpan}
 use Rattle.system.specs.Signature.{Signature}
 use Rattle.system.specs.System.{System, Rule, rule}
 use Rattle.system.specs.Terms.{WellFormedRule}
-use Rattle.system.specs.Parser.{Parsed, ok, fault, read}
-use Rattle.system.specs.Book.{systemOf, Accepted}
-use Rattle.system.specs.layout.Rules.{ruleSpan}
-use Rattle.system.specs.reader.Sections.{scanOf}
+use Rattle.reader.specs.Parser.{Parsed, ok, fault, read}
+use Rattle.reader.specs.Book.{systemOf, Accepted}
+use Rattle.layout.specs.rules.Rules.{ruleSpan}
+use Rattle.reader.specs.scan.Sections.{scanOf}
 use Rattle.system.proofs.BuiltIns.{both}
 use Rattle.system.proofs.Members.{member-getD, numbered-below}
-use Rattle.system.proofs.layout.Accepting.{scan-accepted}
-use Rattle.system.proofs.layout.Books.{Rest, turn-of, sides-at, rule-count, symbol-count, signature, first-rest}
+use Rattle.layout.proofs.Accepting.{scan-accepted}
+use Rattle.layout.proofs.Books.{Rest, turn-of, sides-at, rule-count, symbol-count, signature, first-rest}
 use Rattle.matching.proofs.FirstFailing.{sought, sought-starts, sought-ends, sought-passes, sought-fails}
 use Rattle.termination.specs.Weights.{Weights}
 use Rattle.termination.specs.WeightTest.{falls, weighs, inRange, firstRising, fallAnswer, misweighedAnswer, weightsAnswer}

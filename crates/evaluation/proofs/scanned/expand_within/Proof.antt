@@ -5,10 +5,10 @@ use lib.ListN.{length}
 use lib.Seq.{length-take-le}
 use borrow.Author.Needs.{needs}
 use Rattle.system.specs.Limits.{areaWords}
-use Rattle.system.specs.Book.{systemOf}
+use Rattle.reader.specs.Book.{systemOf}
 use Rattle.rewriting.specs.Evaluation.{Limits, evaluation}
 use Rattle.evaluation.specs.Expansion.{result, expansionOf, checked}
-use Rattle.evaluation.specs.recording.Kept.{limitsOf}
+use Rattle.records.specs.recording.Kept.{limitsOf}
 use Rattle.evaluation.proofs.Expanding.{Checks, checks, checks-accepted, Passed, passed, refuses, evaluates, lent-refused, lent-told}
 use Rattle.evaluation.proofs.Expanding.{whole-length, same-result, finishes}
 use Rattle.evaluation.proofs.scanned.expand_within.Statement.{statement}

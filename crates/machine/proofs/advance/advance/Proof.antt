@@ -3,7 +3,7 @@ mod Places
 use native.Mathlib.Omega.{arith}
 use mathlib.Core.Path.{refl, sym, _∙_, subst}
 use borrow.Author.Needs.{needs}
-use Rattle.system.specs.Book.{systemOf}
+use Rattle.reader.specs.Book.{systemOf}
 use Rattle.machine.proofs.advance.Advancing.{advancing-start, round-bounds, rules-measured, goes-repeated, goes-argument}
 use Rattle.machine.proofs.advance.Arriving.{arrives-end, arrives-deep}
 use Rattle.machine.specs.advance.Area.{Tracks}

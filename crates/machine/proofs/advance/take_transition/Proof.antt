@@ -5,7 +5,7 @@ use mathlib.Core.Path.{_≡_, ap, _∙_}
 use lib.ListN.{getD, drop, length-set}
 use borrow.Author.Needs.{needs}
 use Rattle.system.specs.Signature.{span}
-use Rattle.system.specs.Book.{systemOf}
+use Rattle.reader.specs.Book.{systemOf}
 use Rattle.rows.specs.gap.Gaps.{termIn}
 use Rattle.machine.proofs.advance.Bounds.{Bounds, bounds}
 use Rattle.machine.proofs.advance.Performing.{Taking, performed-end, performed-repeated, performed-rules, performed-deep, argument-fits, performed-argument}

@@ -1,7 +1,7 @@
 -- `rules::consumed` meets its contract.
 use mathlib.Core.Path.{sym, _∙_}
 use native.Mathlib.Omega.{arith}
-use Rattle.system.specs.Answers.{signatureOf}
+use Rattle.system.specs.Signature.{signatureOf}
 use Rattle.matching.proofs.rules.MatchSteps.{consumed-end, consumed-variable, consumed-differ, consumed-same}
 use borrow.Author.Needs.{needs}
 use Rattle.matching.proofs.rules.consumed.Statement.{statement}

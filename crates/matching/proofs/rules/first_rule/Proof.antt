@@ -4,14 +4,14 @@ use mathlib.Core.Logic.{⊎-elim}
 use mathlib.Core.List.{[], _∷_}
 use lib.ListN.{length, getD, drop}
 use Rattle.system.specs.Limits.{variable, variables}
-use Rattle.system.specs.Answers.{signatureOf}
-use Rattle.system.specs.Book.{systemOf}
+use Rattle.system.specs.Signature.{signatureOf}
+use Rattle.reader.specs.Book.{systemOf}
 use Rattle.matching.proofs.Computed.{computed-words}
 use Rattle.matching.proofs.Sources.{match-low, match-words}
 use Rattle.matching.proofs.rules.MatchSteps.{tail}
 use Rattle.matching.proofs.rules.Searches.{Searched, Walked, search-starts, search-ends, given-up, root-differs, walk-starts, matches-here}
 use Rattle.matching.proofs.rules.Searches.{word-unequal, word-fits, symbol-matched, variable-new, variable-again, variable-unlike}
-use Rattle.system.proofs.layout.Books.{Turn, room, turn-of}
+use Rattle.layout.proofs.Books.{Turn, room, turn-of}
 use native.Mathlib.Omega.{arith}
 use Prim.Native.Nat.{_+_, _-_, _≤_, _<_}
 use Rattle.matching.specs.Matching.{computed}

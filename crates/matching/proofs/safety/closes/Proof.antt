@@ -3,7 +3,7 @@ use borrow.Author.Tests.{not-true, not-false}
 use Rattle.matching.specs.StrategyTest.{idleTest}
 use Rattle.matching.proofs.safety.SafetySteps.{Looked, look-starts, look-ends, look-zero, look-busy, look-idle}
 use mathlib.Core.Path.{sym, _∙_}
-use Rattle.system.specs.Book.{systemOf}
+use Rattle.reader.specs.Book.{systemOf}
 use borrow.Author.Needs.{needs}
 use Rattle.matching.proofs.safety.closes.Statement.{statement}
 use Rattle.matching.proofs.safety.closes.Tie as tie

@@ -2,7 +2,7 @@
 use native.Mathlib.Omega.{arith}
 use mathlib.Core.Path.{sym, ap, _∙_}
 use lib.Dec.{eqb}
-use Rattle.system.specs.Answers.{signatureOf}
+use Rattle.system.specs.Signature.{signatureOf}
 use Rattle.matching.proofs.safety.SafetySteps.{held-none, held-past, held-symbol, held-variable}
 use borrow.Author.Needs.{needs}
 use Rattle.matching.proofs.safety.held_once.Statement.{statement}

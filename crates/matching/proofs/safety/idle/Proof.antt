@@ -1,11 +1,11 @@
 -- `safety::idle` meets its contract.
 use borrow.Author.Tests.{not-true, not-false}
 use Rattle.matching.proofs.safety.SafetySteps.{Passed, every-starts, every-ends, every-fails, every-goes, idleIn, idle-every, idle-other, idle-same}
-use Rattle.system.proofs.layout.Books.{Turn, room, turn-of}
+use Rattle.layout.proofs.Books.{Turn, room, turn-of}
 use mathlib.Core.Path.{sym, _∙_}
 use native.Mathlib.Omega.{arith}
 use Prim.Native.Nat.{_-_}
-use Rattle.system.specs.Answers.{signatureOf}
+use Rattle.system.specs.Signature.{signatureOf}
 use borrow.Author.Needs.{needs}
 use Rattle.matching.proofs.safety.idle.Statement.{statement}
 use Rattle.matching.proofs.safety.idle.Tie as tie

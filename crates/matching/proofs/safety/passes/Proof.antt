@@ -1,7 +1,7 @@
 -- `safety::passes` meets its contract.
 use borrow.Author.Tests.{not-true, not-false}
 use Rattle.matching.proofs.safety.SafetySteps.{passes-constructor, passes-closes}
-use Rattle.system.specs.Book.{systemOf}
+use Rattle.reader.specs.Book.{systemOf}
 use borrow.Author.Needs.{needs}
 use Rattle.matching.proofs.safety.passes.Statement.{statement}
 use Rattle.matching.proofs.safety.passes.Tie as tie

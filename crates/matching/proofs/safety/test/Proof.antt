@@ -1,5 +1,5 @@
 -- `safety::test` meets its contract.
-use Rattle.system.proofs.layout.Accepting.{scan-accepted}
+use Rattle.layout.proofs.Accepting.{scan-accepted}
 use Rattle.matching.proofs.Tests.{scan-refused, scan-tested}
 use Rattle.matching.proofs.safety.test.Statement.{statement}
 use Rattle.matching.proofs.safety.test.Tie as tie

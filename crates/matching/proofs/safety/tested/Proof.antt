@@ -1,7 +1,7 @@
 -- `safety::tested` meets its contract.
 use mathlib.Core.Logic.{⊎-elim}
 use borrow.Author.Tests.{not-true, not-false}
-use Rattle.system.specs.layout.Accepted.{StrategyAt}
+use Rattle.layout.specs.index.Accepted.{StrategyAt}
 use Rattle.matching.proofs.safety.SafetySteps.{Through, test-starts, test-fails, test-passes, test-strategy, goes-passing, goes-failing}
 use native.Mathlib.Omega.{arith}
 use Prim.Native.Nat.{_-_, _<_}

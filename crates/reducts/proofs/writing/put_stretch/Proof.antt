@@ -1,6 +1,6 @@
 -- `writing::put_stretch` meets its contract.
 use borrow.Author.Needs.{needs}
-use Rattle.system.specs.Answers.{signatureOf}
+use Rattle.system.specs.Signature.{signatureOf}
 use Rattle.reducts.proofs.writing.Places.{lent-apart, lent-within, lent-copyable}
 use Rattle.reducts.proofs.writing.put_stretch.Statement.{statement}
 use Rattle.reducts.proofs.writing.put_stretch.Tie as tie

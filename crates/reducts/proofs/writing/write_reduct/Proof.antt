@@ -5,8 +5,8 @@ use native.Mathlib.Omega.{arith}
 use lib.ListN.{length, getD}
 use borrow.Author.Needs.{needs}
 use Rattle.system.specs.Limits.{variable, variables}
-use Rattle.system.specs.Answers.{signatureOf}
-use Rattle.matching.specs.redexes.Redexes.{bindingWords}
+use Rattle.system.specs.Signature.{signatureOf}
+use Rattle.redexes.specs.search.Redexes.{bindingWords}
 use Rattle.reducts.specs.sides.Sides.{stretchesIn}
 use Rattle.reducts.specs.writing.Reduct.{stretchAt}
 use Rattle.reducts.proofs.Bindings.{binding-words, start-told, length-told}

@@ -3,8 +3,8 @@ use Prim.Native.Nat.{_+_, _-_}
 use native.Mathlib.Omega.{arith}
 use mathlib.Core.Path.{_≡_, refl, sym, ap, _∙_, subst}
 use borrow.Author.Needs.{needs}
-use Rattle.system.specs.Book.{systemOf}
-use Rattle.system.proofs.layout.Books.{well, signature}
+use Rattle.reader.specs.Book.{systemOf}
+use Rattle.layout.proofs.Books.{well, signature}
 use Rattle.rows.specs.gap.Gaps.{wordsIn, termIn}
 use Rattle.rows.specs.lengths.Measured.{Measured}
 use Rattle.replay.specs.walk.Way.{Points}

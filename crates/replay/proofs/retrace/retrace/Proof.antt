@@ -5,8 +5,8 @@ use native.Mathlib.Omega.{arith}
 use mathlib.Core.Path.{_≡_, refl, sym, _∙_, subst}
 use lib.ListN.{length}
 use borrow.Author.Needs.{needs}
-use Rattle.system.specs.Book.{systemOf}
-use Rattle.system.specs.Answers.{signatureOf}
+use Rattle.reader.specs.Book.{systemOf}
+use Rattle.system.specs.Signature.{signatureOf}
 use Rattle.rows.specs.lengths.Written.{Laid}
 use Rattle.replay.proofs.walk.Finding.{points-in, follows-in}
 use Rattle.replay.proofs.retrace.Tracing.{Tracing, tracing-start, traces-end, traces-half, Turns, turns}

@@ -5,7 +5,7 @@ use lib.ListN.{length}
 use lib.Seq.{length-take-le}
 use borrow.Author.Needs.{needs}
 use Rattle.system.specs.Limits.{areaWords}
-use Rattle.system.specs.Book.{systemOf}
+use Rattle.reader.specs.Book.{systemOf}
 use Rattle.rewriting.specs.Evaluation.{start}
 use Rattle.evaluation.specs.Expansion.{result, checked}
 use Rattle.evaluation.proofs.Expanding.{Checks, checks, checks-accepted, Passed, passed, refuses, evaluates, whole-length, same-result}

@@ -5,7 +5,7 @@ use mathlib.Core.Path.{_≡_, refl, _∙_}
 use lib.ListN.{length, length-set}
 use borrow.Author.Needs.{needs}
 use borrow.Author.Tests.{not-true, not-false}
-use Rattle.system.specs.Book.{systemOf}
+use Rattle.reader.specs.Book.{systemOf}
 use Rattle.rows.specs.gap.Gaps.{termIn}
 use Rattle.replay.specs.declared.walk.Finger.{Finger}
 use Rattle.replay.specs.walk.Way.{Over}

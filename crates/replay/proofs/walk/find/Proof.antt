@@ -1,8 +1,8 @@
 -- `walk::find` meets its contract.
 use native.Mathlib.Omega.{arith}
 use borrow.Author.Needs.{needs}
-use Rattle.system.specs.Book.{systemOf}
-use Rattle.system.proofs.layout.Books.{well}
+use Rattle.reader.specs.Book.{systemOf}
+use Rattle.layout.proofs.Books.{well}
 use Rattle.rows.specs.gap.Gaps.{termIn}
 use Rattle.replay.specs.walk.Way.{Over}
 use Rattle.replay.proofs.walk.Descending.{over-in}

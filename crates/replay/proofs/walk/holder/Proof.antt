@@ -4,7 +4,7 @@ use native.Mathlib.Omega.{arith}
 use mathlib.Core.Path.{_≡_, _∙_}
 use lib.ListN.{length, drop}
 use borrow.Author.Needs.{needs}
-use Rattle.system.specs.Book.{systemOf}
+use Rattle.reader.specs.Book.{systemOf}
 use Rattle.system.specs.Signature.{span}
 use Rattle.rows.specs.gap.Gaps.{wordsIn, termIn}
 use Rattle.rows.proofs.lengths.Measures.{words-length, measured-length}

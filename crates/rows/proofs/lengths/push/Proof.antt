@@ -4,7 +4,7 @@ use native.Mathlib.Omega.{arith}
 use lib.ListN.{length-set}
 use borrow.Author.Needs.{needs}
 use Rattle.system.specs.Limits.{termWords}
-use Rattle.system.specs.Answers.{signatureOf}
+use Rattle.system.specs.Signature.{signatureOf}
 use Rattle.rows.proofs.lengths.Writes.{push-small, written-word}
 use Rattle.rows.proofs.lengths.push.Statement.{statement}
 use Rattle.rows.proofs.lengths.push.Tie as tie

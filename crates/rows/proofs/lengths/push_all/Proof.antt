@@ -3,7 +3,7 @@ use Prim.Native.Nat.{_+_, _≤_, _<_}
 use native.Mathlib.Omega.{arith}
 use lib.ListN.{length}
 use borrow.Author.Needs.{needs}
-use Rattle.system.specs.Answers.{signatureOf}
+use Rattle.system.specs.Signature.{signatureOf}
 use Rattle.rows.proofs.lengths.Pushes.{Pushing, pushing-first, pushing-room, pushing-next, pushing-last}
 use Rattle.rows.proofs.lengths.push_all.Statement.{statement}
 use Rattle.rows.proofs.lengths.push_all.Tie as tie

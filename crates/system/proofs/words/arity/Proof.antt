@@ -1,7 +1,7 @@
 -- The arity of symbol i stands at index i + 1; any other word takes as many as a built-in one.
 use Rattle.system.proofs.words.BookWords.{signature-room, signature-arity}
 use Rattle.system.proofs.Signatures.{arity-unlisted}
-use Rattle.system.specs.Answers.{signatureOf}
+use Rattle.system.specs.Signature.{signatureOf}
 use Rattle.system.specs.Signature.{arity}
 use lib.ListN.{length}
 use Prim.Native.Nat.{_<_}

@@ -1,6 +1,6 @@
 -- A symbol is a word below the number of symbols, or a built-in one.
 use Rattle.system.proofs.Signatures.{symbol-lt, symbol-unlisted}
-use Rattle.system.specs.Answers.{signatureOf}
+use Rattle.system.specs.Signature.{signatureOf}
 use native.Mathlib.Omega.{arith}
 use mathlib.Core.Path.{sym, _∙_}
 use borrow.Author.Needs.{needs}

@@ -1,6 +1,6 @@
 -- The loop keeps: the words passed and the span of what is still due make the whole span.
 use Rattle.system.proofs.words.SpanSteps.{span-word, span-none, span-past, span-rest}
-use Rattle.system.specs.Answers.{signatureOf}
+use Rattle.system.specs.Signature.{signatureOf}
 use Rattle.system.specs.Signature.{arity, span}
 use lib.ListN.{length, drop}
 use Prim.Native.Nat.{_+_, _-_, _≤_}

@@ -1,7 +1,7 @@
 -- `testing::test` meets its contract.
 use borrow.Author.Needs.{needs}
 use borrow.Author.Tests.{not-true, not-false}
-use Rattle.system.proofs.layout.Accepting.{scan-accepted}
+use Rattle.layout.proofs.Accepting.{scan-accepted}
 use Rattle.termination.proofs.testing.TestSteps.{scan-refused, scan-misweighed, scan-range, scan-tested}
 use Rattle.termination.proofs.testing.test.Statement.{statement}
 use Rattle.termination.proofs.testing.test.Tie as tie

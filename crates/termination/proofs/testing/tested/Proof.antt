@@ -4,7 +4,7 @@ use native.Mathlib.Omega.{arith}
 use mathlib.Core.Logic.{⊎-elim}
 use borrow.Author.Needs.{needs}
 use borrow.Author.Tests.{not-true, not-false}
-use Rattle.system.proofs.layout.Books.{room}
+use Rattle.layout.proofs.Books.{room}
 use Rattle.termination.proofs.testing.TestSteps.{Through, Sides, sides, test-starts, test-rises, test-falls, goes-rising, goes-falling}
 use Rattle.termination.proofs.testing.tested.Statement.{statement}
 use Rattle.termination.proofs.testing.tested.Tie as tie

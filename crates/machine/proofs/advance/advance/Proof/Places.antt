@@ -11,12 +11,12 @@ use Rattle.system.specs.Limits.{areaWords, levels}
 use Rattle.rows.specs.gap.Gaps.{termIn}
 use Rattle.matching.specs.Bindings.{matchOf}
 use Rattle.matching.specs.rules.Searches.{unnumbered}
-use Rattle.matching.specs.redexes.Redexes.{bindingWords, redexOf, Bound}
+use Rattle.redexes.specs.search.Redexes.{bindingWords, redexOf, Bound}
 use Rattle.machine.specs.declared.advance.Advanced.{Advanced}
 use Rattle.machine.specs.declared.advance.Stop.the-variants.{Ready}
 use Rattle.machine.specs.advance.Area.{frameWords}
 use Rattle.machine.specs.advance.Arrivals.{Advances}
-use Rattle.system.specs.Book.{systemOf}
+use Rattle.reader.specs.Book.{systemOf}
 use Rattle.machine.specs.advance.Transition.{Performed}
 use Rattle.machine.proofs.advance.Areas.{same-positions, rebound, rebound-positions, rebound-bindings}
 use Rattle.machine.proofs.advance.Arriving.{arrives-ready}

@@ -1,0 +1,2 @@
+-- Inner: the limits and the record of a run
+pub mod recording

@@ -1,0 +1,2 @@
+-- Inner: what is found in the rows
+pub mod search

@@ -1,0 +1,2 @@
+-- Inner: a run
+pub mod run

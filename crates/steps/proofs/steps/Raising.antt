@@ -1,0 +1,126 @@
+-- Lengths raised one by one in the area's row of lengths, at indices that are kept anywhere: one turn of such a loop. And on the way to a
+-- subterm in whose place another was put: all lengths are true then.
+use Prim.Native.Nat.{ℕ, _+_, _-_, _≤_, _<_}
+use native.Mathlib.Omega.{arith}
+use native.Mathlib.Numerals.{add-one}
+use mathlib.Core.Path.{_≡_, refl, sym, ap, _∙_, subst}
+use mathlib.Core.List.{List, [], _∷_, _++_}
+use lib.ListN.{length, getD, take, drop, set, length-set}
+use lib.Seq.{take-suc, take-all, getD-drop}
+use Rattle.system.specs.Limits.{termWords}
+use Rattle.system.specs.Signature.{Signature, span, replace}
+use Rattle.system.specs.System.{System}
+use Rattle.system.specs.Terms.{Whole, WellFormed}
+use Rattle.rows.specs.declared.gap.Gap.{Gap}
+use Rattle.rows.specs.gap.Gaps.{countsAt, lengthRow, closed, termIn, behind}
+use Rattle.rows.specs.lengths.Spans.{spans}
+use Rattle.rows.specs.lengths.Measured.{Measured}
+use Rattle.rows.proofs.gap.Rows.{length-row-at, length-set-row}
+use Rattle.rows.proofs.lengths.Measures.{row-behind, measured-join}
+use Rattle.reducts.specs.putting.Replaced.{Placed}
+use Rattle.rewriting.specs.levels.Lengths.{raise, Way}
+use Rattle.rewriting.proofs.Raises.{raise-none, raise-snoc, raise-take, raise-drop}
+use Rattle.rewriting.proofs.Ways.{way-before}
+use Rattle.rewriting.proofs.WayRows.{way-spans-front, way-raise-room, way-raise-fits}
+use Rattle.steps.specs.steps.Raised.{Raisable, Raised}
+
+-- what stands behind the rows stays: indices may be kept there
+pub raised-kept : {ws₀ qs ws : List ℕ} {d e : ℕ} → Raised ws₀ qs d e ws → (k : ℕ) → getD ws (countsAt + k) 0 ≡ getD ws₀ (countsAt + k) 0
+raised-kept {ws₀} {ws} r k = sym (getD-drop countsAt ws k 0) ∙ ap (λ z. getD z k 0) (r .counts) ∙ getD-drop countsAt ws₀ k 0
+
+-- ---- a loop that raises them
+
+-- the area where the first j are raised
+pub record Raising (ws₀ qs : List ℕ) (d e : ℕ) (ws : List ℕ) (j : ℕ) : Type 0 where
+  pub some : j ≤ length qs
+  pub raised : Raised ws₀ (take j qs) d e ws
+
+pub raising-start : (ws qs : List ℕ) (d e : ℕ) → Raising ws qs d e ws 0
+raising-start ws qs d e = record {
+  some = omega arith;
+  raised = record { lengths = sym (raise-none d e (lengthRow ws)); words = refl; counts = refl; total = refl };
+}
+
+module _ {ws₀ qs ws : List ℕ} {d e j : ℕ} (v : Raisable ws₀ qs d e) (r : Raising ws₀ qs d e ws j) where
+  -- all of them
+  pub raising-end : length qs ≤ j → Raised ws₀ qs d e ws
+  raising-end h = subst (λ z. Raised ws₀ z d e ws) (take-all j qs h) (r .raised)
+
+  -- the next one: its index q, and the number x there
+  module _ (l : j < length qs) (q : ℕ) (is : q ≡ getD qs j 0) where
+    pub raising-within : q < termWords
+    raising-within = let z = v .within j l in omega arith
+
+    pub raising-slot : termWords + q < length ws
+    raising-slot = let h = v .room in let n = r .raised .total in omega (arith, raising-within)
+
+    module _ (x : ℕ) (reads : x ≡ getD ws (termWords + q) 0) where
+      row : x ≡ getD (raise (take j qs) d e (lengthRow ws₀)) (getD qs j 0) 0
+      row = reads ∙ sym (length-row-at ws q raising-within) ∙ (λ i. getD (r .raised .lengths i) (is i) 0)
+
+      pub raising-less : d ≤ x
+      raising-less = let z = v .less j l in omega (arith, row)
+
+      pub raising-fits : x - d + e ≤ 65535
+      raising-fits = subst (λ z. z - d + e ≤ 65535) (sym row) (v .fits j l)
+
+      pub raising-turn : Raising ws₀ qs d e (set ws (termWords + q) (x - d + e)) (j + 1)
+      raising-turn =
+          let y = length-set-row ws q (x - d + e) raising-within in
+          let more : take (j + 1) qs ≡ take j qs ++ getD qs j 0 ∷ [] = ap (λ z. take z qs) (add-one j) ∙ take-suc qs j 0 l in
+          record {
+            some = omega arith;
+            raised = record {
+              lengths = y .lengths-are ∙ (λ i. set (r .raised .lengths i) (is i) (row i - d + e))
+                  ∙ sym (raise-snoc d e (take j qs) (getD qs j 0) (lengthRow ws₀)) ∙ ap (λ z. raise z d e (lengthRow ws₀)) (sym more);
+              words = y .words-are ∙ r .raised .words;
+              counts = y .counts-are ∙ r .raised .counts;
+              total = length-set ws (termWords + q) (x - d + e) ∙ r .raised .total;
+            };
+          }
+
+-- ---- the way to the subterm at p of t, in whose place v was put
+
+module _ (s : System) (wf : WellFormed s) {t : List ℕ} (h : Whole (s .arities) t) {ps : List ℕ} {p : ℕ} (w : Way s t ps p) (v : List ℕ) where
+  abbrev g : Signature
+  g = s .arities
+
+  module _ {ws ws₁ : List ℕ} {level : ℕ} {gap : Gap} (placed : Placed g ws t (replace g t p v) p level gap ws₁) {d e : ℕ} (wide : d ≡ span g (drop p t) 1) (long : e ≡ length v) where
+    -- the lengths on the way may be raised
+    pub raisable : length (replace g t p v) ≤ termWords → Raisable ws₁ ps d e
+    raisable few = record {
+      room = omega (arith, placed .total);
+      within = λ j l. let z = way-before w j l in let f = placed .front in let y = placed .gapped .lies in omega (arith, y .low, y .high);
+      less = λ j l. way-raise-room s wf h w (lengthRow ws₁) (placed .before) j l d e wide;
+      fits = λ j l. let z = way-raise-fits s wf h w (lengthRow ws₁) (placed .before) j l d e wide v long in omega arith;
+    }
+
+    -- then all lengths are those of the new term
+    module _ (hv : Whole g v) {ws₂ : List ℕ} (r : Raised ws₁ ps d e ws₂) where
+      abbrev b : ℕ
+      b = gap .back
+
+      pub raised-term : termIn ws₂ gap ≡ replace g t p v
+      raised-term = ap (closed gap) (r .words) ∙ placed .term
+
+      behind-it : Measured g ws₂ (behind b)
+      behind-it =
+          let m = placed .later in
+          let l = placed .gapped .lies .low in
+          let f = placed .front in
+          record {
+            gapped = record { room = let z = m .gapped .room in let n = r .total in omega arith; lies = m .gapped .lies };
+            lengths =
+                row-behind b (lengthRow ws₂) ∙ ap (drop b) (r .lengths) ∙ raise-drop d e ps (lengthRow ws₁) b (λ k n. let z = way-before w k n in omega arith)
+                ∙ sym (row-behind b (lengthRow ws₁)) ∙ m .lengths ∙ ap (λ z. spans g (closed (behind b) z)) (sym (r .words));
+          }
+
+      before-it : take p (lengthRow ws₂) ≡ take p (spans g (termIn ws₂ gap))
+      before-it =
+          ap (take p) (r .lengths) ∙ raise-take d e ps (lengthRow ws₁) p (way-before w) ∙ ap (raise ps d e) (placed .before)
+          ∙ (λ i. raise ps (wide i) (long i) (take p (spans g t))) ∙ sym (way-spans-front s wf h w v hv) ∙ ap (λ z. take p (spans g z)) (sym raised-term)
+
+      pub raised-measured : Measured g ws₂ gap
+      raised-measured =
+          measured-join (placed .gapped .lies .low) behind-it
+          (subst (λ n. take n (lengthRow ws₂) ≡ take n (spans g (termIn ws₂ gap))) (sym (placed .front)) before-it)

@@ -1,0 +1,3 @@
+-- Inner: a rewrite, a step
+pub mod rewrites
+pub mod steps

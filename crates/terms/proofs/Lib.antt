@@ -1,0 +1,3 @@
+-- One argument of a term
+pub mod Answering
+pub mod Arguments
