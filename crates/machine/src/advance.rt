@@ -2,7 +2,7 @@
 ghost use mathlib.Core.Path.{_≡_};
 ghost use Rattle.reader.specs.Book.{systemOf, Accepted};
 ghost use Rattle.machine.specs.declared.advance.Stop.the-variants.{Ready};
-ghost use Rattle.machine.specs.advance.Area.{Tracks};
+ghost use Rattle.machine.specs.advance.Area.{baseOf, Tracks};
 ghost use Rattle.machine.specs.advance.Transition.{sinceAt, Performed};
 ghost use Rattle.machine.specs.advance.Arrivals.{Advances};
 ghost use Rattle.layout.specs.index.Index.{Indexed};
@@ -89,8 +89,8 @@ fn take_transition(
     at: Innermost,
 ) -> Event
     requires { ⌜ Accepted (now book) shape × Indexed (now book) shape (now index)
-        × Tracks (systemOf (now book)) (now area) (now frame) (at .gap) (at .level) ⌝ }
-    ensures { λ r. ⌜ Performed (systemOf (now (book .entry))) at (now (area .entry)) (now (frame .entry)) r
+        × Tracks (systemOf (now book)) (now area) (now frame) (at .gap) (baseOf (now frame)) (at .level) ⌝ }
+    ensures { λ r. ⌜ Performed (systemOf (now (book .entry))) at (baseOf (now (frame .entry))) (now (area .entry)) (now (frame .entry)) r
         (now (area .exit)) (now (frame .exit)) ⌝ }
 {
     let gap = at.gap;
@@ -126,7 +126,8 @@ fn take_transition(
     }
 }
 
-// Goes on without rewriting: to the end, to just before the next rewrite, or to where an argument would be opened from level 64.
+// Goes on without rewriting, in the subterm at the base, which is the frame's first word: to the end, to just before the next rewrite, or to where
+// an argument would be opened from level 64.
 //
 // The term stays as it is, so an entry that was followed once in this run of transitions is passed over when it is repeated: `floor` is the
 // innermost level that was open before and has not been left, and `since` how many of its entries were begun before.
@@ -139,8 +140,9 @@ pub fn advance(
     state: State,
 ) -> Advanced
     requires { ⌜ Accepted (now book) shape × Indexed (now book) shape (now index)
-        × Tracks (systemOf (now book)) (now area) (now frame) (state .gap) (state .level) ⌝ }
-    ensures { λ r. ⌜ Advances (systemOf (now (book .entry))) state (now (area .entry)) r (now (area .exit)) (now (frame .exit)) ⌝ }
+        × Tracks (systemOf (now book)) (now area) (now frame) (state .gap) (baseOf (now frame)) (state .level) ⌝ }
+    ensures { λ r. ⌜ Advances (systemOf (now (book .entry))) state (baseOf (now (frame .entry))) (now (area .entry)) r
+        (now (area .exit)) (now (frame .exit)) ⌝ }
 {
     let gap = state.gap;
     let mut level = state.level;

@@ -10,7 +10,6 @@ use buffers::move_words;
 use rows::gap::Gap;
 use rows::gap::move_gap;
 use rows::lengths::COUNTS;
-use system::limits::TERM_WORDS;
 
 // Words of the term that are to be replaced: how many levels stand around them, the position of the first, and how many they are.
 pub struct Subterm {
@@ -19,7 +18,7 @@ pub struct Subterm {
     pub width: usize,
 }
 
-// What a rewrite came to: whether the term would have more than 4,096 words; where the gap is now, and if it would, one that leaves no word.
+// What a rewrite came to: whether the term would have more than 4,096 words, and then it stands as it did; where the gap is now.
 pub struct Reduced {
     pub long: bool,
     pub gap: Gap,
@@ -52,8 +51,8 @@ fn set_aside(area: &mut [u16], gap: Gap, u: Subterm, k: usize) -> Source
     }
 }
 
-// Puts the reduct of a side, its variables filled with these stretches, in the place of the words of u. Where the term would be too long it is
-// given up. Word v of the bindings is where the stretch of variable v starts, word 16 + v how many words it has.
+// Puts the reduct of a side, its variables filled with these stretches, in the place of the words of u. Where the term would be too long it
+// stays as it is. Word v of the bindings is where the stretch of variable v starts, word 16 + v how many words it has.
 pub fn put_reduct(
     book: &[u16],
     side: &[u16],
@@ -70,13 +69,7 @@ pub fn put_reduct(
     let k = reduct_length(side, bindings);
     let g = move_gap(area, gap, front + u.width);
     if g.back < front + k {
-        return Reduced {
-            long: true,
-            gap: Gap {
-                front: 0,
-                back: TERM_WORDS,
-            },
-        };
+        return Reduced { long: true, gap: g };
     }
     let source = set_aside(area, g, u, k);
     let back = write_reduct(book, side, area, g.back, bindings, source);

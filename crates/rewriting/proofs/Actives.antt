@@ -1,5 +1,6 @@
--- Active positions of a whole term: a whole subterm stands at each.
-use Prim.Native.Nat.{ℕ, suc, _≤_, _<_}
+-- Active positions of a whole term: a whole subterm stands at each, as it does at every index.
+use Prim.Native.Nat.{ℕ, zero, suc, _≤_, _<_}
+use native.Mathlib.Nat.{le-of-suc-le-suc, not-suc-le-zero}
 use native.Mathlib.Omega.{arith}
 use mathlib.Core.Path.{_≡_, refl, sym, ap, _∙_, subst}
 use mathlib.Core.List.{List, [], _∷_, _++_, append-nil, flatten}
@@ -7,9 +8,9 @@ use lib.ListN.{length, getD, take, drop, List·getD-append}
 use lib.Seq.{drop-at}
 use Rattle.system.specs.Signature.{Signature, Symbol, argument, subterm}
 use Rattle.system.specs.System.{System, strategy, head}
-use Rattle.system.specs.Terms.{Whole, Member, WellFormed}
+use Rattle.system.specs.Terms.{Forest, empty, more, Whole, Member, WellFormed}
 use Rattle.rewriting.specs.Rewriting.{Active, root, below}
-use Rattle.system.proofs.Forests.{Wholes, focus-here, Node, as-node}
+use Rattle.system.proofs.Forests.{split, Wholes, focus-here, Node, as-node}
 use Rattle.system.proofs.Places.{argument-front, at-head, at-argument, at-subterm, root-argument}
 
 -- the argument of u with i others before it
@@ -82,3 +83,29 @@ module _ (s : System) where
   -- the whole subterm at an active position
   pub active-whole : WellFormed s → {t : List ℕ} {p : ℕ} → Whole g t → Active s t p → At (λ _. Unit {0}) t p
   active-whole wf h act = active-at wf (λ _. Unit {0}) (λ u i h c st. tt) h tt act
+
+  -- and at each index of a whole term, active or not
+  forest-at : {k : ℕ} {ws : List ℕ} (p : ℕ) → Forest g (Symbol g) k ws → p < length ws → At (λ _. Unit {0}) ws p
+  forest-at p empty l = absurd (not-suc-le-zero l)
+  forest-at zero (more {w} {k} {ws} h f) l =
+      let c = split g (Symbol g) (more {k = k} h f) 1 k (omega arith) in
+      record { before = []; here = c .front; behind = c .back; equal = c .equal; position = refl; whole = c .fronts; has = tt }
+  forest-at (suc p) (more {w} {ws} h f) l =
+      let c = forest-at p f (le-of-suc-le-suc l) in
+      record {
+        before = w ∷ c .before;
+        here = c .here;
+        behind = c .behind;
+        equal = ap (λ r. w ∷ r) (c .equal);
+        position = ap suc (c .position);
+        whole = c .whole;
+        has = tt;
+      }
+
+  pub whole-at : {t : List ℕ} (p : ℕ) → Whole g t → p < length t → At (λ _. Unit {0}) t p
+  whole-at p h l = forest-at p h l
+
+  -- and so at each argument that stands in the strategy
+  pub at-below : WellFormed s → {t : List ℕ} {p : ℕ} (i : ℕ) → At (λ _. Unit {0}) t p → Member (suc i) (strategy s (getD t p 0)) → At (λ _. Unit {0}) t (argument g t p i)
+  at-below wf {t} {p} i x st =
+      lower-at wf (λ _. Unit {0}) (λ u i h c st. tt) t p i (x .before) (x .here) (x .behind) (x .equal) (x .position) (x .whole) tt st

@@ -13,6 +13,8 @@ pub mod Laws
 pub mod OpenLevels
 pub mod Iterate
 pub mod MachineTheorem
+pub mod Runs
+pub mod Comings
 pub mod Stopped
 -- The lengths beside a term's words, after a rewrite
 pub mod Raises
@@ -22,3 +24,4 @@ pub mod RowEdits
 pub mod Ways
 pub mod WayLevels
 pub mod WayRows
+pub mod Everywhere

@@ -1,16 +1,18 @@
 -- The open levels of a state of the machine: their positions are active, one level more and one less, and a rewrite below them leaves them.
-use Prim.Native.Nat.{ℕ, suc, _≤_, _<_}
+use Prim.Native.Nat.{ℕ, suc, _+_, _≤_, _<_}
 use native.Mathlib.Omega.{arith}
 use mathlib.Core.Path.{_≡_, refl}
 use mathlib.Core.List.{List, [], _∷_, _++_}
 use lib.ListN.{length, getD}
 use Rattle.system.specs.Signature.{replace}
 use Rattle.system.specs.System.{System}
+use Rattle.system.specs.Terms.{WellFormed}
 use Rattle.rewriting.specs.Rewriting.{Active, below}
 use Rattle.rewriting.specs.Machine.{strategyAt, down, position}
 use Rattle.rewriting.specs.levels.Opened.{Opened, base, level}
 use Rattle.system.proofs.Members.{member-getD}
-use Rattle.rewriting.proofs.Laws.{position-le, replace-strategy, replace-down}
+use Rattle.rewriting.proofs.Actives.{At, at-below}
+use Rattle.rewriting.proofs.Laws.{down-lt, position-le, replace-strategy, replace-down}
 
 module _ (s : System) (t : List ℕ) where
   -- the position below is active
@@ -19,6 +21,19 @@ module _ (s : System) (t : List ℕ) where
   opened-active act base = act
   opened-active act (level {p} {c} {i} h e o) =
       opened-active (rw e (below i act (rw e at (member-getD (strategyAt s t p) c h)))) o
+
+  -- a whole subterm stands there, if one does where the levels start
+  pub opened-at : WellFormed s → {p : ℕ} {cs : List ℕ} → At s (λ _. Unit {0}) t p → Opened s t p cs → At s (λ _. Unit {0}) t (position s t cs p)
+  unfolding position down
+  opened-at wf x base = x
+  opened-at wf x (level {p} {c} {i} h e o) =
+      opened-at wf (rw e (at-below s wf i x (rw e at (member-getD (strategyAt s t p) c h)))) o
+
+  -- as many words before it, behind the first one, as there are levels
+  pub opened-room : {p : ℕ} {cs : List ℕ} → Opened s t p cs → p + length cs ≤ position s t cs p
+  unfolding position
+  opened-room base = omega arith
+  opened-room (level {p} {c} {cs} h e o) = let z = opened-room o in let y = down-lt s t p (suc c) in omega arith
 
   -- one level more
   pub opened-open : {p : ℕ} {cs : List ℕ} (c i : ℕ) → Opened s t p cs → c < length (strategyAt s t (position s t cs p)) → getD (strategyAt s t (position s t cs p)) c 0 ≡ suc i →

@@ -22,6 +22,11 @@ module _ (d e : ℕ) where
   raise-snoc [] q ls = refl
   raise-snoc (x ∷ qs) q ls = raise-snoc qs q (set ls x (getD ls x 0 - d + e))
 
+  pub raise-append : (ps qs ls : List ℕ) → raise (ps ++ qs) d e ls ≡ raise qs d e (raise ps d e ls)
+  unfolding raise
+  raise-append [] qs ls = refl
+  raise-append (p ∷ ps) qs ls = raise-append ps qs (set ls p (getD ls p 0 - d + e))
+
   pub raise-length : (qs ls : List ℕ) → length (raise qs d e ls) ≡ length ls
   unfolding raise
   raise-length [] ls = refl

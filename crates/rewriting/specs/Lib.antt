@@ -5,5 +5,6 @@ pub mod Rewriting
 pub mod Outcomes
 -- The evaluation as a machine
 pub mod Machine
+pub mod Runs
 -- Inner
 pub mod levels

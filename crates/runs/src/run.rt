@@ -21,6 +21,7 @@ use records::recording::put_pair;
 use rows::gap::Gap;
 use rows::lengths::COUNTS;
 use rows::lengths::lay;
+use steps::steps::Based;
 use steps::steps::step;
 use system::limits::TERM_WORDS;
 use system::numbers::NESTED;
@@ -93,7 +94,8 @@ pub fn run(
                 }
                 let m = a.redex;
                 let at = wide(frame[level]);
-                let here = State { gap, level };
+                let state = State { gap, level };
+                let here = Based { state, way: 0 };
                 let r = step(book, &index, area, &frame, here, m);
                 if r.long {
                     return stopped(OVERLONG, steps);

@@ -1,7 +1,9 @@
 // A step of the machine: a rewrite at the innermost level, and the lengths on the way to it made true again.
 ghost use Prim.Native.Nat.{_≤_};
+ghost use mathlib.Core.Path.{_≡_};
 ghost use lib.ListN.{length, take};
-ghost use Rattle.steps.specs.steps.Raised.{Raisable, Raised};
+ghost use Rattle.system.specs.Limits.{areaWords, termWords};
+ghost use Rattle.steps.specs.steps.Raised.{Raisable, Raised, wayIn};
 ghost use Rattle.steps.specs.steps.Stepped.{Steppable, Steps};
 use crate::rewrites::Site;
 use crate::rewrites::rewrite;
@@ -29,20 +31,39 @@ fn raise(area: &mut [u16], frame: &[u16], level: usize, width: usize, size: usiz
     }
 }
 
+// The same for the n symbols on the way to the base, which is kept at the end of the third row: the root in its last word.
+fn raise_way(area: &mut [u16], n: usize, width: usize, size: usize)
+    requires { ⌜ (length (now area) ≡ areaWords) × (n ≤ termWords) × Raisable (now area) (wayIn (now area) n) width size ⌝ }
+    ensures { λ _. ⌜ Raised (now (area .entry)) (wayIn (now (area .entry)) n) width size (now (area .exit)) ⌝ }
+{
+    let mut k = 0;
+    while k < n {
+        let at = TERM_WORDS + wide(area[COUNTS + (TERM_WORDS - 1 - k)]);
+        area[at] = (wide(area[at]) - width + size) as u16;
+        k += 1;
+    }
+}
+
+// A state, and how many symbols are on the way to its base.
+pub struct Based {
+    pub state: State,
+    pub way: usize,
+}
+
 // Rewrites the subterm of the innermost level by the match that was found there, and starts that level anew.
 pub fn step(
     book: &[u16],
     index: &[u16],
     area: &mut [u16],
     frame: &[u16],
-    state: State,
+    from: Based,
     m: Redex,
 ) -> Reduced
-    requires { ⌜ Steppable (now book) (now index) (now area) (now frame) state m ⌝ }
-    ensures { λ r. ⌜ Steps (now (book .entry)) (now (area .entry)) (now (frame .entry)) state r (now (area .exit)) ⌝ }
+    requires { ⌜ Steppable (now book) (now index) (now area) (now frame) (from .state) (from .way) m ⌝ }
+    ensures { λ r. ⌜ Steps (now (book .entry)) (now (area .entry)) (now (frame .entry)) (from .state) r (now (area .exit)) ⌝ }
 {
-    let gap = state.gap;
-    let level = state.level;
+    let gap = from.state.gap;
+    let level = from.state.level;
     let at = wide(frame[level]);
     let width = length_at(area, gap, at);
     let site = Site {
@@ -55,8 +76,9 @@ pub fn step(
     if r.long {
         return r;
     }
-    let after = words(r.gap);
-    raise(area, frame, level, width, after + width - words(gap));
+    let size = words(r.gap) + width - words(gap);
+    raise_way(area, from.way, width, size);
+    raise(area, frame, level, width, size);
     area[COUNTS + level] = 0;
     r
 }

@@ -5,7 +5,7 @@ use native.Mathlib.Omega.{arith}
 use mathlib.Core.Path.{_≡_, refl, sym, ap, _∙_, subst}
 use mathlib.Core.List.{List, [], _∷_, _++_, append-nil}
 use lib.ListN.{length, getD, take, drop, set, length-append, length-drop, length-set, drop-of-length-le}
-use lib.Seq.{length-take-le, take-at, drop-at, take-take, take-set-le, take-suc-set, take-suc, take-append-seam, drop-set-add, getD-take, getD-drop, getD-at}
+use lib.Seq.{length-take-le, take-at, drop-at, take-take, take-set-le, take-suc-set, take-suc, take-append-seam, drop-set-add, drop-set-lt, getD-take, getD-drop, getD-at}
 use Rattle.system.specs.Limits.{areaWords, levels, termWords}
 use Rattle.system.specs.Signature.{Signature}
 use Rattle.system.specs.System.{System}
@@ -13,8 +13,10 @@ use Rattle.rows.specs.declared.gap.Gap.{Gap}
 use Rattle.rows.specs.gap.Gaps.{countsAt, termIn}
 use Rattle.rows.specs.lengths.Measured.{Measured}
 use Rattle.rows.proofs.lengths.Measures.{measured-counts, term-counts}
+use Rattle.rewriting.specs.Machine.{position}
+use Rattle.reducts.specs.putting.Replaced.{Kept}
 use Rattle.redexes.specs.search.Redexes.{bindingWords}
-use Rattle.machine.specs.advance.Area.{outerIn, countIn, Stands, Valid, Positioned, Represents, frameWords, Tracks}
+use Rattle.machine.specs.advance.Area.{baseOf, outerIn, countIn, lastWords, Stands, Valid, Positioned, Represents, frameWords, Tracks}
 
 -- the words behind the rows
 third : (ws : List ℕ) → length ws ≡ areaWords → length (drop countsAt ws) ≡ termWords
@@ -47,6 +49,11 @@ module _ {g : Signature} {ws : List ℕ} {gap : Gap} {t : List ℕ} where
             ∙ ap (λ y. y ++ v ∷ []) (ap (λ y. take y (drop countsAt ws)) (sym e) ∙ h .counts);
       }
 
+-- and the last words stay
+pub last-set : (base : ℕ) (ws : List ℕ) (level v : ℕ) → base + level < termWords → lastWords base (set ws (countsAt + level) v) ≡ lastWords base ws
+last-set base ws level v h =
+    ap (drop (termWords - base)) (drop-set-add countsAt ws level v) ∙ drop-set-lt (termWords - base) (drop countsAt ws) level v (omega arith)
+
 -- what the counts of an area are
 module _ {g : Signature} {ws : List ℕ} {gap : Gap} {t : List ℕ} (outer : List ℕ) (c : ℕ) {level : ℕ} (is : Stands g ws gap t (outer ++ c ∷ [])) (levels : length outer ≡ level) where
   size : length (outer ++ c ∷ []) ≡ suc level
@@ -72,8 +79,8 @@ module _ {g : Signature} {ws : List ℕ} {gap : Gap} {t : List ℕ} (outer : Lis
   count-set v l = stands-set outer level v levels l stands-outer
 
 module _ {s : System} {ws : List ℕ} {gap : Gap} {t : List ℕ} (outer : List ℕ) (c : ℕ) {level : ℕ} (is : Stands (s .arities) ws gap t (outer ++ c ∷ [])) (levels : length outer ≡ level)
-    (valid : Valid s t outer c) where
-  pub represents : Represents s ws gap level
+    {base : ℕ} (valid : Valid s t base outer c) where
+  pub represents : Represents s ws gap base level
   represents =
       let e₁ = sym (is .term) in
       let e₂ = sym (held-outer outer c is levels) in
@@ -81,22 +88,22 @@ module _ {s : System} {ws : List ℕ} {gap : Gap} {t : List ℕ} (outer : List �
       record {
         total = is .total;
         measured = is .measured;
-        valid = subst (λ y. Valid s y (outerIn ws level) (countIn ws level)) e₁
-            (subst (λ y. Valid s t y (countIn ws level)) e₂ (subst (λ y. Valid s t outer y) e₃ valid));
+        valid = subst (λ y. Valid s y base (outerIn ws level) (countIn ws level)) e₁
+            (subst (λ y. Valid s t base y (countIn ws level)) e₂ (subst (λ y. Valid s t base outer y) e₃ valid));
         levels = ap length (held-outer outer c is levels) ∙ levels;
       }
 
-  pub holds : (positions : List ℕ) → length positions ≡ frameWords → Positioned s t outer positions → Tracks s ws positions gap level
+  pub holds : (positions : List ℕ) → length positions ≡ frameWords → Positioned s t base outer positions → Tracks s ws positions gap base level
   holds positions slots at = record {
     represents = represents;
     slots = slots;
-    positioned = subst (λ y. Positioned s y (outerIn ws level) positions) (sym (is .term)) (subst (λ y. Positioned s t y positions) (sym (held-outer outer c is levels)) at);
+    positioned = subst (λ y. Positioned s y base (outerIn ws level) positions) (sym (is .term)) (subst (λ y. Positioned s t base y positions) (sym (held-outer outer c is levels)) at);
   }
 
 -- an area that holds a state, as it stands
-pub stands-state : {s : System} {ws : List ℕ} {gap : Gap} {level : ℕ} → Represents s ws gap level →
+pub stands-state : {s : System} {ws : List ℕ} {gap : Gap} {base level : ℕ} → Represents s ws gap base level →
     Stands (s .arities) ws gap (termIn ws gap) (outerIn ws level ++ countIn ws level ∷ [])
-stands-state {s} {ws} {gap} {level} h =
+stands-state {s} {ws} {gap} {base} {level} h =
     let n : length (outerIn ws level ++ countIn ws level ∷ []) ≡ suc level = length-append (outerIn ws level) (countIn ws level ∷ []) ∙ omega (arith, h .levels) in
     let z = h .valid .room in
     record {
@@ -105,6 +112,33 @@ stands-state {s} {ws} {gap} {level} h =
       term = refl;
       counts = ap (λ y. take y (drop countsAt ws)) n ∙ take-suc (drop countsAt ws) level 0 (let y = third ws (h .total) in omega (arith, h .levels))
           ∙ ap (λ y. outerIn ws level ++ y ∷ []) (getD-drop countsAt ws level 0);
+    }
+
+-- the base that it tracks is the frame's first word, so it tracks from there
+pub tracks-base : {s : System} {ws frame : List ℕ} {gap : Gap} {base level : ℕ} → Tracks s ws frame gap base level → baseOf frame ≡ base
+unfolding position
+tracks-base h = h .positioned 0 (omega arith)
+
+pub tracks-first : {s : System} {ws frame : List ℕ} {gap : Gap} {base level : ℕ} → Tracks s ws frame gap base level → Tracks s ws frame gap (baseOf frame) level
+tracks-first {s} {ws} {frame} {gap} {base} {level} h = subst (λ y. Tracks s ws frame gap y level) (sym (tracks-base h)) h
+
+-- where the term and the words behind the rows stay, the state does, wherever the gap moved to
+pub tracks-kept : {s : System} {ws frame : List ℕ} {gap : Gap} {base level : ℕ} {gap′ : Gap} {ws′ : List ℕ} → Tracks s ws frame gap base level →
+    Kept (s .arities) ws (termIn ws gap) gap′ ws′ → Tracks s ws′ frame gap′ base level
+tracks-kept {s} {ws} {frame} {gap} {base} {level} {gap′} {ws′} h k =
+    let eo : outerIn ws level ≡ outerIn ws′ level = sym (ap (take level) (k .counts)) in
+    let ec : countIn ws level ≡ countIn ws′ level = sym (sym (getD-drop countsAt ws′ level 0) ∙ ap (λ y. getD y level 0) (k .counts) ∙ getD-drop countsAt ws level 0) in
+    let et : termIn ws gap ≡ termIn ws′ gap′ = sym (k .term) in
+    record {
+      represents = record {
+        total = k .total;
+        measured = k .measured;
+        valid = subst (λ y. Valid s y base (outerIn ws′ level) (countIn ws′ level)) et
+            (subst (λ y. Valid s (termIn ws gap) base y (countIn ws′ level)) eo (subst (λ y. Valid s (termIn ws gap) base (outerIn ws level) y) ec (h .represents .valid)));
+        levels = ap length (sym eo) ∙ h .represents .levels;
+      };
+      slots = h .slots;
+      positioned = subst (λ y. Positioned s y base (outerIn ws′ level) frame) et (subst (λ y. Positioned s (termIn ws gap) base y frame) eo (h .positioned));
     }
 
 -- ---- a frame whose bindings may have changed: the positions stay
@@ -116,9 +150,9 @@ pub record SamePositions (frame frame′ : List ℕ) : Type 0 where
 pub same-positions : (frame : List ℕ) → SamePositions frame frame
 same-positions frame = record { size = refl; front = refl }
 
-pub tracks-frame : {s : System} {ws frame : List ℕ} {gap : Gap} {level : ℕ} {frame′ : List ℕ} → Tracks s ws frame gap level → SamePositions frame frame′ →
-    Tracks s ws frame′ gap level
-tracks-frame {s} {ws} {frame} {gap} {level} {frame′} h e = record {
+pub tracks-frame : {s : System} {ws frame : List ℕ} {gap : Gap} {base level : ℕ} {frame′ : List ℕ} → Tracks s ws frame gap base level → SamePositions frame frame′ →
+    Tracks s ws frame′ gap base level
+tracks-frame {s} {ws} {frame} {gap} {base} {level} {frame′} h e = record {
   represents = h .represents;
   slots = e .size ∙ h .slots;
   positioned = λ k l.

@@ -30,6 +30,9 @@ module _ (τ : Round) where
   abbrev s : System
   s = systemOf (τ .book)
 
+  abbrev base : ℕ
+  base = τ .base
+
   abbrev gap : Gap
   gap = τ .state .gap
 
@@ -43,23 +46,27 @@ module _ (τ : Round) where
   c = countIn (τ .ws) (τ .level)
 
   abbrev Came : Advanced → Type 0
-  Came r = Advances s (τ .state) (τ .ws₀) r (τ .ws′) (τ .frame)
+  Came r = Advances s (τ .state) base (τ .ws₀) r (τ .ws′) (τ .frame)
 
-  valid : Valid s t outer c
+  valid : Valid s t base outer c
   valid = τ .kept .held .represents .valid
 
   levels : length outer ≡ τ .level
   levels = τ .kept .held .represents .levels
+
+  -- the last words are those that the loop started with
+  came : (r : Advanced) → Arrives (r .stop) s (τ .state) base (τ .ws₀) r (τ .ws′) (τ .frame) → Came r
+  came r h = (h, τ .performed .kept ∙ τ .kept .kept)
 
   -- the strategy of the outermost level is at its end
   pub arrives-end : τ .event ≡ End → τ .level ≡ 0 → (r : Advanced) → r .stop ≡ Final → Came r
   arrives-end e h r stop =
       let x = told τ End e in
       let none-around : outer ≡ [] = ap (λ y. outerIn (τ .ws) y) h in
-      subst (λ y. Arrives y s (τ .state) (τ .ws₀) r (τ .ws′) (τ .frame)) (sym stop) (record {
-        next = sym (τ .kept .same) ∙ advance-pop s t 64 0 outer c (valid .room) (x .0) ∙ ap (λ y. advance s 64 y t 0) none-around ∙ advance-end s t 64 0;
+      came r (subst (λ y. Arrives y s (τ .state) base (τ .ws₀) r (τ .ws′) (τ .frame)) (sym stop) (record {
+        next = sym (τ .kept .same) ∙ advance-pop s t 64 base outer c (valid .room) (x .0) ∙ ap (λ y. advance s 64 y t base) none-around ∙ advance-end s t 64 base;
         stands = subst₂ (Stands (s .arities) (τ .ws′) gap) (τ .kept .term) none-around (stands τ (to.end outer) (x .1));
-      })
+      }))
 
   -- an argument would be opened from level 64
   pub arrives-deep : τ .event ≡ TooDeep → (r : Advanced) → r .stop ≡ Deep → r .level ≡ τ .level → Came r
@@ -67,36 +74,37 @@ module _ (τ : Round) where
       let x = told τ TooDeep e in
       let l : length (outer ++ c ∷ []) ≡ suc (r .level) = rw (length-append outer (c ∷ [])) (omega (arith, levels)) in
       let g = valid .room in
-      subst (λ y. Arrives y s (τ .state) (τ .ws₀) r (τ .ws′) (τ .frame)) (sym stop) (record {
-        next = sym (τ .kept .same) ∙ advance-too-deep s t 64 0 outer c (valid .room) (x .1) (x .0) (x .2) (omega arith);
+      came r (subst (λ y. Arrives y s (τ .state) base (τ .ws₀) r (τ .ws′) (τ .frame)) (sym stop) (record {
+        next = sym (τ .kept .same) ∙ advance-too-deep s t 64 base outer c (valid .room) (x .1) (x .0) (x .2) (omega arith);
         represents = holds-there τ to.tooDeep (x .4) (r .level) l .represents;
-      })
+        term = stands τ to.tooDeep (x .4) .term ∙ τ .kept .term;
+      }))
 
   -- a rule matches: a rewrite is next
   module _ (e : τ .event ≡ Rules) (m : Redex) (is : m ≡ redexOf s (drop (getD (τ .positions′) (τ .level) 0) (termIn (τ .ws′) gap))) where
     -- the subterm, in the term that the loop started with
-    subterm-is : drop (position s (termIn (τ .ws′) gap) (outerIn (τ .ws′) (τ .level)) 0) (termIn (τ .ws′) gap)
-        ≡ drop (position s (termIn (τ .ws₀) gap) outer 0) (termIn (τ .ws₀) gap)
-    subterm-is = same-subterm τ e ∙ (λ j. drop (position s (τ .kept .term j) outer 0) (τ .kept .term j))
+    subterm-is : drop (position s (termIn (τ .ws′) gap) (outerIn (τ .ws′) (τ .level)) base) (termIn (τ .ws′) gap)
+        ≡ drop (position s (termIn (τ .ws₀) gap) outer base) (termIn (τ .ws₀) gap)
+    subterm-is = same-subterm τ e ∙ (λ j. drop (position s (τ .kept .term j) outer base) (τ .kept .term j))
 
     pub arrives-ready : (m .number ≡ unnumbered → ⊥) → Bound (matchOf s (drop (getD (τ .positions′) (τ .level) 0) (termIn (τ .ws′) gap))) (drop limits.levels (τ .frame)) →
         (r : Advanced) → r ≡ record { stop = Ready; level = τ .level; redex = m } → Came r
     arrives-ready q binds r made =
         let x = told τ Rules e in
         let held = tries-held τ e in
-        let found = tried-match (τ .book) (τ .shape) (τ .accepted) (τ .ws′) (τ .positions′) gap (τ .level) held m is in
-        let some = tried-some (τ .book) (τ .shape) (τ .accepted) (τ .ws′) (τ .positions′) gap (τ .level) held m is q in
-        let bound = tried-bound (τ .book) (τ .shape) (τ .accepted) (τ .ws′) (τ .positions′) gap (τ .level) held m is (drop limits.levels (τ .frame)) binds in
+        let found = tried-match (τ .book) (τ .shape) (τ .accepted) (τ .ws′) (τ .positions′) gap base (τ .level) held m is in
+        let some = tried-some (τ .book) (τ .shape) (τ .accepted) (τ .ws′) (τ .positions′) gap base (τ .level) held m is q in
+        let bound = tried-bound (τ .book) (τ .shape) (τ .accepted) (τ .ws′) (τ .positions′) gap base (τ .level) held m is (drop limits.levels (τ .frame)) binds in
         let here = ap (contraction s) (sym (same-subterm τ e)) ∙ some .1 in
-        subst Came (sym made) (record {
+        subst Came (sym made) (came (record { stop = Ready; level = τ .level; redex = m }) (record {
           outer = outer;
           begun = suc c;
           x = some .0;
-          next = sym (τ .kept .same) ∙ advance-fire s t 64 0 outer c (valid .room) (x .0) (some .0) (x .1) here;
+          next = sym (τ .kept .same) ∙ advance-fire s t 64 base outer c (valid .room) (x .0) (some .0) (x .1) here;
           level = sym levels;
           redex = found ∙ ap (redexOf s) subterm-is;
           bound = subst (λ y. Bound (matchOf s y) (drop limits.levels (τ .frame))) subterm-is bound;
           contracts = ap (contraction s) (sym subterm-is) ∙ some .1;
           stands = subst (λ y. Stands (s .arities) (τ .ws′) gap y (outer ++ suc c ∷ [])) (τ .kept .term) (tries-is τ e);
           holds = tracks-frame held (τ .framed);
-        })
+        }))

@@ -17,12 +17,12 @@ use Rattle.machine.specs.advance.Transition as to
 use Rattle.machine.specs.advance.Transition.{transition, eventOf}
 use Rattle.layout.proofs.entries.Asks.{stood, entry-past, entry-again, entry-rules, entry-argument, Asks, again, opens, asks, end, rules}
 
-module _ (s : System) (t outer : List ℕ) (f c : ℕ) where
+module _ (s : System) (t : List ℕ) (base : ℕ) (outer : List ℕ) (f c : ℕ) where
   abbrev entries : List ℕ
-  entries = strategyAt s t (position s t outer 0)
+  entries = strategyAt s t (position s t outer base)
 
   abbrev next : to.Transition
-  next = transition s t outer f c
+  next = transition s t base outer f c
 
   -- ---- where it leads, by the entry
 

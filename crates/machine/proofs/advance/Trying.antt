@@ -19,7 +19,7 @@ use Rattle.rewriting.specs.Machine.{position}
 use Rattle.machine.specs.advance.Area.{outerIn, Tracks}
 use Rattle.machine.proofs.advance.Bounds.{spot}
 
-module _ (b : List ℕ) (sh : Shape) (acc : Accepted b sh) (ws positions : List ℕ) (gap : Gap) (level : ℕ) (v : Tracks (systemOf b) ws positions gap level) where
+module _ (b : List ℕ) (sh : Shape) (acc : Accepted b sh) (ws positions : List ℕ) (gap : Gap) (base level : ℕ) (v : Tracks (systemOf b) ws positions gap base level) where
   abbrev s : System
   s = systemOf b
 
@@ -27,11 +27,11 @@ module _ (b : List ℕ) (sh : Shape) (acc : Accepted b sh) (ws positions : List 
   p = getD positions level 0
 
   abbrev subterm : List ℕ
-  subterm = drop (position s (termIn ws gap) (outerIn ws level) 0) (termIn ws gap)
+  subterm = drop (position s (termIn ws gap) (outerIn ws level) base) (termIn ws gap)
 
   -- the subterm that the rules are tried on
   front : drop p (termIn ws gap) ≡ subterm
-  front = ap (λ y. drop y (termIn ws gap)) (spot b sh acc ws positions gap level v)
+  front = ap (λ y. drop y (termIn ws gap)) (spot b sh acc ws positions gap base level v)
 
   module _ (m : Redex) (is : m ≡ redexOf s (drop p (termIn ws gap))) where
     pub tried-bound : (bs : List ℕ) → Bound (matchOf s (drop p (termIn ws gap))) bs → Bound (matchOf s subterm) bs

@@ -9,7 +9,7 @@ use Rattle.system.specs.Limits.{levels}
 use Rattle.system.specs.System.{System}
 use Rattle.rewriting.specs.Machine.{strategyAt, position}
 use Rattle.rows.specs.gap.Gaps.{termIn}
-use Rattle.machine.specs.advance.Area.{outerIn, countIn, Stands, Tracks}
+use Rattle.machine.specs.advance.Area.{outerIn, countIn, lastWords, Stands, Tracks}
 use Rattle.layout.specs.entries.Entries.{entryOf}
 use Rattle.layout.specs.declared.entries.Entry.the-variants as entry
 use Rattle.machine.specs.declared.advance.Event.{Event}
@@ -31,11 +31,11 @@ pub data Transition : Type 0 where
   argument : (outer : List ℕ) → Transition
   tooDeep : Transition
 
--- with the levels `outer` around the innermost one, of which c entries are begun, f of them before the present run of transitions; the
+-- from the base, with the levels `outer` around the innermost one, of which c entries are begun, f of them before the present run of transitions; the
 -- innermost level is number suc (length outer)
-unfoldable pub transition : System → List ℕ → List ℕ → ℕ → ℕ → Transition
-transition s t outer f c =
-    elim (entryOf (strategyAt s t (position s t outer 0)) f c) [
+unfoldable pub transition : System → List ℕ → ℕ → List ℕ → ℕ → ℕ → Transition
+transition s t base outer f c =
+    elim (entryOf (strategyAt s t (position s t outer base)) f c) [
       | entry.End ↦ end outer
       | entry.Repeated ↦ repeated outer (suc c)
       | entry.Rules ↦ rules outer (suc c)
@@ -59,23 +59,24 @@ countsAfter counts (argument outer) = outer ++ 0 ∷ []
 countsAfter counts tooDeep = counts
 
 -- the positions of the levels after it: an argument's is noted
-abbrev pub positionsAfter : System → List ℕ → List ℕ → Transition → List ℕ
-positionsAfter s t positions (end outer) = positions
-positionsAfter s t positions (repeated outer c) = positions
-positionsAfter s t positions (rules outer c) = positions
-positionsAfter s t positions (argument outer) = set positions (length outer) (position s t outer 0)
-positionsAfter s t positions tooDeep = positions
+abbrev pub positionsAfter : System → List ℕ → ℕ → List ℕ → Transition → List ℕ
+positionsAfter s t base positions (end outer) = positions
+positionsAfter s t base positions (repeated outer c) = positions
+positionsAfter s t base positions (rules outer c) = positions
+positionsAfter s t base positions (argument outer) = set positions (length outer) (position s t outer base)
+positionsAfter s t base positions tooDeep = positions
 
 -- the transition of the state in an area, and the counts there
-abbrev pub next : System → Innermost → List ℕ → Transition
-next s at ws = transition s (termIn ws (at .gap)) (outerIn ws (at .level)) (at .since) (countIn ws (at .level))
+abbrev pub next : System → Innermost → ℕ → List ℕ → Transition
+next s at base ws = transition s (termIn ws (at .gap)) base (outerIn ws (at .level)) (at .since) (countIn ws (at .level))
 
 abbrev pub countsIn : Innermost → List ℕ → List ℕ
 countsIn at ws = outerIn ws (at .level) ++ countIn ws (at .level) ∷ []
 
 -- what `take_transition` hands back and leaves in the area and in the positions; where a level is still open the area holds a state
-pub record Performed (s : System) (at : Innermost) (ws positions : List ℕ) (r : Event) (ws′ positions′ : List ℕ) : Type 0 where
-  pub event : r ≡ eventOf (next s at ws)
-  pub stands : Stands (s .arities) ws′ (at .gap) (termIn ws (at .gap)) (countsAfter (countsIn at ws) (next s at ws))
-  pub noted : positions′ ≡ positionsAfter s (termIn ws (at .gap)) positions (next s at ws)
-  pub holds : (level : ℕ) → length (countsAfter (countsIn at ws) (next s at ws)) ≡ suc level → Tracks s ws′ positions′ (at .gap) level
+pub record Performed (s : System) (at : Innermost) (base : ℕ) (ws positions : List ℕ) (r : Event) (ws′ positions′ : List ℕ) : Type 0 where
+  pub event : r ≡ eventOf (next s at base ws)
+  pub stands : Stands (s .arities) ws′ (at .gap) (termIn ws (at .gap)) (countsAfter (countsIn at ws) (next s at base ws))
+  pub noted : positions′ ≡ positionsAfter s (termIn ws (at .gap)) base positions (next s at base ws)
+  pub holds : (level : ℕ) → length (countsAfter (countsIn at ws) (next s at base ws)) ≡ suc level → Tracks s ws′ positions′ (at .gap) base level
+  pub kept : lastWords base ws′ ≡ lastWords base ws

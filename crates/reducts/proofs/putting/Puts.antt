@@ -115,6 +115,7 @@ module _ {g : Signature} {side ws : List ℕ} {gap : Gap} {u : Subterm} {c : Str
             later = w .measured;
             before = lengths-before;
             outer = ap (take (u .level)) (w .counts) ∙ r .outer;
+            rest = λ n h. ap (drop n) (w .counts) ∙ r .rest n (let z = closed-length ws gap (p .measured .gapped) in omega (arith, p .within));
           }
 
 -- ---- both ways out, seen from where the gap was
@@ -127,8 +128,8 @@ module _ {g : Signature} {side ws : List ℕ} {gap : Gap} {u : Subterm} {c : Str
   length-moved : length (spliced side (termIn ws gap) u c) + gap′ .back ≡ u .at + reductLength (c .lengths) side + termWords
   length-moved = ap (λ t. length (spliced side t u c) + gap′ .back) (sym (v .words)) ∙ spliced-length q (moved-stands p v)
 
-  pub put-long : gap′ .back < u .at + reductLength (c .lengths) side → Put g side ws gap u c TooLong ws′
-  put-long h = exceeds (omega (arith, length-moved)) refl (v .total ∙ p .total)
+  pub put-long : gap′ .back < u .at + reductLength (c .lengths) side → Put g side ws gap u c (TooLong gap′) ws′
+  put-long h = exceeds (omega (arith, length-moved)) gap′ refl (record { measured = q .measured; total = q .total; term = v .words; counts = v .counts })
 
   pub put-done : {source : Source} {ws₁ ws₂ : List ℕ} {b : ℕ} → Ready g side ws′ gap′ u c source ws₁ → Written g ws₁ (gap′ .back) ws₂ b (reduct side c source ws₁) →
       u .at + reductLength (c .lengths) side ≤ gap′ .back → Put g side ws gap u c (Done (record { front = u .at; back = b })) ws₂
@@ -143,4 +144,5 @@ module _ {g : Signature} {side ws : List ℕ} {gap : Gap} {u : Subterm} {c : Str
         later = d .later;
         before = d .before ∙ ap (λ t. take (u .at) (spans g t)) (v .words);
         outer = d .outer ∙ ap (take (u .level)) (v .counts);
+        rest = λ n h. d .rest n (let z = ap length (v .words) in omega arith) ∙ ap (drop n) (v .counts);
       })

@@ -4,11 +4,11 @@ use native.Mathlib.Omega.{arith}
 use native.Mathlib.Decide.{decLt}
 use mathlib.Core.Path.{_≡_, refl, sym, _∙_, subst}
 use mathlib.Core.List.{List}
-use lib.ListN.{length, take, drop}
-use lib.Seq.{length-sets}
+use lib.ListN.{length, take, drop, length-take}
+use lib.Seq.{drop-drop, length-sets}
 use Rattle.buffers.specs.Words.{over}
 use Rattle.buffers.specs.moves.Parts.{part}
-use Rattle.buffers.proofs.Over.{take-over, part-below}
+use Rattle.buffers.proofs.Over.{take-over, drop-over, part-below}
 use Rattle.system.specs.Limits.{variable}
 use Rattle.system.specs.Signature.{Signature}
 use Rattle.system.specs.System.{instance}
@@ -28,13 +28,14 @@ use Rattle.reducts.proofs.putting.Counted.{instance-counted, count-boun
 use Rattle.reducts.proofs.putting.Sources.{filling-length, filling-small, read-placed, unwritten, read-removed, apart-removed}
 
 -- the area ws₁ in which the redex is read by `source`: the reduct may be written there, and is the filled side; both rows are those of ws, and so
--- are the counts of `level` levels
+-- are the counts of `level` levels and what stands behind the words set aside
 pub record Ready (g : Signature) (side ws : List ℕ) (gap : Gap) (u : Subterm) (c : Stretches) (source : Source) (ws₁ : List ℕ) : Type 0 where
   pub writable : Writable g side ws₁ (gap .back) c source
   pub filled : reduct side c source ws₁ ≡ instance (filling (termIn ws gap) u c) side
   pub rows : take countsAt ws₁ ≡ take countsAt ws
   pub total : length ws₁ ≡ length ws
   pub outer : take (u .level) (drop countsAt ws₁) ≡ take (u .level) (drop countsAt ws)
+  pub rest : (n : ℕ) → u .level + u .width ≤ n → drop n (drop countsAt ws₁) ≡ drop n (drop countsAt ws)
 
 module _ {g : Signature} {side ws : List ℕ} {gap : Gap} {u : Subterm} {c : Stretches} (p : Puttable g side ws gap u c) where
   -- the side is filled alike where its variables are
@@ -69,6 +70,7 @@ module _ {g : Signature} {side ws : List ℕ} {gap : Gap} {u : Subterm} {c : Str
             rows = refl;
             total = refl;
             outer = refl;
+            rest = λ n h. refl;
           }
 
       abbrev ws₁ : List ℕ
@@ -96,7 +98,13 @@ module _ {g : Signature} {side ws : List ℕ} {gap : Gap} {u : Subterm} {c : Str
             rows = same;
             total = long;
             outer = part-below countsAt (u .level) ws (countsAt + u .level) (part (u .at) (u .width) ws) (omega arith);
+            rest = behind;
           }
+        where
+          behind : (n : ℕ) → u .level + u .width ≤ n → drop n (drop countsAt ws₁) ≡ drop n (drop countsAt ws)
+          behind n h =
+              let m = length-take (u .width) (drop (u .at) ws) in
+              drop-drop n countsAt ws₁ ∙ drop-over (countsAt + n) ws (countsAt + u .level) (part (u .at) (u .width) ws) (omega arith) ∙ sym (drop-drop n countsAt ws)
 
       -- in either case
       pub ready : {source : Source} {ws′ : List ℕ} (k : ℕ) → k ≡ reductLength (c .lengths) side → Aside ws gap u k source ws′ → Ready g side ws gap u c source ws′

@@ -74,7 +74,8 @@ abbrev pub spliced : List ℕ → List ℕ → Subterm → Stretches → List �
 spliced side t u c = splice t (u .at) (u .width) (instance (filling t u c) side)
 
 -- the area ws′ holds the term t′ in the place of t, with the gap before what was put there. The lengths of what stands behind the gap are true;
--- those before it are still those of t; the counts of `level` levels are what they were in ws
+-- those before it are still those of t; the counts of `level` levels are what they were in ws, and so is what stands behind the room for the words of
+-- t from `at` on that follows them
 pub record Placed (g : Signature) (ws t t′ : List ℕ) (at level : ℕ) (gap′ : Gap) (ws′ : List ℕ) : Type 0 where
   pub front : gap′ .front ≡ at
   pub gapped : Gapped ws′ gap′
@@ -83,15 +84,24 @@ pub record Placed (g : Signature) (ws t t′ : List ℕ) (at level : ℕ) (gap�
   pub later : Measured g ws′ (behind (gap′ .back))
   pub before : take at (lengthRow ws′) ≡ take at (spans g t)
   pub outer : take level (drop countsAt ws′) ≡ take level (drop countsAt ws)
+  pub rest : (n : ℕ) → level + (length t - at) ≤ n → drop n (drop countsAt ws′) ≡ drop n (drop countsAt ws)
 
--- what is answered: done, with the gap there; or given up, with a gap that leaves no word
+-- the area ws′ holds the term t as ws does, with true lengths and the same words behind the rows; the gap may have moved
+pub record Kept (g : Signature) (ws t : List ℕ) (gap′ : Gap) (ws′ : List ℕ) : Type 0 where
+  pub measured : Measured g ws′ gap′
+  pub total : length ws′ ≡ areaWords
+  pub term : termIn ws′ gap′ ≡ t
+  pub counts : drop countsAt ws′ ≡ drop countsAt ws
+
+-- what is answered: done, with the gap there; or left undone, with the gap around which the term stands as it did
 abbrev pub Done : Gap → Reduced
 Done gap = record { long = false; gap = gap }
 
-abbrev pub TooLong : Reduced
-TooLong = record { long = true; gap = behind termWords }
+abbrev pub TooLong : Gap → Reduced
+TooLong gap = record { long = true; gap = gap }
 
 pub data Put (g : Signature) (side ws : List ℕ) (gap : Gap) (u : Subterm) (c : Stretches) (r : Reduced) (ws′ : List ℕ) : Type 0 where
   fits : length (spliced side (termIn ws gap) u c) ≤ termWords → (gap′ : Gap) → r ≡ Done gap′ →
       Placed g ws (termIn ws gap) (spliced side (termIn ws gap) u c) (u .at) (u .level) gap′ ws′ → Put g side ws gap u c r ws′
-  exceeds : termWords < length (spliced side (termIn ws gap) u c) → r ≡ TooLong → length ws′ ≡ areaWords → Put g side ws gap u c r ws′
+  exceeds : termWords < length (spliced side (termIn ws gap) u c) → (gap′ : Gap) → r ≡ TooLong gap′ → Kept g ws (termIn ws gap) gap′ ws′ →
+      Put g side ws gap u c r ws′

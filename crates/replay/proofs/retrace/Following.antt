@@ -190,7 +190,7 @@ module _ (c : Chosen) where
     pub exceeds : r .long ≡ true → (termWords < length next) × (length ws₁ ≡ areaWords)
     exceeds q =
         let z = rw q at leaves in
-        (subst (λ z. termWords < length z) (moved ∙ here-next) (z .0), z .2)
+        (subst (λ z. termWords < length z) (moved ∙ here-next) (z .0), z .2 .total)
 
     -- it is done
     module _ (q : r .long ≡ false) where

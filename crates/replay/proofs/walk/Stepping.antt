@@ -1,5 +1,5 @@
 -- The finger of a replay: it starts at the root, and a step at it leaves the way to it. What `machine::rewrites::rewrite` asks, and what it leaves.
-use Prim.Native.Nat.{ℕ, _+_, _-_, _≤_}
+use Prim.Native.Nat.{ℕ, _+_, _-_, _≤_, _<_}
 use native.Mathlib.Omega.{arith}
 use mathlib.Core.Path.{_≡_, refl, sym, ap, _∙_, subst}
 use mathlib.Core.Option.{some}
@@ -27,8 +27,7 @@ use Rattle.matching.specs.Bindings.{matchOf}
 use Rattle.redexes.specs.search.Redexes.{redexOf, bindingWords, Bound}
 use Rattle.reducts.specs.putting.Replaced.{Placed}
 use Rattle.rewriting.specs.levels.Lengths.{Way, top}
-use Rattle.rewriting.specs.Rewriting.{Active}
-use Rattle.rewriting.proofs.Contractions.{replaced-whole}
+use Rattle.rewriting.proofs.Contractions.{active-within, replaced-whole}
 use Rattle.rewriting.proofs.Ways.{way-active, way-step}
 use Rattle.steps.specs.rewrites.Rewritten.{Reducible}
 use Rattle.steps.specs.steps.Raised.{Raisable, Raised}
@@ -111,7 +110,7 @@ module _ (book : List ℕ) (shape : Shape) (accepted : Accepted book shape) {t w
         total = v .total;
         measured = v .measured;
         whole = subst (Whole (s .arities)) e (v .whole);
-        active = subst (λ y. Active s y (f .at)) e (way-active (v .way));
+        inside = subst (λ y. f .at < length y) e (active-within s (well book shape accepted) (v .whole) (way-active (v .way)));
         around = b .room;
         match = match ∙ ap (λ y. redexOf s (drop (f .at) y)) e;
         bound = subst (λ y. Bound (matchOf s (drop (f .at) y)) bs) e bound;

@@ -1,7 +1,7 @@
 -- A round of a run's loop: the state that it starts from, and where `advance` comes to.
 use Prim.Native.Nat.{ℕ, _-_}
 use native.Mathlib.Omega.{arith}
-use mathlib.Core.Path.{_≡_, sym, ap, _∙_}
+use mathlib.Core.Path.{_≡_, sym, ap, _∙_, subst₂}
 use mathlib.Core.List.{List, [], _∷_, _++_}
 use lib.ListN.{length, drop-of-length-le, length-take}
 use Rattle.reader.specs.declared.Shape.{Shape}
@@ -20,11 +20,13 @@ use Rattle.machine.specs.declared.advance.State.{State}
 use Rattle.machine.specs.declared.advance.Advanced.{Advanced}
 use Rattle.machine.specs.declared.advance.Stop.{Stop}
 use Rattle.machine.specs.declared.advance.Stop.the-variants.{Final, Deep, Ready}
-use Rattle.machine.specs.advance.Area.{outerIn, countIn}
+use Rattle.machine.specs.advance.Area.{outerIn, countIn, Tracks}
 use Rattle.machine.specs.advance.Arrivals.{Arrives, Advances}
 use Rattle.steps.specs.steps.Stepped.{Steppable}
 use Rattle.rewriting.proofs.MachineTheorem.{iterate-final, iterate-deep, remains}
-use Rattle.machine.proofs.advance.Areas.{held-outer}
+use Rattle.machine.proofs.advance.Areas.{held-outer, tracks-base, tracks-first}
+use Rattle.rewriting.specs.levels.Lengths.{Way, top, everyArgument}
+use Rattle.steps.proofs.steps.Kept.{way-none}
 use Rattle.machine.proofs.advance.Bounds.{spot}
 use Rattle.runs.specs.declared.run.RunResult.{RunResult}
 use Rattle.records.specs.declared.recording.Bounds.{Bounds}
@@ -54,7 +56,7 @@ pub record Round : Type 0 where
   pub a : Advanced
   pub ws′ : List ℕ
   pub positions′ : List ℕ
-  pub came : Advances (systemOf book) (record { gap = gap; level = level }) ws a ws′ positions′
+  pub came : Advances (systemOf book) (record { gap = gap; level = level }) 0 ws a ws′ positions′
 
 abbrev pub asks : Round → Asked
 asks k = record { term = k .term; bounds = k .bounds; lent = k .lent }
@@ -101,7 +103,8 @@ now k = record { term = termIn (k .ws′) (k .gap); trace = k .running .trace }
 
 -- a rewrite is next, and the rounds that are left from here are the evaluation asked for
 pub record Before (k : Round) : Type 0 where
-  pub steppable : Steppable (k .book) (k .index) (k .ws′) (k .positions′) (there k) (k .a .redex)
+  pub steppable : Steppable (k .book) (k .index) (k .ws′) (k .positions′) (there k) 0 (k .a .redex)
+  pub tracks : Tracks (systemOf (k .book)) (k .ws′) (k .positions′) (k .gap) 0 (k .a .level)
   pub begun : ℕ
   pub next : advance (systemOf (k .book)) levels (counts k) (now k .term) 0 ≡ ready (outerIn (k .ws′) (k .a .level)) begun (steppable .x)
   pub same : remains (systemOf (k .book)) (limits (asks k)) (counts k) (now k) ≡ outcome k
@@ -129,9 +132,9 @@ module _ (k : Round) where
   formed = well (k .book) (k .shape) (k .asked .accepted)
 
   pub comes : Comes k (k .a .stop)
-  comes = go (k .a .stop) (k .came)
+  comes = go (k .a .stop) (k .came .0)
     where
-      go : (stop : Stop) → Arrives stop s (record { gap = k .gap; level = k .level }) (k .ws) (k .a) (k .ws′) (k .positions′) → Comes k stop
+      go : (stop : Stop) → Arrives stop s (record { gap = k .gap; level = k .level }) 0 (k .ws) (k .a) (k .ws′) (k .positions′) → Comes k stop
       go Final h =
           let z : outcome k ≡ finished r = sym (k .running .same) ∙ iterate-final s (limits (asks k)) rounds (counts k) r (h .next) in
           λ e q. rw z (
@@ -147,18 +150,20 @@ module _ (k : Round) where
       go Ready h =
           let et = h .stands .term in
           let eo = held-outer (h .outer) (h .begun) (h .stands) (sym (h .level)) in
-          let ep = spot (k .book) (k .shape) (k .asked .accepted) (k .ws′) (k .positions′) (k .gap) (k .a .level) (h .holds) in
+          let ep = spot (k .book) (k .shape) (k .asked .accepted) (k .ws′) (k .positions′) (k .gap) 0 (k .a .level) (h .holds) in
           record {
             steppable = record {
               shape = k .shape;
               accepted = k .asked .accepted;
               indexed = k .indexed;
-              tracks = h .holds;
+              tracks = tracks-first (h .holds);
+              way = subst₂ (Way (everyArgument s) (termIn (k .ws′) (k .gap))) (sym (way-none (k .ws′))) (sym (tracks-base (h .holds))) top;
               match = rw (ep, et, eo) (h .redex);
               bound = rw (ep, et, eo) (h .bound);
               x = h .x;
               contracts = rw (ep, et, eo) (h .contracts);
             };
+            tracks = h .holds;
             begun = h .begun;
             next = rw (et, eo) (h .next);
             same = rw et (k .running .same);

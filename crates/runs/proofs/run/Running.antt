@@ -40,10 +40,10 @@ module _ (s : System) (t : List ℕ) where
   position-take (suc k) (c ∷ cs) p = position-take k cs (down s t p c)
 
 -- a rewrite at the innermost level leaves the positions of the levels around it
-pub positions-kept : (s : System) (wf : WellFormed s) (t outer : List ℕ) (c : ℕ) → Valid s t outer c → (u positions : List ℕ) →
-    Positioned s t outer positions → Positioned s (replace (s .arities) t (position s t outer 0) u) outer positions
+pub positions-kept : (s : System) (wf : WellFormed s) (t outer : List ℕ) (c : ℕ) → Valid s t 0 outer c → (u positions : List ℕ) →
+    Positioned s t 0 outer positions → Positioned s (replace (s .arities) t (position s t outer 0) u) 0 outer positions
 positions-kept s wf t outer c g u positions h k l =
-    h k l ∙ sym (opened-replace s t u (position s t outer 0) (opened-take s t k (g .opened)) (position-take s t k outer 0) (valid-within s wf t outer c g) .1)
+    h k l ∙ sym (opened-replace s t u (position s t outer 0) (opened-take s t k (g .opened)) (position-take s t k outer 0) (valid-within s wf t 0 outer c g) .1)
 
 -- ---- the head of the loop: the area holds a state, and the rounds that are left from it are the evaluation asked for
 
@@ -58,7 +58,7 @@ limits a = limitsOf (a .bounds) (length (a .lent))
 
 -- so many steps are taken, and the record holds their pairs
 pub record Running (s : System) (a : Asked) (ws positions words : List ℕ) (gap : Gap) (level steps : ℕ) : Type 0 where
-  pub holds : Tracks s ws positions gap level
+  pub holds : Tracks s ws positions gap 0 level
   pub afford : steps ≤ a .bounds .limit
   pub trace : Trace
   pub counted : length trace ≡ steps
@@ -70,11 +70,11 @@ pub record Made (s : System) (ws positions : List ℕ) (gap : Gap) (level : ℕ)
   pub t : List ℕ
   pub outer : List ℕ
   pub c : ℕ
-  pub valid : Valid s t outer c
+  pub valid : Valid s t 0 outer c
   pub around : length outer ≡ level
   pub stands : Stands (s .arities) ws gap t (outer ++ c ∷ [])
   pub slots : length positions ≡ frameWords
-  pub positioned : Positioned s t outer positions
+  pub positioned : Positioned s t 0 outer positions
 
 pub running-made : {s : System} {ws positions : List ℕ} {gap : Gap} {level : ℕ} (m : Made s ws positions gap level) (a : Asked) (h : Trace) (steps : ℕ) (words : List ℕ) →
     steps ≤ a .bounds .limit → length h ≡ steps → words ≡ kept (a .bounds .recorded) (a .lent) h →

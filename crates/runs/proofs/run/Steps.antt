@@ -61,14 +61,14 @@ module _ (k : Round) (b : Before k) where
   abbrev x : Contraction
   x = b .steppable .x
 
-  abbrev tracks : Tracks s (k .ws′) (k .positions′) (k .gap) (k .a .level)
-  tracks = b .steppable .tracks
+  abbrev tracks : Tracks s (k .ws′) (k .positions′) (k .gap) 0 (k .a .level)
+  tracks = b .tracks
 
-  valid : Valid s t′ outer c
+  valid : Valid s t′ 0 outer c
   valid = tracks .represents .valid
 
   place : p ≡ position s t′ outer 0
-  place = spot (k .book) (k .shape) (k .asked .accepted) (k .ws′) (k .positions′) (k .gap) (k .a .level) tracks
+  place = spot (k .book) (k .shape) (k .asked .accepted) (k .ws′) (k .positions′) (k .gap) 0 (k .a .level) tracks
 
   pub before-room : k .a .level < levels
   before-room = let z = valid .room in let z′ = tracks .represents .levels in omega arith
@@ -108,7 +108,7 @@ module _ (k : Round) (b : Before k) where
     t = after;
     outer = outer;
     c = 0;
-    valid = rw place (valid-fire s (formed k) t′ outer c valid x (rw (← place) (b .steppable .contracts)) (rw (← place) f));
+    valid = rw place (valid-fire s (formed k) t′ 0 outer c valid x (rw (← place) (b .steppable .contracts)) (rw (← place) f));
     around = tracks .represents .levels;
     stands = w;
     slots = tracks .slots;
@@ -138,9 +138,9 @@ module _ (k : Round) (b : Before k) where
       roomy = rw steps (room-left free .1)
 
       go : Stepped s (k .ws′) (k .positions′) (there k) x r ws → Goes k ws (r .gap) (r .long)
-      go (long f q w) =
+      go (long f gap q w) =
           rw q (sym (b .same) ∙ iterate-long s (limits (asks k)) rounds (counts k) (now k) outer (b .begun) x (b .next) l roomy (rw place at f))
-      go (done f gap q w) =
+      go (done f gap q w last) =
           let e = sym (remains-goes s (limits (asks k)) (counts k) (now k) outer (b .begun) x (b .next) l roomy (rw place at f)) ∙ b .same in
           let d : Pair = record { at = p; number = x .number } in
           rw q (λ words told. running-made (made ws gap f w) (asks k) (d ∷ now k .trace) (k .steps + 1) words (omega (arith, room-left free .0)) (omega (arith, steps))

@@ -24,7 +24,7 @@ use Rattle.reducts.specs.declared.putting.Reduced.{Reduced}
 use Rattle.reducts.specs.declared.putting.Subterm.{Subterm}
 use Rattle.reducts.specs.sides.Sides.{Stretches, stretchesIn}
 use Rattle.reducts.specs.sides.Sides.{Sided}
-use Rattle.reducts.specs.putting.Replaced.{filling, Puttable, spliced, Placed, Put, fits, exceeds}
+use Rattle.reducts.specs.putting.Replaced.{filling, Puttable, spliced, Placed, Kept, Put, fits, exceeds}
 use Rattle.steps.specs.rewrites.Rewritten.{Contracts, Reducible, rewritten, Rewrites, done, long}
 use Rattle.steps.proofs.rewrites.Redexes.{measured, words, small, ends, starts-many, lengths-many, found}
 
@@ -45,7 +45,8 @@ module _ {book index ws : List ℕ} {gap : Gap} {u : Subterm} {m : Redex} {bs : 
       done (subst (λ y. length y ≤ termWords) z l) gap′ q
       (subst (λ y. Placed y ws t (rewritten s ws gap u x) (u .at) (u .level) gap′ ws′) (sym (signature book (asked .shape) (asked .accepted)))
       (subst (λ y. Placed (signatureOf book) ws t y (u .at) (u .level) gap′ ws′) z h))
-  put-rewrites side width c is r ws′ (exceeds l q h) x e = long (subst (λ y. termWords < length y) (is x e) l) q h
+  put-rewrites side width c is r ws′ (exceeds l gap′ q h) x e =
+      long (subst (λ y. termWords < length y) (is x e) l) gap′ q (subst (λ y. Kept y ws t gap′ ws′) (sym (signature book (asked .shape) (asked .accepted))) h)
 
   module _ {k w : ℕ} (F : found asked .rule ≡ Computed k w) where
     low : w < variable

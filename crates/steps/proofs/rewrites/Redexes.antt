@@ -29,8 +29,7 @@ use Rattle.redexes.proofs.search.Found.{redex-none}
 use Rattle.reducts.specs.declared.putting.Subterm.{Subterm}
 use Rattle.reducts.specs.sides.Sides.{stretchesIn}
 use Rattle.reducts.specs.putting.Replaced.{filling}
-use Rattle.rewriting.proofs.Actives.{At, at-parted, active-whole}
-use Rattle.rewriting.proofs.Done.{whole-within}
+use Rattle.rewriting.proofs.Actives.{At, at-parted, whole-at}
 use Rattle.steps.specs.rewrites.Rewritten.{Contracts, Reducible}
 
 module _ {book index ws : List ℕ} {gap : Gap} {u : Subterm} {m : Redex} {bs : List ℕ} (asked : Reducible book index ws gap u m bs) where
@@ -54,7 +53,7 @@ module _ {book index ws : List ℕ} {gap : Gap} {u : Subterm} {m : Redex} {bs : 
 
   -- the whole subterm at p
   pub redex-here : At s (λ _. Unit {0}) t p
-  redex-here = active-whole s formed (asked .whole) (asked .active)
+  redex-here = whole-at s (u .at) (asked .whole) (asked .inside)
 
   pub redex-parted : drop p t ≡ redex-here .here ++ redex-here .behind
   redex-parted = at-parted s redex-here
@@ -71,10 +70,7 @@ module _ {book index ws : List ℕ} {gap : Gap} {u : Subterm} {m : Redex} {bs : 
       asked .wide ∙ ap (λ y. span g y 1) redex-parted ∙ span-forest g (Symbol g) (x .behind) (x .whole)
 
   pub inside : p < length t
-  inside =
-      let x = redex-here in
-      let z = subst (λ y. length (x .before) < length y) (sym (x .equal)) (whole-within s (x .before) (x .behind) (x .whole)) in
-      omega (arith, x .position)
+  inside = asked .inside
 
   pub ends : p + u .width ≤ length t
   ends =

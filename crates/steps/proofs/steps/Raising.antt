@@ -3,10 +3,10 @@
 use Prim.Native.Nat.{ℕ, _+_, _-_, _≤_, _<_}
 use native.Mathlib.Omega.{arith}
 use native.Mathlib.Numerals.{add-one}
-use mathlib.Core.Path.{_≡_, refl, sym, ap, _∙_, subst}
+use mathlib.Core.Path.{_≡_, refl, sym, ap, _∙_, subst, subst₂}
 use mathlib.Core.List.{List, [], _∷_, _++_}
-use lib.ListN.{length, getD, take, drop, set, length-set}
-use lib.Seq.{take-suc, take-all, getD-drop}
+use lib.ListN.{length, getD, take, drop, set, length-set, length-append, List·getD-append}
+use lib.Seq.{take-suc, take-all, take-append-le, take-append-add, getD-append-add, getD-drop}
 use Rattle.system.specs.Limits.{termWords}
 use Rattle.system.specs.Signature.{Signature, span, replace}
 use Rattle.system.specs.System.{System}
@@ -19,7 +19,7 @@ use Rattle.rows.proofs.gap.Rows.{length-row-at, length-set-row}
 use Rattle.rows.proofs.lengths.Measures.{row-behind, measured-join}
 use Rattle.reducts.specs.putting.Replaced.{Placed}
 use Rattle.rewriting.specs.levels.Lengths.{raise, Way}
-use Rattle.rewriting.proofs.Raises.{raise-none, raise-snoc, raise-take, raise-drop}
+use Rattle.rewriting.proofs.Raises.{raise-none, raise-snoc, raise-append, raise-take, raise-drop}
 use Rattle.rewriting.proofs.Ways.{way-before}
 use Rattle.rewriting.proofs.WayRows.{way-spans-front, way-raise-room, way-raise-fits}
 use Rattle.steps.specs.steps.Raised.{Raisable, Raised}
@@ -78,6 +78,54 @@ module _ {ws₀ qs ws : List ℕ} {d e j : ℕ} (v : Raisable ws₀ qs d e) (r :
               total = length-set ws (termWords + q) (x - d + e) ∙ r .raised .total;
             };
           }
+
+-- ---- some of them first, and then the others
+
+module _ {ws : List ℕ} (ps qs : List ℕ) {d e : ℕ} (v : Raisable ws (ps ++ qs) d e) where
+  pub raisable-front : Raisable ws ps d e
+  raisable-front = record {
+    room = v .room;
+    within = λ j l. subst (λ y. y < termWords) (same j l) (v .within j (more j l));
+    less = λ j l. subst₂ (λ y z. d ≤ getD (raise y d e (lengthRow ws)) z 0) (first j l) (same j l) (v .less j (more j l));
+    fits = λ j l. subst₂ (λ y z. getD (raise y d e (lengthRow ws)) z 0 - d + e ≤ 65535) (first j l) (same j l) (v .fits j (more j l));
+  }
+    where
+      more : (j : ℕ) → j < length ps → j < length (ps ++ qs)
+      more j l = let z = length-append ps qs in omega arith
+
+      same : (j : ℕ) → j < length ps → getD (ps ++ qs) j 0 ≡ getD ps j 0
+      same j l = List·getD-append ps qs 0 j l
+
+      first : (j : ℕ) → j < length ps → take j (ps ++ qs) ≡ take j ps
+      first j l = take-append-le j ps qs (omega arith)
+
+  module _ {ws₁ : List ℕ} (r : Raised ws ps d e ws₁) where
+    pub raisable-back : Raisable ws₁ qs d e
+    raisable-back = record {
+      room = let z = v .room in let y = r .total in omega arith;
+      within = λ j l. subst (λ y. y < termWords) (same j) (v .within (length ps + j) (more j l));
+      less = λ j l. subst₂ (λ y z. d ≤ getD y z 0) (later j) (same j) (v .less (length ps + j) (more j l));
+      fits = λ j l. subst₂ (λ y z. getD y z 0 - d + e ≤ 65535) (later j) (same j) (v .fits (length ps + j) (more j l));
+    }
+      where
+        more : (j : ℕ) → j < length qs → length ps + j < length (ps ++ qs)
+        more j l = let z = length-append ps qs in omega arith
+
+        same : (j : ℕ) → getD (ps ++ qs) (length ps + j) 0 ≡ getD qs j 0
+        same j = getD-append-add ps qs j 0
+
+        later : (j : ℕ) → raise (take (length ps + j) (ps ++ qs)) d e (lengthRow ws) ≡ raise (take j qs) d e (lengthRow ws₁)
+        later j =
+            ap (λ y. raise y d e (lengthRow ws)) (take-append-add ps qs j) ∙ raise-append d e ps (take j qs) (lengthRow ws)
+            ∙ ap (raise (take j qs) d e) (sym (r .lengths))
+
+    pub raised-append : {ws₂ : List ℕ} → Raised ws₁ qs d e ws₂ → Raised ws (ps ++ qs) d e ws₂
+    raised-append q = record {
+      lengths = q .lengths ∙ ap (raise qs d e) (r .lengths) ∙ sym (raise-append d e ps qs (lengthRow ws));
+      words = q .words ∙ r .words;
+      counts = q .counts ∙ r .counts;
+      total = q .total ∙ r .total;
+    }
 
 -- ---- the way to the subterm at p of t, in whose place v was put
 

@@ -20,8 +20,7 @@ use Rattle.redexes.specs.search.Redexes.{redexOf, bindingWords, Bound}
 use Rattle.reducts.specs.declared.putting.Reduced.{Reduced}
 use Rattle.reducts.specs.declared.putting.Subterm.{Subterm}
 use Rattle.steps.specs.declared.rewrites.Site.{Site}
-use Rattle.rewriting.specs.Rewriting.{Active}
-use Rattle.reducts.specs.putting.Replaced.{Done, TooLong, Placed}
+use Rattle.reducts.specs.putting.Replaced.{Done, TooLong, Placed, Kept}
 use Rattle.system.specs.Limits.{areaWords, termWords}
 
 -- the subterm at a site
@@ -32,7 +31,7 @@ subtermOf site = record { level = site .level; at = site .at; width = site .widt
 abbrev pub Contracts : List ℕ → List ℕ → Gap → Subterm → Contraction → Type 0
 Contracts book ws gap u x = contraction (systemOf book) (drop (u .at) (termIn ws gap)) ≡ some x
 
--- the rows hold a whole term with true lengths; u is the subterm at an active position, with no more levels around it than words before it,
+-- the rows hold a whole term with true lengths; u is a subterm of it, with no more levels around it than words before it,
 -- m the match that was found there, and bs its bindings. What the third row holds does not matter
 pub record Reducible (book index ws : List ℕ) (gap : Gap) (u : Subterm) (m : Redex) (bs : List ℕ) : Type 0 where
   pub shape : Shape
@@ -41,7 +40,7 @@ pub record Reducible (book index ws : List ℕ) (gap : Gap) (u : Subterm) (m : R
   pub total : length ws ≡ areaWords
   pub measured : Measured (systemOf book .arities) ws gap
   pub whole : Whole (systemOf book .arities) (termIn ws gap)
-  pub active : Active (systemOf book) (termIn ws gap) (u .at)
+  pub inside : u .at < length (termIn ws gap)
   pub around : u .level ≤ u .at
   pub match : m ≡ redexOf (systemOf book) (drop (u .at) (termIn ws gap))
   pub bound : Bound (matchOf (systemOf book) (drop (u .at) (termIn ws gap))) bs
@@ -54,11 +53,12 @@ pub record Reducible (book index ws : List ℕ) (gap : Gap) (u : Subterm) (m : R
 abbrev pub rewritten : System → List ℕ → Gap → Subterm → Contraction → List ℕ
 rewritten s ws gap u x = replace (s .arities) (termIn ws gap) (u .at) (x .reduct)
 
--- the answer and the area after it; where the term would have too many words it is given up
+-- the answer and the area after it; where the term would have too many words it stays as it is
 pub data Rewritten (s : System) (ws : List ℕ) (gap : Gap) (u : Subterm) (x : Contraction) (r : Reduced) (ws′ : List ℕ) : Type 0 where
   done : length (rewritten s ws gap u x) ≤ termWords → (gap′ : Gap) → r ≡ Done gap′ →
       Placed (s .arities) ws (termIn ws gap) (rewritten s ws gap u x) (u .at) (u .level) gap′ ws′ → Rewritten s ws gap u x r ws′
-  long : termWords < length (rewritten s ws gap u x) → r ≡ TooLong → length ws′ ≡ areaWords → Rewritten s ws gap u x r ws′
+  long : termWords < length (rewritten s ws gap u x) → (gap′ : Gap) → r ≡ TooLong gap′ →
+      Kept (s .arities) ws (termIn ws gap) gap′ ws′ → Rewritten s ws gap u x r ws′
 
 abbrev pub Rewrites : List ℕ → List ℕ → Gap → Subterm → Reduced → List ℕ → Type 0
 Rewrites book ws gap u r ws′ = (x : Contraction) → Contracts book ws gap u x → Rewritten (systemOf book) ws gap u x r ws′

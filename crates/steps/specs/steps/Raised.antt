@@ -1,7 +1,7 @@
 -- The lengths on the way to a rewrite, raised one by one.
-use Prim.Native.Nat.{ℕ, _+_, _-_, _≤_, _<_}
+use Prim.Native.Nat.{ℕ, zero, suc, _+_, _-_, _≤_, _<_}
 use mathlib.Core.Path.{_≡_}
-use mathlib.Core.List.{List}
+use mathlib.Core.List.{List, [], _∷_, _++_}
 use lib.ListN.{length, getD, take, drop}
 use Rattle.system.specs.Limits.{termWords}
 use Rattle.rows.specs.gap.Gaps.{countsAt, wordRow, lengthRow}
@@ -20,3 +20,8 @@ pub record Raised (ws qs : List ℕ) (d e : ℕ) (ws′ : List ℕ) : Type 0 whe
   pub words : wordRow ws′ ≡ wordRow ws
   pub counts : drop countsAt ws′ ≡ drop countsAt ws
   pub total : length ws′ ≡ length ws
+
+-- the way to the base, as it is kept at the end of the third row: n symbols, the root in the last word, each before the one above it
+unfoldable pub wayIn : List ℕ → ℕ → List ℕ
+wayIn ws zero = []
+wayIn ws (suc n) = wayIn ws n ++ getD ws (countsAt + (termWords - suc n)) 0 ∷ []

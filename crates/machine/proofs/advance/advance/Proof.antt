@@ -4,9 +4,10 @@ use native.Mathlib.Omega.{arith}
 use mathlib.Core.Path.{refl, sym, _∙_, subst}
 use borrow.Author.Needs.{needs}
 use Rattle.reader.specs.Book.{systemOf}
+use Rattle.machine.proofs.advance.Areas.{tracks-first}
 use Rattle.machine.proofs.advance.Advancing.{advancing-start, round-bounds, rules-measured, goes-repeated, goes-argument}
 use Rattle.machine.proofs.advance.Arriving.{arrives-end, arrives-deep}
-use Rattle.machine.specs.advance.Area.{Tracks}
+use Rattle.machine.specs.advance.Area.{baseOf, Tracks}
 use Rattle.machine.proofs.advance.advance.Proof.Places.{Inv-loop, μ-loop, within, reading, entered, taken, round, same-area, same-frame}
 use Rattle.machine.proofs.advance.advance.Proof.Places.{slice-size, trying, tried, retried, none-matches, one-matches, left, left-bounds, left-down, left-inner}
 use Rattle.machine.proofs.advance.advance.Statement.{statement}
@@ -27,7 +28,7 @@ loop-holds : tie.Need-loop-holds Inv-loop μ-loop
 loop-holds c =
     let x = reading (c .before .before) in
     let a = x .args in
-    (advancing-start (systemOf (a .book .now)) (a .state) (a .area .now) (a .frame .now) (c .wide .result) (x .pre .2) (c .wide .ensures .0), refl, refl)
+    (advancing-start (systemOf (a .book .now)) (a .state) (baseOf (a .frame .now)) (a .area .now) (a .frame .now) (c .wide .result) (x .pre .2) (c .wide .ensures .0), refl, refl)
 
 -- ---- the transition
 
@@ -36,7 +37,7 @@ take-transition-requires c κs =
     let k = c .before .before .at-level in
     let l = c .before .before .before .loop in
     let x = entered (c .before .before .before) in
-    (x .pre .0, x .pre .1, subst (λ y. Tracks (systemOf (x .args .book .now)) (l .area) (l .frame) (y .gap) (y .level)) (sym (k .ensures)) (l .inv .0 .held))
+    (x .pre .0, x .pre .1, subst (λ y. Tracks (systemOf (x .args .book .now)) (l .area) (l .frame) (y .gap) (baseOf (l .frame)) (y .level)) (sym (k .ensures)) (tracks-first (l .inv .0 .held)))
 
 -- ---- an entry is repeated
 

@@ -7,6 +7,7 @@ use borrow.Author.Needs.{needs}
 use Rattle.system.specs.Signature.{span}
 use Rattle.reader.specs.Book.{systemOf}
 use Rattle.rows.specs.gap.Gaps.{termIn}
+use Rattle.machine.specs.advance.Area.{baseOf}
 use Rattle.machine.proofs.advance.Bounds.{Bounds, bounds}
 use Rattle.machine.proofs.advance.Performing.{Taking, performed-end, performed-repeated, performed-rules, performed-deep, argument-fits, performed-argument}
 use Rattle.machine.proofs.advance.take_transition.Statement.{statement}
@@ -15,8 +16,8 @@ use Rattle.machine.proofs.advance.take_transition.Tie as tie
 -- ---- the places of the code
 
 -- the call: the bounds that the state gives
-within : (c : tie.Start) → let a = c .args in Bounds (a .area .now) (a .frame .now) (a .at .gap) (a .at .level)
-within c = let a = c .args in bounds (a .book .now) (a .shape) (c .pre .0) (a .area .now) (a .frame .now) (a .at .gap) (a .at .level) (c .pre .2)
+within : (c : tie.Start) → let a = c .args in Bounds (a .area .now) (a .frame .now) (a .at .gap) (baseOf (a .frame .now)) (a .at .level)
+within c = let a = c .args in bounds (a .book .now) (a .shape) (c .pre .0) (a .area .now) (a .frame .now) (a .at .gap) (baseOf (a .frame .now)) (a .at .level) (c .pre .2)
 
 -- where the position is read
 abbrev entry : tie.After-gap → tie.Start
@@ -52,6 +53,7 @@ taking c =
       at = a .at;
       ws = a .area .now;
       positions = a .frame .now;
+      base = baseOf (a .frame .now);
       held = x .pre .2;
       k = k .result;
       is = k .ensures .0;

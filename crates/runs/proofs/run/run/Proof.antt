@@ -12,6 +12,8 @@ use Rattle.system.specs.Numbers.{overlong, nested}
 use Rattle.layout.proofs.Books.{well, signature}
 use Rattle.rows.specs.gap.Gaps.{behind}
 use Rattle.rows.specs.lengths.Written.{Laid}
+use Rattle.machine.specs.advance.Arrivals.{Advances}
+use Rattle.machine.proofs.advance.Areas.{tracks-base, tracks-first}
 use Rattle.records.specs.recording.Kept.{limitsOf, met, paired}
 use Rattle.records.proofs.Records.{kept-length}
 use Rattle.records.proofs.Limiting.{pair-fits}
@@ -99,7 +101,8 @@ round c =
       a = d .result;
       ws′ = d .last .1 .1 .1 .0;
       positions′ = d .last .1 .1 .1 .1 .0;
-      came = d .ensures;
+      came = subst (λ b. Advances (systemOf (e .args .book .now)) (record { gap = l .gap; level = l .level }) b (l .area) (d .result) (d .last .1 .1 .1 .0) (d .last .1 .1 .1 .1 .0))
+          (tracks-base (l .inv .holds)) (d .ensures);
     }
 
 -- the area and the record have the lengths that they came with
@@ -176,7 +179,7 @@ slice-aggregate-advance-2 c = sym (c .before .before .before .loop .inv .holds .
 advance-requires : tie.Need-advance-requires Inv-loop μ-loop
 advance-requires c κs =
     let l = c .before .before .before in
-    (entry l .pre .accepted, built (laid l) .build-index .ensures, l .loop .inv .holds)
+    (entry l .pre .accepted, built (laid l) .build-index .ensures, tracks-first (l .loop .inv .holds))
 
 same-length : tie.Need-same-length Inv-loop μ-loop
 same-length c = same-area (advanced (c .before .before .before))

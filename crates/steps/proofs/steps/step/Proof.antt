@@ -11,8 +11,8 @@ use Rattle.rows.specs.gap.Gaps.{countsAt, lengthsIn, wordsIn}
 use Rattle.machine.specs.advance.Area.{frameWords}
 use Rattle.steps.specs.rewrites.Rewritten.{Reducible, Rewrites}
 use Rattle.steps.specs.steps.Stepped.{here}
-use Rattle.steps.proofs.steps.Stepping.{step-bounds, step-reducible, step-long}
-use Rattle.steps.proofs.steps.Rewrote.{Rewrote, step-placed, step-words, step-raisable, step-done}
+use Rattle.steps.proofs.steps.Stepping.{step-bounds, step-few, step-reducible, step-long}
+use Rattle.steps.proofs.steps.Rewrote.{Rewrote, step-placed, step-words, step-raisable, step-raisable-levels, step-done}
 use Rattle.steps.proofs.steps.step.Statement.{statement}
 use Rattle.steps.proofs.steps.step.Tie as tie
 
@@ -32,14 +32,14 @@ widths c = c .before .before .before
 abbrev begun : tie.After-rewrite → tie.Start
 begun c = placed (widths c .before .before)
 
-at-is : (c : tie.After-wide) → let a = placed c .args in c .wide .result ≡ here (a .frame .now) (a .state)
+at-is : (c : tie.After-wide) → let a = placed c .args in c .wide .result ≡ here (a .frame .now) (a .from .state)
 at-is c = c .wide .ensures .0
 
 read-is : (c : tie.After-length-at) → let a = placed (c .before .before) .args in
-    c .length-at .result ≡ getD (lengthsIn (a .area .now) (a .state .gap)) (here (a .frame .now) (a .state)) 0
+    c .length-at .result ≡ getD (lengthsIn (a .area .now) (a .from .state .gap)) (here (a .frame .now) (a .from .state)) 0
 read-is c =
     let a = placed (c .before .before) .args in
-    c .length-at .ensures .0 ∙ ap (λ p. getD (lengthsIn (a .area .now) (a .state .gap)) p 0) (at-is (c .before .before))
+    c .length-at .ensures .0 ∙ ap (λ p. getD (lengthsIn (a .area .now) (a .from .state .gap)) p 0) (at-is (c .before .before))
 
 -- the bindings in the frame
 bindings : (c : tie.After-length-at) → let f = placed (c .before .before) .args .frame .now in drop levels f ≡ part levels (frameWords - levels) f
@@ -51,12 +51,12 @@ bindings c =
 
 -- the rewrite
 rewrites : (c : tie.After-rewrite) → let a = begun c .args in
-    Rewrites (a .book .now) (a .area .now) (a .state .gap) (record { level = a .state .level; at = here (a .frame .now) (a .state); width = widths c .length-at .result })
+    Rewrites (a .book .now) (a .area .now) (a .from .state .gap) (record { level = a .from .state .level; at = here (a .frame .now) (a .from .state); width = widths c .length-at .result })
     (c .rewrite .result) (c .rewrite .last .1 .1 .0)
 rewrites c =
     let a = begun c .args in
     subst
-    (λ p. Rewrites (a .book .now) (a .area .now) (a .state .gap) (record { level = a .state .level; at = p; width = widths c .length-at .result })
+    (λ p. Rewrites (a .book .now) (a .area .now) (a .from .state .gap) (record { level = a .from .state .level; at = p; width = widths c .length-at .result })
     (c .rewrite .result) (c .rewrite .last .1 .1 .0))
     (at-is (widths c .before .before)) (c .rewrite .ensures)
 
@@ -74,7 +74,8 @@ done c =
       index = a .index .now;
       ws = a .area .now;
       positions = a .frame .now;
-      state = a .state;
+      state = a .from .state;
+      n = a .from .way;
       m = a .m;
       asked = e .pre;
       width = widths x .length-at .result;
@@ -88,20 +89,29 @@ done c =
 
 -- the words before and after it are known
 abbrev counted : tie.After-words2 → Rewrote
-counted c = done (c .before .before .before)
+counted c = done (c .before .before)
 
-size : (c : tie.After-words2) → c .before .before .words .result + counted c .width - c .words2 .result ≡ wordsIn (counted c .gap) + counted c .width - wordsIn (counted c .state .gap)
-size c = λ i. c .before .before .words .ensures i + counted c .width - c .words2 .ensures i
+size : (c : tie.After-words2) → c .before .words .result + counted c .width - c .words2 .result ≡ wordsIn (counted c .gap) + counted c .width - wordsIn (counted c .state .gap)
+size c = λ i. c .before .words .ensures i + counted c .width - c .words2 .ensures i
 
--- the lengths are raised
-abbrev raised : tie.After-slice-known3 → tie.After-raise
+-- the lengths are raised, on the way to the base and then on the way from there
+abbrev sized : tie.After-raise-way → tie.After-words2
+sized c = c .before .before
+
+abbrev rooted : tie.After-raise-arg → tie.After-raise-way
+rooted c = c .before .before .before
+
+abbrev raised : tie.After-slice-known4 → tie.After-raise
 raised c = c .before .before
 
-shallow : (c : tie.After-slice-known3) → counted (raised c .before) .state .level < 64
-shallow c = step-bounds (counted (raised c .before) .asked) .shallow
+abbrev stepped : tie.After-slice-known4 → tie.After-words2
+stepped c = sized (rooted (raised c .before))
 
-total : (c : tie.After-slice-known3) → length (raised c .raise .last .0) ≡ areaWords
-total c = raised c .raise .ensures .total ∙ step-placed (counted (raised c .before)) .total
+shallow : (c : tie.After-slice-known4) → counted (stepped c) .state .level < 64
+shallow c = step-bounds (counted (stepped c) .asked) .shallow
+
+total : (c : tie.After-slice-known4) → length (raised c .raise .last .0) ≡ areaWords
+total c = raised c .raise .ensures .total ∙ rooted (raised c .before) .raise-way .ensures .total ∙ step-placed (counted (stepped c)) .total
 
 -- ---- the needs
 
@@ -109,15 +119,15 @@ length-at-requires : tie.Need-length-at-requires
 length-at-requires c κs =
     let x = c .before in
     let b = step-bounds (placed x .pre) in
-    (b .gapped, subst (λ p. p < wordsIn (placed x .args .state .gap)) (sym (at-is x)) (b .within))
+    (b .gapped, subst (λ p. p < wordsIn (placed x .args .from .state .gap)) (sym (at-is x)) (b .within))
 
 rewrite-requires : tie.Need-rewrite-requires
 rewrite-requires c κs =
     let k = c .before .before in
     let x = k .before .before in
     let a = placed x .args in
-    subst₂ (λ p bs. Reducible (a .book .now) (a .index .now) (a .area .now) (a .state .gap)
-    (record { level = a .state .level; at = p; width = k .length-at .result }) (a .m) bs)
+    subst₂ (λ p bs. Reducible (a .book .now) (a .index .now) (a .area .now) (a .from .state .gap)
+    (record { level = a .from .state .level; at = p; width = k .length-at .result }) (a .m) bs)
     (sym (at-is x)) (bindings k) (step-reducible (placed x .pre) (k .length-at .result) (read-is k))
 
 returns : tie.Need-returns
@@ -129,17 +139,26 @@ returns c =
 words-requires : tie.Need-words-requires
 words-requires c κs = step-placed (done c) .gapped .lies
 
-add-raise : tie.Need-add-raise
-add-raise c =
-    let y = c .before .before in
+add-size : tie.Need-add-size
+add-size c =
+    let y = c .before in
     let z = step-placed (done y) .gapped .lies in
-    omega (arith, widths (rewrote y) .length-at .ensures .1, c .before .words .ensures, z .low, z .high)
+    omega (arith, widths (rewrote y) .length-at .ensures .1, c .words .ensures, z .low, z .high)
 
-sub-raise : tie.Need-sub-raise
-sub-raise c = let z = step-words (counted c) in omega (arith, c .before .before .words .ensures, c .words2 .ensures)
+sub-size : tie.Need-sub-size
+sub-size c = let z = step-words (counted c) in omega (arith, c .before .words .ensures, c .words2 .ensures)
+
+raise-way-requires : tie.Need-raise-way-requires
+raise-way-requires c κs =
+    let x = c .before in
+    let y = counted x in
+    let f = step-few (y .asked) in (step-placed y .total, omega (arith, f .0, f .1), step-raisable y _ (size x))
 
 raise-requires : tie.Need-raise-requires
-raise-requires c κs = let b = step-bounds (counted c .asked) in (omega arith, step-raisable (counted c) _ (size c))
+raise-requires c κs =
+    let x = rooted c in
+    let y = counted (sized x) in
+    let b = step-bounds (y .asked) in (omega arith, step-raisable-levels y _ (size (sized x)) (x .raise-way .ensures))
 
 add-area : tie.Need-add-area
 add-area c = let l = shallow c in omega arith
@@ -152,16 +171,16 @@ slice-write-area c = let l = shallow c in omega (arith, total c)
 
 same-length-2 : tie.Need-same-length-2
 same-length-2 c =
-    let x = counted (raised c .before) in
+    let x = counted (stepped c) in
     length-set (raised c .raise .last .0) (countsAt + x .state .level) 0 ∙ total c ∙ sym (x .asked .tracks .represents .total)
 
 returns-2 : tie.Need-returns-2
-returns-2 c = step-done (counted (raised c .before)) _ (size (raised c .before)) (raised c .raise .ensures)
+returns-2 c = step-done (counted (stepped c)) _ (size (stepped c)) (rooted (raised c .before) .raise-way .ensures) (raised c .raise .ensures)
 
 pub step-spec : {M : Type 1} → statement M
 step-spec =
     tie.close
     (tie.spec
     (λ c. search needs) (λ c. search needs) (λ c κs. search needs) length-at-requires (λ c. search needs) (λ c. search needs) (λ c. search needs)
-    rewrite-requires (λ c. search needs) returns words-requires add-raise (λ c κs. search needs) sub-raise raise-requires add-area mul-area
+    rewrite-requires (λ c. search needs) returns words-requires add-size (λ c κs. search needs) sub-size raise-way-requires raise-requires add-area mul-area
     slice-write-area same-length-2 returns-2)

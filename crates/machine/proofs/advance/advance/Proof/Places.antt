@@ -3,7 +3,7 @@
 -- lead to no rewrite. The measure: the transitions that are left.
 use Prim.Native.Nat.{ℕ, _-_, _<_}
 use native.Mathlib.Omega.{arith}
-use mathlib.Core.Path.{_≡_, sym, ap, _∙_, subst}
+use mathlib.Core.Path.{_≡_, sym, ap, _∙_, subst, subst₂}
 use mathlib.Core.List.{List}
 use lib.ListN.{length, getD, take, drop, length-drop}
 use lib.Seq.{length-take-le}
@@ -14,11 +14,11 @@ use Rattle.matching.specs.rules.Searches.{unnumbered}
 use Rattle.redexes.specs.search.Redexes.{bindingWords, redexOf, Bound}
 use Rattle.machine.specs.declared.advance.Advanced.{Advanced}
 use Rattle.machine.specs.declared.advance.Stop.the-variants.{Ready}
-use Rattle.machine.specs.advance.Area.{frameWords}
+use Rattle.machine.specs.advance.Area.{baseOf, frameWords}
 use Rattle.machine.specs.advance.Arrivals.{Advances}
 use Rattle.reader.specs.Book.{systemOf}
 use Rattle.machine.specs.advance.Transition.{Performed}
-use Rattle.machine.proofs.advance.Areas.{same-positions, rebound, rebound-positions, rebound-bindings}
+use Rattle.machine.proofs.advance.Areas.{tracks-base, same-positions, rebound, rebound-positions, rebound-bindings}
 use Rattle.machine.proofs.advance.Arriving.{arrives-ready}
 use Rattle.machine.proofs.advance.Bounds.{Bounds, bounds}
 use Rattle.machine.proofs.advance.Advancing.{remainingIn, Advancing, Round, Goes, round-bounds, goes-left, goes-down, goes-rules, rules-bounds}
@@ -26,17 +26,17 @@ use Rattle.machine.proofs.advance.advance.Tie as tie
 
 abbrev pub Inv-loop : tie.InvT-loop
 Inv-loop book shape index area₀ frame₀ gap level₀ floor₀ since₀ area frame level floor since =
-    Advancing (systemOf book) (record { gap = gap; level = level₀ }) area₀ area frame level floor since ×
+    Advancing (systemOf book) (record { gap = gap; level = level₀ }) (baseOf frame₀) area₀ area frame level floor since ×
     (length area ≡ length area₀) × (length frame ≡ length frame₀)
 
 abbrev pub μ-loop : tie.MeasureT-loop
-μ-loop book shape index area₀ frame₀ gap level₀ floor₀ since₀ area frame level floor since = remainingIn (systemOf book) area gap level
+μ-loop book shape index area₀ frame₀ gap level₀ floor₀ since₀ area frame level floor since = remainingIn (systemOf book) area gap (baseOf frame₀) level
 
 -- ---- the places of the code
 
 -- the call
-pub within : (c : tie.Start Inv-loop μ-loop) → let a = c .args in Bounds (a .area .now) (a .frame .now) (a .state .gap) (a .state .level)
-within c = let a = c .args in bounds (a .book .now) (a .shape) (c .pre .0) (a .area .now) (a .frame .now) (a .state .gap) (a .state .level) (c .pre .2)
+pub within : (c : tie.Start Inv-loop μ-loop) → let a = c .args in Bounds (a .area .now) (a .frame .now) (a .state .gap) (baseOf (a .frame .now)) (a .state .level)
+within c = let a = c .args in bounds (a .book .now) (a .shape) (c .pre .0) (a .area .now) (a .frame .now) (a .state .gap) (baseOf (a .frame .now)) (a .state .level) (c .pre .2)
 
 -- where the first count is read
 abbrev pub reading : tie.After-gap Inv-loop μ-loop → tie.Start Inv-loop μ-loop
@@ -62,6 +62,7 @@ round c =
       shape = a .shape;
       accepted = x .pre .0;
       state = a .state;
+      base = baseOf (a .frame .now);
       ws₀ = a .area .now;
       ws = l .area;
       positions = l .frame;
@@ -74,8 +75,8 @@ round c =
       positions′ = k .last .1 .1 .1 .1 .0;
       frame = k .last .1 .1 .1 .1 .0;
       framed = same-positions (k .last .1 .1 .1 .1 .0);
-      performed = subst (λ y. Performed (systemOf (a .book .now)) y (l .area) (l .frame) (k .result) (k .last .1 .1 .1 .0) (k .last .1 .1 .1 .1 .0))
-          (g .at-level .ensures) (k .ensures);
+      performed = subst₂ (λ y z. Performed (systemOf (a .book .now)) y z (l .area) (l .frame) (k .result) (k .last .1 .1 .1 .0) (k .last .1 .1 .1 .1 .0))
+          (g .at-level .ensures) (tracks-base (l .inv .0 .held)) (k .ensures);
     }
 
 -- a transition keeps the lengths that the slices came with
@@ -90,7 +91,7 @@ pub slice-size : (frame : List ℕ) → length frame ≡ frameWords → length (
 slice-size frame e = length-take-le (length frame - levels) (drop levels frame) (let z = length-drop levels frame in omega arith) ∙ omega arith
 
 -- where the rules are tried
-pub trying : (c : tie.After-enum-told2 Inv-loop μ-loop) → let τ = round (c .before .before) in Bounds (τ .ws′) (τ .positions′) (τ .state .gap) (τ .level)
+pub trying : (c : tie.After-enum-told2 Inv-loop μ-loop) → let τ = round (c .before .before) in Bounds (τ .ws′) (τ .positions′) (τ .state .gap) (τ .base) (τ .level)
 trying c = rules-bounds (round (c .before .before)) (c .enum-told2 .given .1)
 
 -- and the first rule is known
@@ -113,6 +114,7 @@ retried c =
       shape = τ .shape;
       accepted = τ .accepted;
       state = τ .state;
+      base = τ .base;
       ws₀ = τ .ws₀;
       ws = τ .ws;
       positions = τ .positions;
@@ -139,7 +141,7 @@ pub none-matches : (c : tie.After-first-redex Inv-loop μ-loop) → c .first-red
 none-matches c q = goes-rules (retried c) (tried c .enum-told2 .given .1) (c .first-redex .result) (found-there c) q
 
 pub one-matches : (c : tie.After-first-redex Inv-loop μ-loop) → (c .first-redex .result .number ≡ unnumbered → ⊥) → let τ = retried c in
-    (r : Advanced) → r ≡ record { stop = Ready; level = τ .level; redex = c .first-redex .result } → Advances (systemOf (τ .book)) (τ .state) (τ .ws₀) r (τ .ws′) (τ .frame)
+    (r : Advanced) → r ≡ record { stop = Ready; level = τ .level; redex = c .first-redex .result } → Advances (systemOf (τ .book)) (τ .state) (τ .base) (τ .ws₀) r (τ .ws′) (τ .frame)
 one-matches c q r is =
     let τ = retried c in
     let w = trying (tried c) in
