@@ -9,7 +9,7 @@ use lib.Seq.{drop-cons, drop-drop, drop-append-seam}
 use Rattle.system.specs.Signature.{Signature, Symbol, arity, span, argument}
 use Rattle.system.specs.Terms.{Forest, more, Whole}
 use Rattle.system.proofs.Forests.{span-zero, span-forest, Split, split}
-use Rattle.rows.proofs.Spans.{spans-at, argument-hop}
+use Rattle.system.proofs.Spans.{spans-at, argument-hop}
 use Rattle.rewriting.proofs.Laws.{next-entry}
 
 module _ (g : Signature) where

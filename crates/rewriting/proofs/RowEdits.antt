@@ -17,8 +17,8 @@ use Rattle.rewriting.specs.Rewriting.{root}
 use Rattle.rewriting.specs.Machine.{others, strategyAt, down, position}
 use Rattle.rewriting.specs.levels.Opened.{Opened, base, level}
 use Rattle.rewriting.specs.levels.Lengths.{above, raise}
-use Rattle.rows.specs.lengths.Spans.{spans}
-use Rattle.rows.proofs.Spans.{spans-length, spans-append}
+use Rattle.system.specs.Spans.{spans}
+use Rattle.system.proofs.Spans.{spans-length, spans-append}
 use Rattle.rewriting.proofs.Raises.{raise-none, raise-more, raise-length}
 use Rattle.rewriting.proofs.Aboves.{above-none, above-more}
 use Rattle.rewriting.proofs.Below.{below-of}

@@ -14,8 +14,8 @@ use Rattle.system.proofs.words.SpanSteps.{span-le}
 use Rattle.rewriting.specs.Machine.{position}
 use Rattle.rewriting.specs.levels.Opened.{Opened}
 use Rattle.rewriting.specs.levels.Lengths.{above, raise, Way, top, down}
-use Rattle.rows.specs.lengths.Spans.{spans}
-use Rattle.rows.proofs.Spans.{spans-at}
+use Rattle.system.specs.Spans.{spans}
+use Rattle.system.proofs.Spans.{spans-at}
 use Rattle.rewriting.proofs.Raises.{raise-later}
 use Rattle.rewriting.proofs.Aboves.{above-length}
 use Rattle.rewriting.proofs.Below.{argument-shorter}

@@ -1,3 +1,2 @@
-pub mod Spans
 pub mod Measured
 pub mod Written

@@ -1,4 +1,4 @@
--- Terms: forests, positions, the check of a term
+-- Symbols, rules, terms: forests and positions
 pub mod BuiltIns
 pub mod SquareLaw
 pub mod Signatures
@@ -8,5 +8,8 @@ pub mod Numbering
 pub mod Rules
 pub mod Forests
 pub mod Places
+-- The lengths of a term's subterms
+pub mod Spans
+-- The check of a term
 pub mod TermChecks
 pub mod FaultNumbers

@@ -5,4 +5,5 @@ pub mod Signature
 pub mod System
 pub mod Rules
 pub mod Terms
+pub mod Spans
 pub mod TermCheck

@@ -10,7 +10,7 @@ use Rattle.system.specs.Signature.{Signature}
 use Rattle.system.specs.System.{instance}
 use Rattle.rows.specs.declared.gap.Gap.{Gap}
 use Rattle.rows.specs.gap.Gaps.{wordRow, lengthRow, Lies, closed, termIn, behind, Moved}
-use Rattle.rows.specs.lengths.Spans.{spans}
+use Rattle.system.specs.Spans.{spans}
 use Rattle.rows.specs.lengths.Written.{Written}
 use Rattle.rows.proofs.gap.Rows.{word-row-length, length-row-length}
 use Rattle.rows.proofs.gap.Closed.{closed-front, closed-length}

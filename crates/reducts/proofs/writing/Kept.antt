@@ -13,7 +13,7 @@ use Rattle.system.specs.Limits.{termWords}
 use Rattle.system.specs.Signature.{Signature}
 use Rattle.system.specs.Terms.{Whole}
 use Rattle.rows.specs.gap.Gaps.{countsAt, wordRow, lengthRow, behind}
-use Rattle.rows.specs.lengths.Spans.{spans}
+use Rattle.system.specs.Spans.{spans}
 use Rattle.rows.specs.lengths.Measured.{Measured}
 use Rattle.rows.specs.lengths.Written.{Written}
 use Rattle.rows.proofs.gap.Rows.{part-take, word-row-part, length-row-part}

@@ -14,7 +14,7 @@ use Rattle.system.specs.System.{instance}
 use Rattle.system.specs.Terms.{Whole, Member}
 use Rattle.rows.specs.declared.gap.Gap.{Gap}
 use Rattle.rows.specs.gap.Gaps.{countsAt, lengthRow, termIn, wordsIn, behind, Lies, Gapped}
-use Rattle.rows.specs.lengths.Spans.{spans}
+use Rattle.system.specs.Spans.{spans}
 use Rattle.rows.specs.lengths.Measured.{Measured}
 use Rattle.reducts.specs.declared.putting.Reduced.{Reduced}
 use Rattle.reducts.specs.declared.writing.Source.{Source}

@@ -8,9 +8,9 @@ use Rattle.system.specs.Signature.{Signature, span}
 use Rattle.system.proofs.Forests.{span-zero}
 use Rattle.rows.specs.declared.gap.Gap.{Gap}
 use Rattle.rows.specs.gap.Gaps.{Gapped, termIn, lengthsIn, wordsIn}
-use Rattle.rows.specs.lengths.Spans.{spans}
+use Rattle.system.specs.Spans.{spans}
 use Rattle.rows.specs.lengths.Measured.{Measured}
-use Rattle.rows.proofs.Spans.{span-hop}
+use Rattle.system.proofs.Spans.{span-hop}
 use Rattle.rows.proofs.lengths.Measures.{words-length}
 
 -- the subterms that are left end where all of them do

@@ -5,7 +5,7 @@ use Prim.Native.Nat.{ℕ}
 use Rattle.system.specs.Signature.{Signature}
 use Rattle.rows.specs.declared.gap.Gap.{Gap}
 use Rattle.rows.specs.gap.Gaps.{Gapped, termIn, lengthsIn}
-use Rattle.rows.specs.lengths.Spans.{spans}
+use Rattle.system.specs.Spans.{spans}
 
 pub record Measured (g : Signature) (ws : List ℕ) (gap : Gap) : Type 0 where
   pub gapped : Gapped ws gap

@@ -10,7 +10,7 @@ use Rattle.system.specs.Signature.{Signature}
 use Rattle.system.specs.Terms.{Whole}
 use Rattle.rows.specs.declared.gap.Gap.{Gap}
 use Rattle.rows.specs.gap.Gaps.{countsAt, wordRow, lengthRow, termIn, behind}
-use Rattle.rows.specs.lengths.Spans.{spans}
+use Rattle.system.specs.Spans.{spans}
 use Rattle.rows.specs.lengths.Measured.{Measured}
 
 -- the words `new` stand before those from `back` on, from `back′` on, and the lengths are true of them; nothing else has changed

@@ -7,10 +7,10 @@ use mathlib.Core.Path.{_≡_, refl, sym, ap, _∙_}
 use mathlib.Core.List.{List, [], _∷_, _++_}
 use lib.ListN.{length, getD, take, drop, length-drop, take-append-drop}
 use lib.Seq.{take-append-seam, drop-append-seam, drop-drop, take-at, length-take-le}
 use Rattle.system.specs.Signature.{Signature, arity, span, argument}
 use Rattle.system.specs.Terms.{Forest, empty, more, Whole}
 use Rattle.system.proofs.Forests.{span-zero}
-use Rattle.rows.specs.lengths.Spans.{spans}
+use Rattle.system.specs.Spans.{spans}
 
 module _ (g : Signature) where
   pub spans-length : (t : List ℕ) → length (spans g t) ≡ length t
