@@ -211,7 +211,10 @@ module _ (s : System) (wf : WellFormed s) where
         go : (n : Next) → Stood s (r .term) levels p n → There (come s limits p 0 n r)
         go final m = subst There (sym (come-final s limits p 0 r)) (h, tt)
         go deep m = subst There (sym (come-deep s limits p 0 r)) (h, tt)
-        go (ready outer c x) m = subst There (sym (come-waits s limits p outer c x r)) (before-there outer c x r (waits outer c x r) h (h, m))
+        go (ready outer c x) m =
+            let q = position s (r .term) outer p in
+            let on = waits outer c x r in
+            subst There (sym (come-waits s limits p outer c x r)) (before-there outer c x r (fitting s limits q outer c x r on) h (fitting-there q outer c x r on h (h, m)))
     come-between (suc k) n r h m = go n m (λ n r. come-between k n r)
       where
         go : (n : Next) → Stood s (r .term) levels p n →

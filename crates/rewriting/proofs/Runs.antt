@@ -65,18 +65,30 @@ module _ (s : System) (limits : Limits) where
         go false = refl
         go true = refl
 
-    -- to test twice is to test once
-    abbrev test : Bool → Bool → Came → Came
-    test a b on = elim a [ false ↦ barred spent outer c x r | true ↦ elim b [ false ↦ barred full outer c x r | true ↦ on ] ]
+    -- 11, 16 and 12 at a step at q; to test them twice is to test them once
+    abbrev pub tests : ℕ → Came → Came
+    tests q on = before s limits outer c x r (fitting s limits q outer c x r on)
 
-    pub before-twice : (on : Came) → before s limits outer c x r (before s limits outer c x r on) ≡ before s limits outer c x r on
-    unfolding before
-    before-twice on = go (ltb (steps r) (limits .steps)) (hasRoom (limits .room) (steps r))
+    abbrev test : Bool → Bool → Bool → Came → Came
+    test a b d on =
+        elim a [
+          | false ↦ barred spent outer c x r
+          | true ↦ elim b [ false ↦ barred full outer c x r | true ↦ elim d [ false ↦ barred overlong outer c x r | true ↦ on ] ]
+        ]
+
+    pub tests-twice : (q : ℕ) (on : Came) → tests q (tests q on) ≡ tests q on
+    unfolding before fitting
+    tests-twice q on = go (ltb (steps r) (limits .steps)) (hasRoom (limits .room) (steps r)) (leb (length (stepped s q r x .term)) termWords)
       where
-        go : (a b : Bool) → test a b (test a b on) ≡ test a b on
-        go false b = refl
-        go true false = refl
-        go true true = refl
+        go : (a b d : Bool) → test a b d (test a b d on) ≡ test a b d on
+        go false b d = refl
+        go true false d = refl
+        go true true false = refl
+        go true true true = refl
+
+    pub tests-onward : (q p n : ℕ) (on : Came) → onward s limits p n (tests q on) ≡ tests q (onward s limits p n on)
+    tests-onward q p n on =
+        before-onward p n (fitting s limits q outer c x r on) ∙ ap (before s limits outer c x r) (fitting-onward q p n on)
 
   -- ---- the clauses
 
@@ -98,7 +110,7 @@ module _ (s : System) (limits : Limits) where
       abbrev after : Config
       after = stepped s q r x
 
-      pub come-waits : come s limits p 0 (ready outer c x) r ≡ before s limits outer c x r (waits outer c x r)
+      pub come-waits : come s limits p 0 (ready outer c x) r ≡ before s limits outer c x r (fitting s limits q outer c x r (waits outer c x r))
       unfolding come
       come-waits = refl
 
@@ -108,11 +120,10 @@ module _ (s : System) (limits : Limits) where
       come-steps k = refl
 
       -- the tests are met again where it goes on
-      come-tests : (k : ℕ) → before s limits outer c x r (come s limits p k (ready outer c x) r) ≡ come s limits p k (ready outer c x) r
-      come-tests zero = ap (before s limits outer c x r) come-waits ∙ before-twice outer c x r (waits outer c x r) ∙ sym come-waits
+      come-tests : (k : ℕ) → tests outer c x r q (come s limits p k (ready outer c x) r) ≡ come s limits p k (ready outer c x) r
+      come-tests zero = ap (tests outer c x r q) come-waits ∙ tests-twice outer c x r q (waits outer c x r) ∙ sym come-waits
       come-tests (suc k) =
-          let on = fitting s limits q outer c x r (run s limits p k (outer ++ 0 ∷ []) after) in
-          ap (before s limits outer c x r) (come-steps k) ∙ before-twice outer c x r on ∙ sym (come-steps k)
+          ap (tests outer c x r q) (come-steps k) ∙ tests-twice outer c x r q (run s limits p k (outer ++ 0 ∷ []) after) ∙ sym (come-steps k)
 
     pub run-is : (k : ℕ) (cs : List ℕ) (r : Config) → run s limits p k cs r ≡ come s limits p k (advance s levels cs (r .term) p) r
     unfolding run
@@ -126,7 +137,7 @@ module _ (s : System) (limits : Limits) where
     more-start n (ready outer c x) r =
         let e : 0 + n ≡ n = omega arith in
         ap (λ k. come s limits p k (ready outer c x) r) e ∙ sym (come-tests outer c x r n)
-        ∙ sym (ap (onward s limits p n) (come-waits outer c x r) ∙ before-onward outer c x r p n (waits outer c x r))
+        ∙ sym (ap (onward s limits p n) (come-waits outer c x r) ∙ tests-onward outer c x r (position s (r .term) outer p) p n (waits outer c x r))
 
     more-step : (m n : ℕ) → ((z : Next) (r : Config) → come s limits p (m + n) z r ≡ onward s limits p n (come s limits p m z r)) → (z : Next) (r : Config) →
         come s limits p (suc m + n) z r ≡ onward s limits p n (come s limits p (suc m) z r)
@@ -138,10 +149,8 @@ module _ (s : System) (limits : Limits) where
         let r₁ = stepped s q r x in
         let z = advance s levels (outer ++ 0 ∷ []) (r₁ .term) p in
         ap (λ k. come s limits p k (ready outer c x) r) e ∙ come-steps outer c x r (m + n)
-        ∙ ap (λ o. before s limits outer c x r (fitting s limits q outer c x r o)) (run-is (m + n) (outer ++ 0 ∷ []) r₁ ∙ ih z r₁)
-        ∙ ap (before s limits outer c x r) (sym (fitting-onward outer c x r q p n (come s limits p m z r₁)))
-        ∙ sym (before-onward outer c x r p n (fitting s limits q outer c x r (come s limits p m z r₁)))
-        ∙ ap (onward s limits p n) (ap (λ o. before s limits outer c x r (fitting s limits q outer c x r o)) (sym (run-is m (outer ++ 0 ∷ []) r₁)) ∙ sym (come-steps outer c x r m))
+        ∙ ap (tests outer c x r q) (run-is (m + n) (outer ++ 0 ∷ []) r₁ ∙ ih z r₁) ∙ sym (tests-onward outer c x r q p n (come s limits p m z r₁))
+        ∙ ap (onward s limits p n) (ap (tests outer c x r q) (sym (run-is m (outer ++ 0 ∷ []) r₁)) ∙ sym (come-steps outer c x r m))
 
     pub come-more : (m n : ℕ) (z : Next) (r : Config) → come s limits p (m + n) z r ≡ onward s limits p n (come s limits p m z r)
     come-more zero n z r = more-start n z r
@@ -162,7 +171,8 @@ module _ (s : System) (limits : Limits) where
         go final c = ap outcomeOf (come-final 0 r) ∙ sym c
         go deep c = ap outcomeOf (come-deep 0 r) ∙ sym c
         go (ready outer d x) c =
-            ap outcomeOf (come-waits outer d x r ∙ before-spent outer d x r (omega arith) (waits outer d x r))
+            ap outcomeOf
+            (come-waits outer d x r ∙ before-spent outer d x r (omega arith) (fitting s limits (position s (r .term) outer p) outer d x r (waits outer d x r)))
             ∙ sym (c .1 ∙ rewrite-spent s limits (position s (r .term) outer p) r x (omega arith) (λ r′. resume s limits levels (outer ++ 0 ∷ []) p r′))
     come-reached wf (suc k) cs r h m = go (advance s levels cs (r .term) p) (reached s wf limits r levels cs p) (λ cs r. come-reached wf k cs r)
       where

@@ -12,9 +12,9 @@ use Rattle.matching.specs.Matching.{Contraction}
 use Rattle.rewriting.specs.Evaluation.{Limits, Config, stepped, steps, hasRoom, Outcome, finished, stopped}
 use Rattle.rewriting.specs.Machine.{position, Next, final, deep, ready, advance}
 
--- where a run came to: the end; an argument that would be opened from level 64 (13); just before a step that 11, 16 or 12 would stop; or just before
--- a step that neither 11 nor 16 would stop, with no step left of the k. Before a step: the levels around it, the entries begun there, its 0 among
--- them, and the first rule that matches
+-- where a run came to: the end; an argument that would be opened from level 64 (13); just before a step that 11, 16 or 12 would stop, whether a step
+-- of the k is left or not; or just before a step that none of them would stop, with no step left of the k. Before a step: the levels around it, the
+-- entries begun there, its 0 among them, and the first rule that matches
 pub data Came : Type 0 where
   ended : Config → Came
   sunk : Config → Came
@@ -44,13 +44,18 @@ module _ (s : System) (limits : Limits) where
         | true ↦ elim (hasRoom (limits .room) (steps r)) [ false ↦ barred full outer c x r | true ↦ on ]
       ]
 
-  -- and 12
+  -- and 12, by the length of the whole term that the step would leave
   unfoldable pub fitting : ℕ → List ℕ → ℕ → Contraction → Config → Came → Came
   fitting q outer c x r on = elim (leb (length (stepped s q r x .term)) termWords) [ false ↦ barred overlong outer c x r | true ↦ on ]
 
   -- from where the machine came to without a rewrite
   unfoldable pub come : ℕ → ℕ → Next → Config → Came
-  come p zero next r = elim next [ final ↦ ended r | deep ↦ sunk r | ready outer c x ↦ before outer c x r (waits outer c x r) ]
+  come p zero next r =
+      elim next [
+        | final ↦ ended r
+        | deep ↦ sunk r
+        | ready outer c x ↦ before outer c x r (fitting (position s (r .term) outer p) outer c x r (waits outer c x r))
+      ]
   come p (suc k) next r =
       elim next [
         | final ↦ ended r
