@@ -1,3 +1,4 @@
-// A rewrite in the rows, and a step of the machine: the rewrite and the lengths on the way made true again.
+// A rewrite in the rows, and a step of the machine: the rewrite and the lengths on the way made true again; and how long the term would be after it.
 pub mod rewrites;
+pub mod sizes;
 pub mod steps;

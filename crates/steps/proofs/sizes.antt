@@ -1,0 +1,2 @@
+-- The length of the term after a step: what the proof of `size_after` cites.
+pub mod Sizes
