@@ -7,7 +7,7 @@ use mathlib.Core.List.{List, [], _∷_, _++_, append-assoc}
 use lib.ListN.{length, take, drop, set}
 use lib.Seq.{take-at, sets-eq, length-sets}
 use Rattle.buffers.specs.Words.{over}
-use Rattle.buffers.proofs.Over.{over-append}
+use Rattle.buffers.proofs.Over.{over-append, drop-over}
 use Rattle.rewriting.specs.Trace.{Pair, Trace, inOrder}
 use Rattle.rewriting.specs.Trace.{keep}
 use Rattle.records.specs.recording.Kept.{kept, paired}
@@ -63,6 +63,11 @@ pub keep-cut : (words : List ℕ) (h : Trace) → 2 * length h ≤ length words 
 unfolding keep
 keep-cut words h l =
     written words (inOrder h []) (2 * length h) (let z = in-order-length h [] in omega arith) l
+
+-- "its other words unchanged"
+pub keep-rest : (words : List ℕ) (h : Trace) → drop (2 * length h) (keep words h) ≡ drop (2 * length h) words
+unfolding keep
+keep-rest words h = drop-over (2 * length h) words 0 (inOrder h []) (let z = in-order-length h [] in omega arith)
 
 -- ---- the same, where it is told by a flag whether there is a record
 

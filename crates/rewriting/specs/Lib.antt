@@ -3,6 +3,7 @@ pub mod Trace
 pub mod Evaluation
 pub mod Rewriting
 pub mod Outcomes
+pub mod Stopped
 -- The evaluation as a machine
 pub mod Machine
 pub mod Runs

@@ -12,9 +12,10 @@ use Rattle.system.specs.Terms.{Whole, WellFormed}
 use Rattle.rewriting.specs.Trace.{Trace}
 use Rattle.rewriting.specs.Evaluation.{Limits, Config, steps, finished, stopped, evaluation}
 use Rattle.rewriting.specs.Rewriting.{Step, Steps, done, step}
+use Rattle.rewriting.specs.Stopped.{Halts, noSteps, Stopped}
 use Rattle.rewriting.proofs.Done.{path-steps, theorem-path}
 use Rattle.rewriting.proofs.Contexts.{Rewrites, step-rewrites}
-use Rattle.rewriting.proofs.Stopped.{Halts, noSteps, Stopped, stopped-path}
+use Rattle.rewriting.proofs.Stopped.{stopped-path}
 use Rattle.termination.specs.Weights.{Weights, weight, Falling}
 use Rattle.termination.proofs.Instances.{weight-patch}
 use Rattle.termination.proofs.Falls.{instance-falls}
@@ -50,4 +51,4 @@ module _ (s : System) (wf : WellFormed s) (m : Weights) (falling : Falling m s) 
         go c = by (c .why)
           where
             by : Halts s limits (c .last) k spent → ⊥
-            by (noSteps t′ d q) = let z = steps-fall h (path-steps s (c .path)) in let z′ = step-falls (c .whole) d in omega arith
+            by (noSteps d q) = let z = steps-fall h (path-steps s (c .path)) in let z′ = step-falls (c .whole) d in omega arith
