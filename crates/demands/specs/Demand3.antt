@@ -1,4 +1,4 @@
--- What demand 3 asks of the evaluator (01: the expander), said of an expansion x: its three numbers and both buffers as it leaves them. Its
+-- What demands 1 to 3 ask of the evaluator (01: the expander), said of an expansion x: its three numbers and both buffers as it leaves them. Its
 -- limits are those of the form without a record or of the one with it (02, F-3: "its room is one more limit in demands 2 and 3").
 use Prim.Native.Nat.{ℕ, zero, suc, _≤_}
 use mathlib.Core.Path.{_≡_}
@@ -9,14 +9,23 @@ use Rattle.reader.specs.Book.{systemOf}
 use Rattle.matching.specs.StrategyTest.{PassedBook}
 use Rattle.rewriting.specs.Evaluation.{Limits, Config, unrecorded, steps, finished, evaluation}
 use Rattle.rewriting.specs.Outcomes.{Done, Stable}
+use Rattle.rewriting.specs.Stopped.{Stopped}
+use Rattle.rewriting.specs.Trace.{Trace}
 use Rattle.evaluation.specs.Expansion.{Expansion, result, expansion, handedBack}
 use Rattle.system.specs.Limits.{areaWords, termWords}
+use Rattle.system.specs.Numbers.{Limit, limitNumber}
 
 -- "a cue is handed back if the expander answers 0": then that many words are there, and they are done
 abbrev pub IsDone : List ℕ → List ℕ → Limits → Expansion → Type 0
 IsDone book term limits x =
     x .numbers .number ≡ 0 →
     (length (handedBack x) ≡ x .numbers .place) × Done (systemOf book) limits term (handedBack x) (x .numbers .steps)
+
+-- where a limit stops it (11, 12, 13, or 16 where a record is lent): it "names the limit which that evaluation meets first". The steps reported
+-- lead from the first term to the one at which it stops, no term in that list has more than 4,096 words, and there that limit is met
+abbrev pub IsStopped : List ℕ → List ℕ → Limits → Expansion → Type 0
+IsStopped book term limits x =
+    (l : Limit) → x .numbers .number ≡ limitNumber l → (h : Trace) × Stopped (systemOf book) limits term l h × (x .numbers .steps ≡ length h)
 
 -- and where the checks pass and the evaluation ends within its limits, a term is handed back: it and the count are the evaluation's
 abbrev pub IsHandedBack : List ℕ → List ℕ → Limits → List ℕ → List ℕ → Expansion → Type 0

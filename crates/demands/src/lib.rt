@@ -6,8 +6,8 @@ ghost use lib.ListN.{length};
 ghost use Rattle.rewriting.specs.Evaluation.{unrecorded, recorded};
 ghost use Rattle.evaluation.specs.Expansion.{result, expansion, recordAfter};
 ghost use Rattle.replay.specs.Replaying.{asAnswer};
-ghost use Rattle.demands.specs.Retracing.{retracing, IsRetraced};
-ghost use Rattle.demands.specs.Demand3.{IsDone, IsHandedBack, IsFound, secondly, RestsAgain};
+ghost use Rattle.demands.specs.Retracing.{Reported, retracing, IsRetraced};
+ghost use Rattle.demands.specs.Demand3.{IsDone, IsStopped, IsHandedBack, IsFound, secondly, RestsAgain};
 ghost use Rattle.demands.specs.Square.{squareOf, IsSquared, NeverFalls};
 use evaluation::scanned::expand_scanned;
 use evaluation::scanned::expand_within;
@@ -29,7 +29,7 @@ pub struct Checked {
     pub answer: Answer,
 }
 
-// Tests the book's strategies and expands the term: "done" whether or not the book passed, "found" where it did.
+// Tests the book's strategies and expands the term: "done" whether or not the book passed, "found" where it did, and where a limit stops it, why.
 pub fn expand_checked(
     book: &[u16],
     term: &[u16],
@@ -45,6 +45,8 @@ pub fn expand_checked(
     ensures handed { λ r. ⌜ IsHandedBack (now (book .entry)) (now (term .entry)) (unrecorded limit) (now (out .entry)) (now (work .entry))
         (result (r .answer) (now (out .exit)) (now (work .exit))) ⌝ }
     ensures found { λ r. ⌜ IsFound (now (book .entry)) (result (r .answer) (now (out .exit)) (now (work .exit))) ⌝ }
+    ensures stopped { λ r. ⌜ IsStopped (now (book .entry)) (now (term .entry)) (unrecorded limit)
+        (result (r .answer) (now (out .exit)) (now (work .exit))) ⌝ }
 {
     let s = scan_book(book);
     let test = test(book, s);
@@ -128,6 +130,10 @@ pub fn expand_retraced(
         (result (r .answer) (now (out .exit)) (now (work .exit))) ⌝ }
     ensures retraced { λ r. ⌜ IsRetraced (result (r .answer) (now (out .exit)) (now (work .exit))) (now (again .entry)) (now (spare .entry))
         (result (asAnswer (r .replay)) (now (again .exit)) (now (spare .exit))) ⌝ }
+    ensures stopped { λ r. ⌜ IsStopped (now (book .entry)) (now (term .entry)) (recorded limit (length (now («record» .entry))))
+        (result (r .answer) (now (out .exit)) (now (work .exit))) ⌝ }
+    ensures reported { λ r. ⌜ Reported (now (book .entry)) (now (term .entry)) (recorded limit (length (now («record» .entry))))
+        (now («record» .entry)) (now («record» .exit)) (result (r .answer) (now (out .exit)) (now (work .exit))) ⌝ }
 {
     let s = scan_book(book);
     let bounds = Bounds {

@@ -2,8 +2,9 @@
 use mathlib.Core.Path.{sym, subst}
 use borrow.Author.Needs.{needs}
 use Rattle.rewriting.specs.Evaluation.{unrecorded}
-use Rattle.demands.specs.Demand3.{IsDone, IsHandedBack, IsFound}
+use Rattle.demands.specs.Demand3.{IsDone, IsStopped, IsHandedBack, IsFound}
 use Rattle.demands.proofs.Demand3.{is-done, is-handed-back, is-found}
+use Rattle.demands.proofs.Stopped.{is-stopped}
 use Rattle.demands.proofs.expand_checked.Statement.{statement}
 use Rattle.demands.proofs.expand_checked.Tie as tie
 
@@ -32,7 +33,8 @@ returns c =
     let done = subst (IsDone b u l) (sym e) (is-done b u l o w) in
     let handed = subst (IsHandedBack b u l o w) (sym e) (is-handed-back b u l o w) in
     let found = subst (IsFound b) (sym e) (is-found b u l o w) in
-    (t .ensures, (e, (done, (handed, found))))
+    let stopped = subst (IsStopped b u l) (sym e) (is-stopped b u l o w) in
+    (t .ensures, (e, (done, (handed, (found, stopped)))))
 
 pub expand-checked-spec : {M : Type 1} → statement M
 expand-checked-spec =
