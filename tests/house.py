@@ -1,5 +1,6 @@
-"""The layout that docs/CHANGING.md asks for: lengths of lines, files, functions and chains of `.before`; and that every must-fail edit finds
-its lines. Prints what is not so, and exits with 1 if anything is.
+"""The layout that docs/CHANGING.md asks for: lengths of lines, files, functions and chains of `.before`; how many functions a crate has; that
+crates.txt lists what each crate is built on, and no more; and that every must-fail edit finds its lines. Prints what is not so, and exits with 1
+if anything is.
 
     python3 tests/house.py      from the repository's top
 """
@@ -15,6 +16,11 @@ PARAMETERS = 6
 # document 01 asks for both loops in one function; two pairs of buffers are lent to one call, or a record beside one pair
 LONG_BODY = {"first_rule"}
 MANY = {"expand_twice", "cue_expand_twice", "expand_within", "expand_retraced", "cue_expand_retraced", "expand_squares", "expand_weighed_recorded"}
+# functions of a crate that has must-fail edits: an edit takes the time of its whole crate, and that is the number of its functions
+FUNCTIONS = 16
+# those that may have more: 01 names the reader as one crate; the C interface has a line for each operation
+MANY_FUNCTIONS = {"reader": 18, "cue": 17}
+KIT = {"bytes", "check", "io", "libc", "os"}  # the kit's libraries that crates.txt lists
 
 
 def functions(text):
@@ -49,8 +55,46 @@ def misses(edit):
             text = text.replace(old, rest, 1)
 
 
+def crowded():
+    """Crates with must-fail edits and too many functions."""
+    for folder in sorted(glob.glob("crates/*/must-fail")):
+        crate = folder.split("/")[1]
+        count = sum(len(list(functions(open(p, encoding="utf-8").read()))) for p in glob.glob(f"crates/{crate}/src/**/*.rt", recursive=True))
+        most = MANY_FUNCTIONS.get(crate, FUNCTIONS)
+        if count > most:
+            yield f"crates/{crate}: {count} functions, {most} at most: what is new stands in a crate of its own"
+
+
+def built_on():
+    """Where crates.txt does not list exactly the crates that a crate's files name, and what these are built on."""
+    listed = {}
+    for line in open("crates.txt", encoding="utf-8"):
+        name, _, rest = line.split("#")[0].partition(":")
+        if name.strip():
+            listed[name.strip()] = set(rest.split())
+    names = {}
+    for crate in listed:
+        text = ""
+        for path in glob.glob(f"crates/{crate}/*/**/*.rt", recursive=True) + glob.glob(f"crates/{crate}/*/**/*.antt", recursive=True):
+            comment = r"//.*" if path.endswith(".rt") else r"(^|\s)--.*"
+            text += re.sub(comment, "", open(path, encoding="utf-8").read(), flags=re.M)
+        named = set(re.findall(r"Rattle·([a-z_0-9]+)", text)) | set(re.findall(r"(?<![\w:])([a-z_0-9]+)::", text))
+        names[crate] = named & (set(listed) | KIT) - {crate}
+    for crate in listed:
+        due, todo = set(), list(names[crate])
+        while todo:
+            below = todo.pop()
+            if below not in due:
+                due.add(below)
+                todo += names.get(below, ())
+        if due - listed[crate]:
+            yield f"crates.txt: {crate} is built on {', '.join(sorted(due - listed[crate]))} too"
+        if listed[crate] - due:
+            yield f"crates.txt: {crate} does not use {', '.join(sorted(listed[crate] - due))}"
+
+
 def main():
-    over = []
+    over = [*crowded(), *built_on()]
     for part, most in LINE.items():
         for path in sorted(glob.glob(f"crates/*/{part}/**/*.*", recursive=True)):
             if not path.endswith((".rt", ".antt")):
