@@ -1,5 +1,5 @@
-"""Holds every must-fail edit to be refused because a fact fails. A log in which each error says only that the file of proofs no longer fits the code's
-shape (a place or a field of it that is not there, or another place than the one that is due) shows nothing of what the edit is to rule out.
+"""Holds every must-fail edit to be refused because a fact fails. A log in which each error says only that the file of proofs no longer fits the
+code's shape (a place or a field of it that is not there, or another place than the one that is due) shows nothing of what the edit rules out.
 
     python3 tests/refused.py            from the repository's top, after `rt ci` or `rt must-fail`: reads target/must-fail/CRATE/LABEL/.log
     python3 tests/refused.py FOLDER     the same of the logs in another target/must-fail, as many as there are
@@ -57,10 +57,11 @@ REST = "fn runs::run::run: not proved\nlogic=not-proved\n"
 WAITING = AT + "`run-spec`: `close` was not admitted (it has holes or undetermined implicits, or was rejected), so this cannot be checked\n"
 GONE_NEED = AT + "`returns-5`: `tie` has no `Need-returns-5` that can be named from here\n"
 GONE_FIELD = AT + "`returns-4`: record `Rattle.runs.proofs.run.run.Lts.After-stopped2` has no field `stopped3`\n"
-OTHER_PLACE = AT + "`stopping`: expected type `tie.After-frame2 Inv-loop μ-loop`, but this has type `Rattle.runs.proofs.run.run.Lts.After-frame3 (x, y)`\n"
+OTHER_PLACE = AT + "`stopping`: expected type `tie.After-frame2 Inv-loop`, but this has type `Rattle.runs.proofs.run.run.Lts.After-frame3 (x, y)`\n"
 ELSE_PLACE = (
     AT + "`third`: computed as far as they go, the two types differ only where one has `Rattle.a.proofs.b.Lts.Else2`\n"
-    "  (expected) and the other has `Rattle.a.proofs.b.Lts.Then2` (found)\n  expected type `tie.Else2`, but this has type `Rattle.a.proofs.b.Lts.Then2 (x)`\n"
+    "  (expected) and the other has `Rattle.a.proofs.b.Lts.Then2` (found)\n"
+    "  expected type `tie.Else2`, but this has type `Rattle.a.proofs.b.Lts.Then2 (x)`\n"
 )
 OTHER_NEED = AT + "`run-spec`: expected type `tie.Need-add-area Inv-loop μ-loop`, but this has type `tie.Need-slice-write-area Inv-loop μ-loop`\n"
 PLACE_FOR_FACT = AT + "`left`: expected type `_≡_ (c .x) 0`\n  but this has type `Rattle.a.proofs.b.Lts.After-wide (x)`\n"
@@ -103,7 +104,8 @@ def main():
             continue
         failing, others = facts(open(path, encoding="utf-8", errors="replace").read())
         if not failing:
-            print(f"refused: WRONG: {crate}/{label}: no fact fails, the proof only does not fit:", *(" ".join(o.split())[:240] for o in others), sep="\n    ")
+            said = [" ".join(message.split())[:240] for message in others]
+            print(f"refused: WRONG: {crate}/{label}: no fact fails, the proof only does not fit:", *said, sep="\n    ")
             wrong += 1
     print(f"refused: {len(labels) - wrong} of {len(labels)} must-fail edits are refused because a fact fails")
     sys.exit(1 if wrong else 0)
