@@ -13,7 +13,7 @@ import sys
 
 # where a message of a log begins
 BEGINS = re.compile(r"^(?:(?:\S+:\d+:\d+: )?(?:error|note|help|warning): |(?:fn|struct|enum|const|library|logic)\b)", re.M)
-ERROR = re.compile(r"(?:\S+:\d+:\d+: )?error: ")
+ERROR = re.compile(r"(\S+):\d+:\d+: error: (?:`([^`]*)`)?")
 # a declaration that waits for another that failed
 WAITS = re.compile(r"was not admitted \(it has holes or undetermined implicits, or was rejected\)")
 # a need, a place or a field that the edited code does not have
@@ -39,15 +39,26 @@ def misfit(message):
 
 
 def facts(log):
-    """The messages of a log that tell of a fact that fails, and the other errors that are no mere consequence."""
+    """The messages of a log that tell of a fact that fails, and the other errors that are no mere consequence.
+
+    The needs that a proof leaves to `search` stand in the declaration that closes it (`..-spec`) in their order, without a name: where the code has
+    other needs than before, a search is asked for another's. So what fails there counts only if all else in the file still fits."""
     starts = [m.start() for m in BEGINS.finditer(log)] + [len(log)]
-    failing, others = [], []
+    failing, closing, others, unfit = [], [], [], set()
     for message in (log[a:b] for a, b in zip(starts, starts[1:])):
+        m = ERROR.match(message)
         if BY_ITSELF.match(message):
             failing.append(message)
-        elif ERROR.match(message) and not WAITS.search(message):
-            fact = UNPROVED.search(message) or DIFFERS.search(message) and not GONE.search(message) and not misfit(message)
-            (failing if fact else others).append(message)
+        elif m and not WAITS.search(message):
+            if not (UNPROVED.search(message) or DIFFERS.search(message) and not GONE.search(message) and not misfit(message)):
+                others.append(message)
+                unfit.add(m.group(1))
+            elif (m.group(2) or "").endswith("-spec"):
+                closing.append((m.group(1), message))
+            else:
+                failing.append(message)
+    for path, message in closing:
+        (others if path in unfit else failing).append(message)
     return failing, others
 
 
@@ -71,6 +82,7 @@ VALUE = (
     "  expected type `borrow.Fn.Claims.AllOf x`\n  but this has type `borrow.Fn.Claims.AllOf y`\n"
 )
 FALSE = AT + "`loop-again`: `omega`: the goal does not follow from what it read. All of that holds, and the goal fails, at `c .i` = 1\n"
+SHIFTED = AT + "`run-spec`: `search`: no proof of `Rattle.runs.proofs.run.run.Reads.Post x`\n  was found.\n"
 SEARCHED = AT + "`returns`: `search`: no proof of `words.word.Reads.Post x`\n  was found.\n"
 MADE_UP = [
     (REST, False),
@@ -78,6 +90,8 @@ MADE_UP = [
     (GONE_NEED + WAITING + REST, False),
     (GONE_FIELD + OTHER_PLACE + WAITING + REST, False),
     (ELSE_PLACE + REST, False),
+    (GONE_FIELD + SHIFTED + REST, False),
+    (SHIFTED + WAITING + REST, True),
     (OTHER_NEED + PLACE_FOR_FACT + NOTE + REST, False),
     (NOTE + VALUE + REST, True),
     (OTHER_PLACE + FALSE + REST, True),
