@@ -1,4 +1,3 @@
--- A run in an area of words: what the proofs of `run` cite.
-pub mod Running
-pub mod Rounds
-pub mod Steps
+-- The evaluation of a term in an area of words: what the proofs of `run` cite.
+pub mod Enough
+pub mod Ending

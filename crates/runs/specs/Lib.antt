@@ -1,2 +1,3 @@
 -- Inner: a run
 pub mod run
+pub mod running

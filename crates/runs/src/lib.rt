@@ -1,2 +1,3 @@
-// A run of the machine, to its end or to a limit: advancing and rewriting in turn, each step told in the record.
+// A run of the machine, from any state: advancing and rewriting in turn, each step told in the record; and the evaluation, a run from the start.
 pub mod run;
+pub mod running;
