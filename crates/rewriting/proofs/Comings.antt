@@ -1,33 +1,35 @@
 -- Where the machine comes to from a state, in the subterm at a position: the levels that it opened, and that it comes there again from the same levels
 -- with the last 0 not begun. So a run that waits before a step may be gone on with by another run; and a run changes nothing outside its subterm.
-use Prim.Native.Nat.{ℕ, zero, suc, _+_, _-_, _≤_, _<_}
+use Prim.Native.Nat.{ℕ, zero, suc, _+_, _-_, _<_}
 use native.Mathlib.Omega.{arith}
 use mathlib.Core.Path.{_≡_, refl, sym, ap, _∙_, subst, subst₂}
 use mathlib.Core.Option.{Option, none, some}
-use mathlib.Core.Bool.{Bool, true, false}
 use mathlib.Core.List.{List, [], _∷_, _++_, append-assoc, append-nil, flatten}
 use lib.ListN.{length, getD, take, drop, length-drop}
-use lib.Dec.{leb, ltb}
-use Rattle.system.specs.Limits.{levels, termWords}
-use Rattle.system.specs.Numbers.{spent, overlong, full}
-use Rattle.system.specs.Signature.{Signature, Symbol, arity, argument, replace}
-use Rattle.system.specs.System.{System, strategy}
+use lib.Seq.{drop-append-seam}
+use Rattle.system.specs.Limits.{levels}
+use Rattle.system.specs.Signature.{Signature, Symbol, span, arity, argument, replace}
+use Rattle.system.specs.System.{System}
 use Rattle.system.specs.Terms.{Member, Whole, WellFormed}
+use Rattle.system.specs.Spans.{spans}
 use Rattle.system.proofs.Members.{member-getD}
-use Rattle.system.proofs.Forests.{focus-here, Node, as-node}
+use Rattle.system.proofs.Forests.{focus-here, as-node, span-forest}
 use Rattle.system.proofs.Places.{patch, at-replace, at-argument, at-head}
 use Rattle.matching.specs.Matching.{Contraction, contraction, FirstMatch}
 use Rattle.matching.proofs.Firsts.{contraction-rest, fired}
-use Rattle.rewriting.specs.Evaluation.{Limits, Config, stepped, steps, hasRoom}
+use Rattle.rewriting.specs.Evaluation.{Limits, Config, stepped}
 use Rattle.rewriting.specs.Machine.{strategyAt, down, position, Next, final, deep, ready, around, scan, enter, advance}
 use Rattle.rewriting.specs.levels.Opened.{Opened, base, level}
-use Rattle.rewriting.specs.Runs.{Came, ended, sunk, barred, waits, configOf, before, fitting, come, run, onward, unbegun}
-use Rattle.rewriting.proofs.Actives.{At, at-parted, whole-at}
+use Rattle.rewriting.specs.levels.Lengths.{raise, Way, everyArgument}
+use Rattle.rewriting.specs.Runs.{Came, ended, sunk, barred, waits, configOf, come, run, onward, unbegun}
+use Rattle.rewriting.proofs.Actives.{At, at-parted}
 use Rattle.rewriting.proofs.Done.{whole-within}
 use Rattle.rewriting.proofs.Laws.{next-entry}
 use Rattle.rewriting.proofs.OpenLevels.{opened-at, opened-replace}
 use Rattle.rewriting.proofs.Iterate.{scan-pass, scan-fire}
-use Rattle.rewriting.proofs.Runs.{come-final, come-deep, come-waits, come-steps, run-is, run-more}
+use Rattle.rewriting.proofs.WayRows.{way-spans-rewrite}
+use Rattle.rewriting.proofs.Everywhere.{every-formed}
+use Rattle.rewriting.proofs.Runs.{tests-cases, come-final, come-deep, come-waits, come-steps, run-is, run-more}
 
 module _ (s : System) (t : List ℕ) where
   -- a state: each level but the innermost one is open at an argument
@@ -165,24 +167,6 @@ module _ (s : System) (wf : WellFormed s) where
     abbrev There : Came → Type 0
     There o = Between a b (configOf o .term) × Waiting o
 
-    -- 11, 16 and 12 leave it
-    before-there : (outer : List ℕ) (c : ℕ) (x : Contraction) (r : Config) (on : Came) → Between a b (r .term) → There on → There (before s limits outer c x r on)
-    unfolding before
-    before-there outer c x r on h k = go (ltb (steps r) (limits .steps)) (hasRoom (limits .room) (steps r))
-      where
-        go : (d e : Bool) → There (elim d [ false ↦ barred spent outer c x r | true ↦ elim e [ false ↦ barred full outer c x r | true ↦ on ] ])
-        go false e = (h, tt)
-        go true false = (h, tt)
-        go true true = k
-
-    fitting-there : (q : ℕ) (outer : List ℕ) (c : ℕ) (x : Contraction) (r : Config) (on : Came) → Between a b (r .term) → There on → There (fitting s limits q outer c x r on)
-    unfolding fitting
-    fitting-there q outer c x r on h k = go (leb (length (stepped s q r x .term)) termWords)
-      where
-        go : (d : Bool) → There (elim d [ false ↦ barred overlong outer c x r | true ↦ on ])
-        go false = (h, tt)
-        go true = k
-
     -- a step below open levels
     module _ (outer : List ℕ) (c : ℕ) (x : Contraction) (r : Config) (h : Between a b (r .term)) (k : Stood s (r .term) levels p (ready outer c x)) where
       abbrev t : List ℕ
@@ -214,7 +198,7 @@ module _ (s : System) (wf : WellFormed s) where
         go (ready outer c x) m =
             let q = position s (r .term) outer p in
             let on = waits outer c x r in
-            subst There (sym (come-waits s limits p outer c x r)) (before-there outer c x r (fitting s limits q outer c x r on) h (fitting-there q outer c x r on h (h, m)))
+            subst There (sym (come-waits s limits p outer c x r)) (tests-cases s limits outer c x r There q on (λ l b. (h, tt)) (λ f. (h, m)))
     come-between (suc k) n r h m = go n m (λ n r. come-between k n r)
       where
         go : (n : Next) → Stood s (r .term) levels p n →
@@ -227,8 +211,7 @@ module _ (s : System) (wf : WellFormed s) where
             let on = run s limits p k (outer ++ 0 ∷ []) r₁ in
             let then : There on = subst There (sym (run-is s limits p k (outer ++ 0 ∷ []) r₁))
             (ih (advance s levels (outer ++ 0 ∷ []) (r₁ .term) p) r₁ (step-between outer c x r h m) (step-stood outer c x r h m)) in
-            subst There (sym (come-steps s limits p outer c x r k))
-            (before-there outer c x r (fitting s limits q outer c x r on) h (fitting-there q outer c x r on h then))
+            subst There (sym (come-steps s limits p outer c x r k)) (tests-cases s limits outer c x r There q on (λ l b. (h, tt)) (λ f. then))
 
     run-there : (k : ℕ) (outer : List ℕ) (c : ℕ) (r : Config) → Between a b (r .term) → Opened s (r .term) p outer → There (run s limits p k (outer ++ c ∷ []) r)
     run-there k outer c r h o =
@@ -239,6 +222,23 @@ module _ (s : System) (wf : WellFormed s) where
     pub run-between : (k : ℕ) (outer : List ℕ) (c : ℕ) (r : Config) → Between a b (r .term) → Opened s (r .term) p outer →
         Between a b (configOf (run s limits p k (outer ++ c ∷ []) r) .term)
     run-between k outer c r h o = run-there k outer c r h o .0
+
+    -- "but the lengths on the way to it": beside the words before and behind the subterm stand the lengths that stood there, but for the symbols on the
+    -- way ps to it, whose lengths are those less the words that the subterm had and more those that it has
+    pub run-lengths : (k : ℕ) (outer : List ℕ) (c : ℕ) (r : Config) (h : Between a b (r .term)) (o : Opened s (r .term) p outer) → Whole g (r .term) →
+        {ps : List ℕ} → Way (everyArgument s) (r .term) ps p → let v = run-between k outer c r h o .part in
+        spans g (configOf (run s limits p k (outer ++ c ∷ []) r) .term)
+        ≡ raise ps (length (h .part)) (length v) (take p (spans g (r .term))) ++ (spans g v ++ drop (p + length (h .part)) (spans g (r .term)))
+    run-lengths k outer c r h o w {ps} way =
+        let y = run-between k outer c r h o in
+        let v = y .part in
+        let t = r .term in
+        let width : span g (drop p t) 1 ≡ length (h .part) =
+        ap (λ z. span g (drop p z) 1) (h .equal) ∙ ap (λ z. span g z 1) (drop-append-seam a (h .part ++ b)) ∙ span-forest g (Symbol g) b (h .whole) in
+        let same : replace g t p v ≡ configOf (run s limits p k (outer ++ c ∷ []) r) .term =
+        ap (λ z. replace g z p v) (h .equal) ∙ at-replace g (Symbol g) a b v (h .whole) ∙ sym (y .equal) in
+        ap (spans g) (sym same) ∙ way-spans-rewrite (everyArgument s) (every-formed s wf) w way v (y .whole)
+        ∙ ap (λ n. raise ps n (length v) (take p (spans g t)) ++ (spans g v ++ drop (p + n) (spans g t))) width
 
     -- and m + n steps are m steps, and then n steps from the state that the first run left, its last 0 not begun
     pub again : ℕ → Came → Came

@@ -15,6 +15,8 @@ pub mod Iterate
 pub mod MachineTheorem
 pub mod Runs
 pub mod Comings
+pub mod Taken
+pub mod RunPaths
 pub mod Stopped
 -- The lengths beside a term's words, after a rewrite
 pub mod Raises

@@ -1,6 +1,6 @@
--- The laws of a run: one of m + n steps is one of m steps and then one of n; enough steps do what is left to do; and it changes nothing outside the
--- subterm at its position.
-use Prim.Native.Nat.{ℕ, zero, suc, _+_, _-_, _≤_, _<_}
+-- The laws of a run: one of m + n steps is one of m steps and then one of n (`run-more`), and enough steps do what is left to do (`run-evaluates`).
+-- That it changes nothing outside the subterm at its position: Comings; which steps it takes: Taken, RunPaths.
+use Prim.Native.Nat.{ℕ, zero, suc, _+_, _≤_, _<_}
 use native.Mathlib.Omega.{arith}
 use native.Mathlib.Decide.{decLt, decLe}
 use mathlib.Core.Path.{_≡_, refl, sym, ap, _∙_, subst}
@@ -10,16 +10,27 @@ use lib.ListN.{length}
 use lib.Dec.{leb, ltb}
 use borrow.Author.Tests.{lt-ltb, le-ltb, le-leb, lt-leb}
 use Rattle.system.specs.Limits.{levels, termWords}
-use Rattle.system.specs.Numbers.{spent, overlong, nested, full}
+use Rattle.system.specs.Numbers.{Limit, spent, overlong, full}
 use Rattle.system.specs.System.{System}
 use Rattle.system.specs.Terms.{WellFormed}
 use Rattle.matching.specs.Matching.{Contraction}
-use Rattle.rewriting.specs.Evaluation.{Limits, Config, stepped, steps, hasRoom, finished, stopped, Outcome, rewrite, evaluate}
+use Rattle.rewriting.specs.Evaluation.{Limits, Config, stepped, steps, hasRoom, Outcome, rewrite, evaluate}
 use Rattle.rewriting.specs.Machine.{position, Next, final, deep, ready, advance}
-use Rattle.rewriting.specs.Runs.{Came, ended, sunk, barred, waits, configOf, outcomeOf, before, fitting, come, run, onward}
+use Rattle.rewriting.specs.Runs.{Came, ended, sunk, barred, waits, outcomeOf, before, fitting, come, run, onward}
 use Rattle.rewriting.proofs.Walks.{rewrite-spent, rewrite-full, rewrite-long, rewrite-goes}
 use Rattle.rewriting.proofs.Laws.{resume, resume-start}
 use Rattle.rewriting.proofs.Iterate.{Reached, reached}
+
+module _ (s : System) (limits : Limits) (q : ℕ) (x : Contraction) (r : Config) where
+  -- a limit that stops the step at q: 11, 16, 12
+  pub data Bars : Limit → Type 0 where
+    bySteps : limits .steps ≤ steps r → Bars spent
+    byRoom : steps r < limits .steps → hasRoom (limits .room) (steps r) ≡ false → Bars full
+    byLength : steps r < limits .steps → hasRoom (limits .room) (steps r) ≡ true → termWords < length (stepped s q r x .term) → Bars overlong
+
+  -- none does
+  abbrev pub Free : Type 0
+  Free = (steps r < limits .steps) × (hasRoom (limits .room) (steps r) ≡ true) × (length (stepped s q r x .term) ≤ termWords)
 
 module _ (s : System) (limits : Limits) where
   -- ---- the tests before a step
@@ -89,6 +100,24 @@ module _ (s : System) (limits : Limits) where
     pub tests-onward : (q p n : ℕ) (on : Came) → onward s limits p n (tests q on) ≡ tests q (onward s limits p n on)
     tests-onward q p n on =
         before-onward p n (fitting s limits q outer c x r on) ∙ ap (before s limits outer c x r) (fitting-onward q p n on)
+
+    -- what holds wherever one of them stops the step, and where none does, holds behind them
+    pub tests-cases : (P : Came → Type 0) (q : ℕ) (on : Came) → ((l : Limit) → Bars s limits q x r l → P (barred l outer c x r)) →
+        (Free s limits q x r → P on) → P (tests q on)
+    tests-cases P q on stops goes = elim (decLt (steps r) (limits .steps)) [
+      | no l ↦ let n : limits .steps ≤ steps r = omega arith in subst P (sym (before-spent n (fitting s limits q outer c x r on))) (stops spent (bySteps n))
+      | yes l ↦ roomy l (hasRoom (limits .room) (steps r)) refl
+    ]
+      where
+        fits : steps r < limits .steps → hasRoom (limits .room) (steps r) ≡ true → P (fitting s limits q outer c x r on)
+        fits l f = elim (decLe (length (stepped s q r x .term)) termWords) [
+          | no m ↦ let n : termWords < length (stepped s q r x .term) = omega arith in subst P (sym (fitting-long q n on)) (stops overlong (byLength l f n))
+          | yes n ↦ subst P (sym (fitting-goes q n on)) (goes (l, f, n))
+        ]
+
+        roomy : steps r < limits .steps → (b : Bool) → hasRoom (limits .room) (steps r) ≡ b → P (tests q on)
+        roomy l false f = subst P (sym (before-full l f (fitting s limits q outer c x r on))) (stops full (byRoom l f))
+        roomy l true f = subst P (sym (before-free l f (fitting s limits q outer c x r on))) (fits l f)
 
   -- ---- the clauses
 
