@@ -8,24 +8,26 @@ use Rattle.system.specs.Limits.{levels, termWords}
 use Rattle.system.specs.System.{System}
 use Rattle.system.specs.Terms.{Whole, WellFormed}
 use Rattle.matching.specs.Matching.{Contraction}
-use Rattle.rewriting.specs.Rewriting.{Active, Step, Path, then}
+use Rattle.rewriting.specs.Rewriting.{Step, Path, then}
 use Rattle.rewriting.specs.Evaluation.{Limits, Config, stepped}
 use Rattle.rewriting.specs.Machine.{position, Next, final, deep, ready, advance}
 use Rattle.rewriting.specs.levels.Opened.{Opened}
+use Rattle.rewriting.specs.levels.Lengths.{Way}
 use Rattle.rewriting.specs.Runs.{Came, ended, sunk, barred, waits, come, run}
 use Rattle.rewriting.proofs.Contractions.{step-there}
 use Rattle.rewriting.proofs.Laws.{position-le}
 use Rattle.rewriting.proofs.OpenLevels.{opened-active, opened-replace}
-use Rattle.rewriting.proofs.Ways.{way-active, way-kept, active-way}
+use Rattle.rewriting.proofs.Ways.{way-active, way-kept}
 use Rattle.rewriting.proofs.Runs.{Free, tests-cases, come-final, come-deep, come-waits, come-steps, run-is}
 use Rattle.rewriting.proofs.Comings.{Stood, stood, open-state}
 
 module _ (s : System) (wf : WellFormed s) (limits : Limits) (t₀ : List ℕ) (p : ℕ) where
-  -- the steps so far lead from t₀ to the term, which is whole, and p is active in it
+  -- the steps so far lead from t₀ to the term, which is whole, and p is active in it: this is the way to it
   pub record Along (r : Config) : Type 0 where
     pub path : Path s termWords t₀ (r .trace) (r .term)
     pub whole : Whole (s .arities) (r .term)
-    pub active : Active s (r .term) p
+    pub symbols : List ℕ
+    pub way : Way s (r .term) symbols p
 
   -- where a run came to; and the step before which it stands
   abbrev pub Led : Came → Type 0
@@ -45,13 +47,14 @@ module _ (s : System) (wf : WellFormed s) (limits : Limits) (t₀ : List ℕ) (p
     after = stepped s q r x
 
     abbrev next : Step s t (after .term)
-    next = step-there s wf (h .whole) (opened-active s t (h .active) (k .0)) x (k .1)
+    next = step-there s wf (h .whole) (opened-active s t (way-active (h .way)) (k .0)) x (k .1)
 
     after-along : Free s limits q x r → Along after
     after-along f = record {
       path = then (h .path) next (f .2);
       whole = next .left;
-      active = way-active (way-kept q (x .reduct) (next .within) (position-le s t outer p) (active-way (h .active) .1));
+      symbols = h .symbols;
+      way = way-kept q (x .reduct) (next .within) (position-le s t outer p) (h .way);
     }
 
     after-stood : Stood s (after .term) levels p (advance s levels (outer ++ 0 ∷ []) (after .term) p)
