@@ -14,8 +14,8 @@ ghost use lib.ListN.{length};
 ghost use Rattle.rewriting.specs.Evaluation.{unrecorded, recorded};
 ghost use Rattle.evaluation.specs.Expansion.{result, expansion, recordAfter};
 ghost use Rattle.replay.specs.Replaying.{replaying, AcceptsExactly, IsMistold};
-ghost use Rattle.demands.specs.Demand3.{IsDone, IsHandedBack, IsFound, secondly, RestsAgain};
-ghost use Rattle.demands.specs.Retracing.{retracing, IsRetraced};
+ghost use Rattle.demands.specs.Demand3.{IsDone, IsStopped, IsHandedBack, IsFound, secondly, RestsAgain};
+ghost use Rattle.demands.specs.Retracing.{Reported, retracing, IsRetraced};
 ghost use Rattle.cue.specs.Exports.{answerFor, asAnswer, replayedAnswer, shapeFor, partFor, matchFor};
 use matching::FirstRule;
 use replay::Replayed;
@@ -242,7 +242,7 @@ pub extern "C" fn cue_expand(
     answer_for(evaluation::expand(book, term, limit, out, work))
 }
 
-// Tests the book's strategies and expands the term: "done" whether or not the book passed, "found" where it did.
+// Tests the book's strategies and expands the term: "done" whether or not the book passed, "found" where it did, and where a limit stops it, why.
 #[no_mangle]
 pub extern "C" fn cue_expand_checked(
     book: &[u16],
@@ -259,6 +259,8 @@ pub extern "C" fn cue_expand_checked(
     ensures handed { λ r. ⌜ IsHandedBack (now (book .entry)) (now (term .entry)) (unrecorded limit) (now (out .entry)) (now (work .entry))
         (result (asAnswer (r .answer)) (now (out .exit)) (now (work .exit))) ⌝ }
     ensures found { λ r. ⌜ IsFound (now (book .entry)) (result (asAnswer (r .answer)) (now (out .exit)) (now (work .exit))) ⌝ }
+    ensures stopped { λ r. ⌜ IsStopped (now (book .entry)) (now (term .entry)) (unrecorded limit)
+        (result (asAnswer (r .answer)) (now (out .exit)) (now (work .exit))) ⌝ }
 {
     let c = demands::expand_checked(book, term, limit, out, work);
     CueChecked {
@@ -361,6 +363,10 @@ pub extern "C" fn cue_expand_retraced(
         (result (asAnswer (r .answer)) (now (out .exit)) (now (work .exit))) ⌝ }
     ensures retraced { λ r. ⌜ IsRetraced (result (asAnswer (r .answer)) (now (out .exit)) (now (work .exit))) (now (again .entry))
         (now (spare .entry)) (result (replayedAnswer (r .replay)) (now (again .exit)) (now (spare .exit))) ⌝ }
+    ensures stopped { λ r. ⌜ IsStopped (now (book .entry)) (now (term .entry)) (recorded limit (length (now («record» .entry))))
+        (result (asAnswer (r .answer)) (now (out .exit)) (now (work .exit))) ⌝ }
+    ensures reported { λ r. ⌜ Reported (now (book .entry)) (now (term .entry)) (recorded limit (length (now («record» .entry))))
+        (now («record» .entry)) (now («record» .exit)) (result (asAnswer (r .answer)) (now (out .exit)) (now (work .exit))) ⌝ }
 {
     let c = demands::expand_retraced(book, term, limit, out, work, record, again, spare);
     CueRetraced {
