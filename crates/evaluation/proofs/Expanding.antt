@@ -21,7 +21,8 @@ use Rattle.terms.proofs.Answering as answering
 use Rattle.system.proofs.TermChecks.{fault-whole}
 use Rattle.reader.specs.Book.{systemOf, Accepted}
 use Rattle.rows.specs.declared.gap.Gap.{Gap}
-use Rattle.rows.specs.gap.Gaps.{closed, termIn, wordsIn, Lies}
+use Rattle.rows.specs.Rows.{closed, termIn, Lies}
+use Rattle.rows.specs.gap.Gaps.{wordsIn}
 use Rattle.rows.proofs.gap.Closed.{closed-length}
 use Rattle.rewriting.specs.Evaluation.{Limits, Outcome, finished, stopped, evaluation}
 use Rattle.runs.specs.declared.run.RunResult.{RunResult}

@@ -8,7 +8,7 @@ ghost use Rattle.reader.specs.Answers.{termAnswer};
 ghost use Rattle.system.specs.Limits.{areaWords, termWords};
 ghost use Rattle.reader.specs.Parser.{read};
 ghost use Rattle.reader.specs.scan.Sections.{scanOf};
-ghost use Rattle.rows.specs.gap.Gaps.{Lies, termIn};
+ghost use Rattle.rows.specs.Rows.{Lies, termIn};
 ghost use Rattle.rewriting.specs.Evaluation.{unrecorded};
 ghost use Rattle.evaluation.specs.Expansion.{result, room, earlier, expansion, recordAfter};
 ghost use Rattle.records.specs.recording.Kept.{limitsOf};

@@ -5,7 +5,7 @@ use mathlib.Core.List.{List, [], _++_}
 use lib.ListN.{length, drop}
 use Rattle.buffers.specs.Words.{over, zeros}
 use Rattle.system.specs.Limits.{areaWords}
-use Rattle.rows.specs.gap.Gaps.{Lies, termIn}
+use Rattle.rows.specs.Rows.{Lies, termIn}
 use Rattle.evaluation.specs.Expansion.{result}
 use Rattle.evaluation.proofs.Expanding.{whole-term, whole-zeroed, same-result}
 use Rattle.replay.specs.declared.retrace.Retraced.{Retraced}

@@ -5,7 +5,7 @@ ghost use lib.ListN.{length};
 ghost use Rattle.reader.specs.Book.{systemOf, Accepted};
 ghost use Rattle.system.specs.Limits.{areaWords, termWords};
 ghost use Rattle.layout.specs.index.Index.{Indexed};
-ghost use Rattle.rows.specs.gap.Gaps.{termIn};
+ghost use Rattle.rows.specs.Rows.{termIn};
 ghost use Rattle.steps.specs.steps.Raised.{Raisable, Raised};
 ghost use Rattle.runs.specs.run.RunResult.{Runnable};
 ghost use Rattle.rewriting.specs.Evaluation.{start};

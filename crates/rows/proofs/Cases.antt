@@ -3,7 +3,8 @@ use Prim.Native.Nat.{ℕ}
 use mathlib.Core.Path.{_≡_, refl}
 use mathlib.Core.List.{List, [], _∷_}
 use Rattle.system.specs.Signature.{arity, span}
-use Rattle.rows.specs.gap.Gaps.{closed, slotOf}
+use Rattle.rows.specs.Rows.{closed}
+use Rattle.rows.specs.gap.Gaps.{slotOf}
 use Rattle.system.specs.Spans.{spans}
 
 pub lengths-case : spans (0 ∷ 1 ∷ 2 ∷ []) (2 ∷ 1 ∷ 0 ∷ 0 ∷ []) ≡ 4 ∷ 2 ∷ 1 ∷ 1 ∷ []

@@ -18,8 +18,8 @@ use Rattle.machine.specs.declared.advance.Event.the-variants.{End, Repea
 use Rattle.rewriting.specs.Machine.{strategyAt, position, advance}
 use Rattle.rewriting.specs.levels.Opened.{Opened}
 use Rattle.rows.specs.declared.gap.Gap.{Gap}
-use Rattle.rows.specs.gap.Gaps.{termIn}
-use Rattle.rows.specs.lengths.Measured.{Measured}
+use Rattle.rows.specs.Rows.{termIn}
+use Rattle.rows.specs.Measured.{Measured}
 use Rattle.system.specs.Signature.{signatureOf}
 use Rattle.layout.proofs.Books.{signature}
 use Rattle.machine.specs.advance.Area.{outerIn, countIn, lastWords, Stands, Valid, Tracks}

@@ -17,7 +17,7 @@ use Rattle.machine.specs.declared.advance.Event.the-variants.{End, Rules
 use Rattle.machine.specs.declared.advance.Stop.the-variants.{Final, Deep, Ready}
 use Rattle.rewriting.specs.Machine.{position, advance}
 use Rattle.rows.specs.declared.gap.Gap.{Gap}
-use Rattle.rows.specs.gap.Gaps.{termIn}
+use Rattle.rows.specs.Rows.{termIn}
 use Rattle.machine.specs.advance.Area.{outerIn, countIn, Stands, Valid}
 use Rattle.machine.specs.advance.Transition as to
 use Rattle.machine.specs.advance.Arrivals.{Arrives, Advances}

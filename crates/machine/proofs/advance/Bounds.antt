@@ -13,7 +13,8 @@ use Rattle.layout.proofs.Books.{well}
 use Rattle.rewriting.specs.Machine.{position}
 use Rattle.rewriting.proofs.OpenLevels.{opened-room}
 use Rattle.rows.specs.declared.gap.Gap.{Gap}
-use Rattle.rows.specs.gap.Gaps.{termIn, wordsIn, Gapped}
+use Rattle.rows.specs.Rows.{termIn, Gapped}
+use Rattle.rows.specs.gap.Gaps.{wordsIn}
 use Rattle.rows.proofs.gap.Closed.{closed-length}
 use Rattle.machine.specs.advance.Area.{outerIn, countIn, Valid, frameWords, Tracks}
 use Rattle.machine.proofs.advance.States.{valid-within}

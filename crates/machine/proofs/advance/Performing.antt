@@ -20,7 +20,8 @@ use Rattle.machine.specs.declared.advance.Event.the-variants.{End, Repea
 use Rattle.machine.specs.declared.advance.Innermost.{Innermost}
 use Rattle.rewriting.specs.Machine.{strategyAt, down, position}
 use Rattle.rows.specs.declared.gap.Gap.{Gap}
-use Rattle.rows.specs.gap.Gaps.{countsAt, termIn, wordsIn}
+use Rattle.rows.specs.Rows.{countsAt, termIn}
+use Rattle.rows.specs.gap.Gaps.{wordsIn}
 use Rattle.machine.specs.advance.Area.{outerIn, countIn, lastWords, Stands, Valid, Positioned, Tracks}
 use Rattle.layout.specs.entries.Entries.{entryOf}
 use Rattle.machine.specs.advance.Transition as to

@@ -8,7 +8,7 @@ use Rattle.reader.specs.declared.Shape.{Shape}
 use Rattle.system.specs.System.{System}
 use Rattle.reader.specs.Book.{systemOf, Accepted}
 use Rattle.rows.specs.declared.gap.Gap.{Gap}
-use Rattle.rows.specs.gap.Gaps.{termIn}
+use Rattle.rows.specs.Rows.{termIn}
 use Rattle.redexes.specs.declared.search.Redex.{Redex}
 use Rattle.matching.specs.rules.Searches.{unnumbered}
 use Rattle.matching.specs.Matching.{Contraction, contraction}

@@ -9,8 +9,8 @@ use Rattle.system.specs.Signature.{Signature}
 use Rattle.system.specs.System.{System}
 use Rattle.system.specs.Terms.{Whole}
 use Rattle.rows.specs.declared.gap.Gap.{Gap}
-use Rattle.rows.specs.gap.Gaps.{countsAt, termIn}
-use Rattle.rows.specs.lengths.Measured.{Measured}
+use Rattle.rows.specs.Rows.{countsAt, termIn}
+use Rattle.rows.specs.Measured.{Measured}
 use Rattle.redexes.specs.search.Redexes.{bindingWords}
 use Rattle.rewriting.specs.Machine.{strategyAt, position}
 use Rattle.rewriting.specs.levels.Opened.{Opened}

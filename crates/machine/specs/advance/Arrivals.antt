@@ -14,7 +14,7 @@ use Rattle.machine.specs.declared.advance.Advanced.{Advanced}
 use Rattle.machine.specs.declared.advance.Stop.{Stop}
 use Rattle.machine.specs.declared.advance.Stop.the-variants.{Final, Deep, Ready}
 use Rattle.rewriting.specs.Machine.{Next, final, deep, ready, position, advance}
-use Rattle.rows.specs.gap.Gaps.{termIn}
+use Rattle.rows.specs.Rows.{termIn}
 use Rattle.machine.specs.advance.Area.{outerIn, countIn, lastWords, Stands, Represents, Tracks}
 
 -- where the machine comes to from the state in an area

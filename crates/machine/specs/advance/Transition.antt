@@ -8,7 +8,7 @@ use lib.Dec.{ltb, leb}
 use Rattle.system.specs.Limits.{levels}
 use Rattle.system.specs.System.{System}
 use Rattle.rewriting.specs.Machine.{strategyAt, position}
-use Rattle.rows.specs.gap.Gaps.{termIn}
+use Rattle.rows.specs.Rows.{termIn}
 use Rattle.machine.specs.advance.Area.{outerIn, countIn, lastWords, Stands, Tracks}
 use Rattle.layout.specs.entries.Entries.{entryOf}
 use Rattle.layout.specs.declared.entries.Entry.the-variants as entry

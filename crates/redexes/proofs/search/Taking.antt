@@ -8,8 +8,9 @@ use lib.Seq.{getD-drop}
 use Rattle.system.specs.Limits.{variable}
 use Rattle.system.specs.Signature.{Signature}
 use Rattle.rows.specs.declared.gap.Gap.{Gap}
-use Rattle.rows.specs.gap.Gaps.{wordsIn, termIn, lengthsIn}
-use Rattle.rows.specs.lengths.Measured.{Measured}
+use Rattle.rows.specs.Rows.{termIn, lengthsIn}
+use Rattle.rows.specs.gap.Gaps.{wordsIn}
+use Rattle.rows.specs.Measured.{Measured}
 use Rattle.rows.proofs.lengths.Measures.{words-length, measured-length}
 use Rattle.matching.specs.Bindings.{consumed}
 use Rattle.matching.proofs.rules.MatchSteps.{consumed-end, consumed-variable, consumed-differ, consumed-same}

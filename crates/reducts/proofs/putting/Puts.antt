@@ -9,7 +9,8 @@ use Rattle.system.specs.Limits.{areaWords, termWords}
 use Rattle.system.specs.Signature.{Signature}
 use Rattle.system.specs.System.{instance}
 use Rattle.rows.specs.declared.gap.Gap.{Gap}
-use Rattle.rows.specs.gap.Gaps.{wordRow, lengthRow, Lies, closed, termIn, behind, Moved}
+use Rattle.rows.specs.Rows.{wordRow, lengthRow, Lies, closed, termIn}
+use Rattle.rows.specs.gap.Gaps.{behind, Moved}
 use Rattle.system.specs.Spans.{spans}
 use Rattle.rows.specs.lengths.Written.{Written}
 use Rattle.rows.proofs.gap.Rows.{word-row-length, length-row-length}

@@ -16,7 +16,8 @@ use Rattle.system.specs.Limits.{termWords, variable}
 use Rattle.system.specs.Signature.{Signature}
 use Rattle.system.specs.Terms.{Member}
 use Rattle.rows.specs.declared.gap.Gap.{Gap}
-use Rattle.rows.specs.gap.Gaps.{countsAt, termIn, wordsIn}
+use Rattle.rows.specs.Rows.{countsAt, termIn}
+use Rattle.rows.specs.gap.Gaps.{wordsIn}
 use Rattle.rows.specs.lengths.Written.{Apart}
 use Rattle.rows.proofs.gap.Rows.{part-take}
 use Rattle.rows.proofs.gap.Closed.{closed-length}

@@ -10,9 +10,10 @@ use Rattle.system.specs.Limits.{termWords}
 use Rattle.system.specs.Signature.{Signature}
 use Rattle.system.specs.Terms.{Whole}
 use Rattle.rows.specs.declared.gap.Gap.{Gap}
-use Rattle.rows.specs.gap.Gaps.{wordRow, lengthRow, Lies, Gapped, closed, termIn, lengthsIn, wordsIn}
+use Rattle.rows.specs.Rows.{wordRow, lengthRow, Lies, Gapped, closed, termIn, lengthsIn}
+use Rattle.rows.specs.gap.Gaps.{wordsIn}
 use Rattle.system.specs.Spans.{spans}
-use Rattle.rows.specs.lengths.Measured.{Measured}
+use Rattle.rows.specs.Measured.{Measured}
 use Rattle.system.proofs.Spans.{spans-stretch}
 use Rattle.rows.proofs.gap.Rows.{part-take, word-row-length, length-row-length, word-row-part, length-row-part}
 use Rattle.rows.proofs.gap.Closed.{closed-front, closed-behind, closed-length}

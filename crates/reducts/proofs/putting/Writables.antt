@@ -14,7 +14,7 @@ use Rattle.system.specs.Signature.{Signature}
 use Rattle.system.specs.System.{instance}
 use Rattle.system.specs.Terms.{Member}
 use Rattle.rows.specs.declared.gap.Gap.{Gap}
-use Rattle.rows.specs.gap.Gaps.{countsAt, termIn}
+use Rattle.rows.specs.Rows.{countsAt, termIn}
 use Rattle.rows.proofs.lengths.Measures.{measured-behind, measured-counts}
 use Rattle.matching.specs.rules.Searches.{reductLength}
 use Rattle.matching.proofs.Matched.{instance-cong}

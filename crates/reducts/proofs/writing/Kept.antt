@@ -12,9 +12,10 @@ use Rattle.buffers.proofs.Over.{length-part}
 use Rattle.system.specs.Limits.{termWords}
 use Rattle.system.specs.Signature.{Signature}
 use Rattle.system.specs.Terms.{Whole}
-use Rattle.rows.specs.gap.Gaps.{countsAt, wordRow, lengthRow, behind}
+use Rattle.rows.specs.Rows.{countsAt, wordRow, lengthRow}
+use Rattle.rows.specs.gap.Gaps.{behind}
 use Rattle.system.specs.Spans.{spans}
-use Rattle.rows.specs.lengths.Measured.{Measured}
+use Rattle.rows.specs.Measured.{Measured}
 use Rattle.rows.specs.lengths.Written.{Written}
 use Rattle.rows.proofs.gap.Rows.{part-take, word-row-part, length-row-part}
 use Rattle.rows.proofs.lengths.Writes.{written-before, written-behind, written-behind-lengths}

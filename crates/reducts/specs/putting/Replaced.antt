@@ -13,9 +13,10 @@ use Rattle.system.specs.Signature.{Signature}
 use Rattle.system.specs.System.{instance}
 use Rattle.system.specs.Terms.{Whole, Member}
 use Rattle.rows.specs.declared.gap.Gap.{Gap}
-use Rattle.rows.specs.gap.Gaps.{countsAt, lengthRow, termIn, wordsIn, behind, Lies, Gapped}
+use Rattle.rows.specs.Rows.{countsAt, lengthRow, termIn, Lies, Gapped}
+use Rattle.rows.specs.gap.Gaps.{wordsIn, behind}
 use Rattle.system.specs.Spans.{spans}
-use Rattle.rows.specs.lengths.Measured.{Measured}
+use Rattle.rows.specs.Measured.{Measured}
 use Rattle.reducts.specs.declared.putting.Reduced.{Reduced}
 use Rattle.reducts.specs.declared.writing.Source.{Source}
 use Rattle.reducts.specs.declared.putting.Subterm.{Subterm}

@@ -13,7 +13,7 @@ use Rattle.system.specs.System.{instance}
 use Rattle.system.specs.Terms.{Whole, Member}
 use Rattle.rows.specs.gap.Gaps.{behind}
 use Rattle.system.specs.Spans.{spans}
-use Rattle.rows.specs.lengths.Measured.{Measured}
+use Rattle.rows.specs.Measured.{Measured}
 use Rattle.rows.specs.lengths.Written.{Apart, Copyable}
 use Rattle.matching.specs.rules.Searches.{reductLength}
 use Rattle.reducts.specs.declared.writing.Source.{Source}

@@ -16,7 +16,8 @@ use Rattle.system.specs.Terms.{WellFormed}
 use Rattle.layout.specs.index.Index.{Indexed}
 use Rattle.layout.proofs.Books.{well}
 use Rattle.rows.specs.declared.gap.Gap.{Gap}
-use Rattle.rows.specs.gap.Gaps.{termIn, lengthsIn, wordsIn, Lies}
+use Rattle.rows.specs.Rows.{termIn, lengthsIn, Lies}
+use Rattle.rows.specs.gap.Gaps.{wordsIn}
 use Rattle.rows.proofs.lengths.Measures.{measured-length}
 use Rattle.reducts.specs.declared.putting.Reduced.{Reduced}
 use Rattle.reducts.specs.declared.putting.Subterm.{Subterm}

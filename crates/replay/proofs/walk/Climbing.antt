@@ -6,7 +6,8 @@ use mathlib.Core.Bool.{true}
 use mathlib.Core.List.{List}
 use Rattle.system.specs.System.{System}
 use Rattle.system.specs.Terms.{WellFormed}
-use Rattle.rows.specs.gap.Gaps.{wordsIn, termIn}
+use Rattle.rows.specs.Rows.{termIn}
+use Rattle.rows.specs.gap.Gaps.{wordsIn}
 use Rattle.rewriting.proofs.Ways.{way-active, way-top}
 use Rattle.replay.specs.declared.walk.Finger.{Finger}
 use Rattle.replay.specs.walk.Descent.{within, Above}

@@ -13,7 +13,7 @@ use Rattle.system.specs.System.{System, strategy}
 use Rattle.system.specs.Terms.{Member, WellFormed, among}
 use Rattle.layout.proofs.Books.{well}
 use Rattle.layout.proofs.entries.Repeats.{among-member, member-among}
-use Rattle.rows.specs.gap.Gaps.{countsAt, termIn}
+use Rattle.rows.specs.Rows.{countsAt, termIn}
 use Rattle.replay.specs.declared.walk.Argument.{Argument}
 use Rattle.replay.specs.declared.walk.Finger.{Finger}
 use Rattle.replay.specs.walk.Descent.{Above, Held}

@@ -9,7 +9,8 @@ use Rattle.reader.specs.Book.{systemOf, Accepted}
 use Rattle.system.specs.System.{System}
 use Rattle.system.specs.Terms.{WellFormed}
 use Rattle.layout.proofs.Books.{well}
-use Rattle.rows.specs.gap.Gaps.{wordsIn, termIn}
+use Rattle.rows.specs.Rows.{termIn}
+use Rattle.rows.specs.gap.Gaps.{wordsIn}
 use Rattle.replay.specs.declared.walk.Finger.{Finger}
 use Rattle.replay.specs.declared.retrace.Pair.{Pair}
 use Rattle.replay.specs.declared.retrace.Followed.{Followed}

@@ -10,7 +10,8 @@ use Rattle.system.specs.Limits.{areaWords, termWords}
 use Rattle.system.specs.Signature.{argument}
 use Rattle.system.specs.System.{System, strategy}
 use Rattle.system.specs.Terms.{Member, WellFormed}
-use Rattle.rows.specs.gap.Gaps.{countsAt, wordsIn, termIn, Gapped}
+use Rattle.rows.specs.Rows.{countsAt, termIn, Gapped}
+use Rattle.rows.specs.gap.Gaps.{wordsIn}
 use Rattle.rows.proofs.lengths.Measures.{words-length, measured-counts, term-counts}
 use Rattle.rewriting.specs.levels.Lengths.{Way, down}
 use Rattle.rewriting.proofs.Contractions.{active-within}

@@ -18,7 +18,7 @@ use Rattle.layout.proofs.Books.{well, signature}
 use Rattle.system.proofs.words.SpanSteps.{span-le}
 use Rattle.rows.specs.declared.gap.Gap.{Gap}
 use Rattle.rows.specs.gap.Gaps.{wordsIn}
-use Rattle.rows.specs.lengths.Measured.{Measured}
+use Rattle.rows.specs.Measured.{Measured}
 use Rattle.rows.specs.lengths.Written.{Laid}
 use Rattle.rows.proofs.lengths.Measures.{words-length}
 use Rattle.redexes.specs.declared.search.Redex.{Redex}

@@ -11,7 +11,8 @@ use Rattle.system.specs.Numbers.{taken, stopping, overlong, untrue, numberOf}
 use Rattle.system.specs.Signature.{replace}
 use Rattle.system.specs.System.{System}
 use Rattle.rows.specs.declared.gap.Gap.{Gap}
-use Rattle.rows.specs.gap.Gaps.{behind, Lies, termIn}
+use Rattle.rows.specs.Rows.{Lies, termIn}
+use Rattle.rows.specs.gap.Gaps.{behind}
 use Rattle.matching.specs.Matching.{Contraction}
 use Rattle.rewriting.specs.Evaluation.{steps}
 use Rattle.replay.specs.declared.retrace.Pair.{Pair}

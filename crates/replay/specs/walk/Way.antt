@@ -8,8 +8,8 @@ use lib.Dec.{eqb}
 use Rattle.system.specs.Limits.{areaWords}
 use Rattle.system.specs.System.{System}
 use Rattle.system.specs.Terms.{Whole, WellFormed}
-use Rattle.rows.specs.gap.Gaps.{countsAt, termIn}
-use Rattle.rows.specs.lengths.Measured.{Measured}
+use Rattle.rows.specs.Rows.{countsAt, termIn}
+use Rattle.rows.specs.Measured.{Measured}
 use Rattle.rewriting.specs.levels.Lengths.{Way}
 use Rattle.replay.specs.Activity.{activeAt}
 use Rattle.replay.specs.declared.walk.Finger.{Finger}

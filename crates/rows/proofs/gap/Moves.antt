@@ -9,7 +9,8 @@ use Rattle.buffers.specs.Words.{over}
 use Rattle.buffers.specs.moves.Parts.{part}
 use Rattle.buffers.proofs.Over.{length-part, take-over, drop-over}
 use Rattle.system.specs.Limits.{termWords}
-use Rattle.rows.specs.gap.Gaps.{countsAt, wordRow, lengthRow, Lies, Gapped, closed, wordsIn, Moved}
+use Rattle.rows.specs.Rows.{countsAt, wordRow, lengthRow, Lies, Gapped, closed}
+use Rattle.rows.specs.gap.Gaps.{wordsIn, Moved}
 use Rattle.rows.specs.declared.gap.Gap.{Gap}
 use Rattle.rows.proofs.gap.Rows.{word-row-length, length-row-length, word-row-part, length-row-part, RowsOf, word-over-row, length-over-row}
 

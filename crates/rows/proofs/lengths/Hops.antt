@@ -7,9 +7,10 @@ use lib.ListN.{getD, drop, drop-of-length-le}
 use Rattle.system.specs.Signature.{Signature, span}
 use Rattle.system.proofs.Forests.{span-zero}
 use Rattle.rows.specs.declared.gap.Gap.{Gap}
-use Rattle.rows.specs.gap.Gaps.{Gapped, termIn, lengthsIn, wordsIn}
+use Rattle.rows.specs.Rows.{Gapped, termIn, lengthsIn}
+use Rattle.rows.specs.gap.Gaps.{wordsIn}
 use Rattle.system.specs.Spans.{spans}
-use Rattle.rows.specs.lengths.Measured.{Measured}
+use Rattle.rows.specs.Measured.{Measured}
 use Rattle.system.proofs.Spans.{span-hop}
 use Rattle.rows.proofs.lengths.Measures.{words-length}
 

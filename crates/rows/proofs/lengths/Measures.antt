@@ -9,9 +9,10 @@ use Rattle.buffers.proofs.Over.{part-slice}
 use Rattle.system.specs.Limits.{termWords}
 use Rattle.system.specs.Signature.{Signature, span}
 use Rattle.rows.specs.declared.gap.Gap.{Gap}
-use Rattle.rows.specs.gap.Gaps.{countsAt, wordRow, lengthRow, Gapped, closed, termIn, lengthsIn, wordsIn, behind, Moved}
+use Rattle.rows.specs.Rows.{countsAt, wordRow, lengthRow, Gapped, closed, termIn, lengthsIn}
+use Rattle.rows.specs.gap.Gaps.{wordsIn, behind, Moved}
 use Rattle.system.specs.Spans.{spans}
-use Rattle.rows.specs.lengths.Measured.{Measured}
+use Rattle.rows.specs.Measured.{Measured}
 use Rattle.system.proofs.Spans.{spans-drop, spans-at}
 
 -- ---- a row around a gap

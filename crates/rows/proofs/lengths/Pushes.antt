@@ -10,8 +10,9 @@ use Rattle.buffers.specs.moves.Parts.{part}
 use Rattle.buffers.proofs.Over.{length-part}
 use Rattle.system.specs.Limits.{termWords}
 use Rattle.system.specs.Signature.{Signature}
-use Rattle.rows.specs.gap.Gaps.{countsAt, wordRow, behind}
-use Rattle.rows.specs.lengths.Measured.{Measured}
+use Rattle.rows.specs.Rows.{countsAt, wordRow}
+use Rattle.rows.specs.gap.Gaps.{behind}
+use Rattle.rows.specs.Measured.{Measured}
 use Rattle.rows.specs.lengths.Written.{Written, Apart}
 use Rattle.rows.proofs.lengths.Writes.{written-none, written-then, written-behind}
 

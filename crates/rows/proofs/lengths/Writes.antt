@@ -13,9 +13,10 @@ use Rattle.buffers.proofs.Over.{length-part, part-above, take-over, drop-over}
 use Rattle.system.specs.Limits.{termWords}
 use Rattle.system.specs.Signature.{Signature, arity, span}
 use Rattle.system.proofs.words.SpanSteps.{span-le}
-use Rattle.rows.specs.gap.Gaps.{countsAt, wordRow, lengthRow, termIn, behind}
+use Rattle.rows.specs.Rows.{countsAt, wordRow, lengthRow, termIn}
+use Rattle.rows.specs.gap.Gaps.{behind}
 use Rattle.system.specs.Spans.{spans}
-use Rattle.rows.specs.lengths.Measured.{Measured}
+use Rattle.rows.specs.Measured.{Measured}
 use Rattle.rows.specs.lengths.Written.{Written, Copyable, Apart, Laid}
 use Rattle.system.proofs.Spans.{spans-drop, spans-word, spans-append}
 use Rattle.rows.proofs.lengths.Measures.{word-row-length, length-row-length, row-behind, words-length}

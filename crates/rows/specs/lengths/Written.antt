@@ -9,9 +9,10 @@ use Rattle.system.specs.Limits.{termWords}
 use Rattle.system.specs.Signature.{Signature}
 use Rattle.system.specs.Terms.{Whole}
 use Rattle.rows.specs.declared.gap.Gap.{Gap}
-use Rattle.rows.specs.gap.Gaps.{countsAt, wordRow, lengthRow, termIn, behind}
+use Rattle.rows.specs.Rows.{countsAt, wordRow, lengthRow, termIn}
+use Rattle.rows.specs.gap.Gaps.{behind}
 use Rattle.system.specs.Spans.{spans}
-use Rattle.rows.specs.lengths.Measured.{Measured}
+use Rattle.rows.specs.Measured.{Measured}
 
 -- the words `new` stand before those from `back` on, from `back′` on, and the lengths are true of them; nothing else has changed
 pub record Written (g : Signature) (ws : List ℕ) (back : ℕ) (ws′ : List ℕ) (back′ : ℕ) (new : List ℕ) : Type 0 where

@@ -13,7 +13,8 @@ use Rattle.layout.proofs.Books.{well}
 use Rattle.system.specs.Limits.{areaWords, termWords}
 use Rattle.system.specs.Numbers.{Limit, spent, overlong, nested, full, limitNumber}
 use Rattle.rows.specs.declared.gap.Gap.{Gap}
-use Rattle.rows.specs.gap.Gaps.{countsAt, wordRow, closed, termIn, behind}
+use Rattle.rows.specs.Rows.{countsAt, wordRow, closed, termIn}
+use Rattle.rows.specs.gap.Gaps.{behind}
 use Rattle.rows.specs.lengths.Written.{Laid}
 use Rattle.rewriting.specs.Trace.{Trace}
 use Rattle.rewriting.specs.Evaluation.{Limits, start, stopped, traceOf, evaluation}

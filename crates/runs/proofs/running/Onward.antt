@@ -12,7 +12,7 @@ use Rattle.system.specs.Numbers.{overlong, limitNumber}
 use Rattle.system.proofs.Rules.{rule-bound}
 use Rattle.redexes.proofs.search.Found.{redex-number}
 use Rattle.rows.specs.declared.gap.Gap.{Gap}
-use Rattle.rows.specs.gap.Gaps.{countsAt, termIn}
+use Rattle.rows.specs.Rows.{countsAt, termIn}
 use Rattle.reducts.specs.declared.putting.Reduced.{Reduced}
 use Rattle.reducts.specs.putting.Replaced.{Kept}
 use Rattle.rewriting.specs.Trace.{Pair}

@@ -12,7 +12,7 @@ use Rattle.layout.proofs.Books.{well}
 use Rattle.system.specs.Limits.{termWords, levels}
 use Rattle.system.specs.Numbers.{nested, limitNumber}
 use Rattle.rows.specs.declared.gap.Gap.{Gap}
-use Rattle.rows.specs.gap.Gaps.{termIn}
+use Rattle.rows.specs.Rows.{termIn}
 use Rattle.rewriting.specs.Evaluation.{Config}
 use Rattle.rewriting.specs.Machine.{Next, final, deep, ready, advance}
 use Rattle.rewriting.specs.Runs.{Came, ended, sunk, configOf, come}

@@ -9,7 +9,7 @@ use Rattle.system.specs.Terms.{Whole}
 use Rattle.reader.specs.Book.{systemOf, Accepted}
 use Rattle.system.specs.Numbers.{taken, numberOf, limitNumber}
 use Rattle.system.specs.Limits.{areaWords, termWords}
-use Rattle.rows.specs.gap.Gaps.{Lies, termIn}
+use Rattle.rows.specs.Rows.{Lies, termIn}
 use Rattle.rewriting.specs.Evaluation.{Outcome, finished, stopped}
 use Rattle.runs.specs.declared.run.RunResult.{RunResult}
 use Rattle.rewriting.specs.Evaluation.{traceOf}

@@ -10,7 +10,7 @@ use Rattle.system.specs.System.{System}
 use Rattle.system.specs.Terms.{Whole}
 use Rattle.reader.specs.Book.{systemOf, Accepted}
 use Rattle.layout.specs.index.Index.{Indexed}
-use Rattle.rows.specs.gap.Gaps.{termIn}
+use Rattle.rows.specs.Rows.{termIn}
 use Rattle.rewriting.specs.Trace.{Trace}
 use Rattle.rewriting.specs.Evaluation.{Config}
 use Rattle.rewriting.specs.Runs.{Came, ended, sunk, barred, waits, configOf, run}

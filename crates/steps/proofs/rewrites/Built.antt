@@ -14,7 +14,7 @@ use Rattle.reader.specs.Book.{systemOf}
 use Rattle.system.proofs.Members.{member-nil}
 use Rattle.layout.proofs.Books.{signature}
 use Rattle.rows.specs.declared.gap.Gap.{Gap}
-use Rattle.rows.specs.gap.Gaps.{termIn}
+use Rattle.rows.specs.Rows.{termIn}
 use Rattle.redexes.specs.declared.search.Redex.{Redex}
 use Rattle.matching.specs.declared.FirstRule.the-variants.{Computed}
 use Rattle.matching.specs.Matching.{Contraction, contraction}

@@ -16,7 +16,7 @@ use Rattle.reader.specs.Book.{systemOf}
 use Rattle.system.proofs.Members.{member-front, member-getD}
 use Rattle.layout.proofs.Books.{signature}
 use Rattle.rows.specs.declared.gap.Gap.{Gap}
-use Rattle.rows.specs.gap.Gaps.{termIn}
+use Rattle.rows.specs.Rows.{termIn}
 use Rattle.matching.specs.declared.Match.{Match}
 use Rattle.redexes.specs.declared.search.Redex.{Redex}
 use Rattle.matching.specs.declared.FirstRule.the-variants.{First}

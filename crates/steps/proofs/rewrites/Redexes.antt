@@ -15,8 +15,9 @@ use Rattle.reader.specs.Book.{systemOf}
 use Rattle.system.proofs.Forests.{span-forest}
 use Rattle.layout.proofs.Books.{well, signature}
 use Rattle.rows.specs.declared.gap.Gap.{Gap}
-use Rattle.rows.specs.gap.Gaps.{termIn, wordsIn}
-use Rattle.rows.specs.lengths.Measured.{Measured}
+use Rattle.rows.specs.Rows.{termIn}
+use Rattle.rows.specs.gap.Gaps.{wordsIn}
+use Rattle.rows.specs.Measured.{Measured}
 use Rattle.rows.proofs.gap.Closed.{closed-length}
 use Rattle.matching.specs.declared.Match.{Match}
 use Rattle.redexes.specs.declared.search.Redex.{Redex}

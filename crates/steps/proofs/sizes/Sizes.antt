@@ -11,7 +11,8 @@ use Rattle.system.proofs.Members.{member-getD}
 use Rattle.system.proofs.Places.{replace-length}
 use Rattle.layout.proofs.Books.{SidesAt}
 use Rattle.rows.specs.declared.gap.Gap.{Gap}
-use Rattle.rows.specs.gap.Gaps.{termIn, wordsIn}
+use Rattle.rows.specs.Rows.{termIn}
+use Rattle.rows.specs.gap.Gaps.{wordsIn}
 use Rattle.redexes.specs.declared.search.Redex.{Redex}
 use Rattle.matching.specs.declared.FirstRule.the-variants.{First, Computed}
 use Rattle.matching.specs.Matching.{Contraction}

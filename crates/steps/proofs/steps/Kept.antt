@@ -7,7 +7,7 @@ use mathlib.Core.List.{List, [], _∷_, _++_}
 use lib.ListN.{length, getD, drop, length-append, List·getD-append}
 use lib.Seq.{getD-drop, getD-at}
 use Rattle.system.specs.Limits.{termWords}
-use Rattle.rows.specs.gap.Gaps.{countsAt}
+use Rattle.rows.specs.Rows.{countsAt}
 use Rattle.machine.specs.advance.Area.{lastWords}
 use Rattle.steps.specs.steps.Raised.{wayIn}
 

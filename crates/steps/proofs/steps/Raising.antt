@@ -12,9 +12,10 @@ use Rattle.system.specs.Signature.{Signature, span, replace}
 use Rattle.system.specs.System.{System}
 use Rattle.system.specs.Terms.{Whole, WellFormed}
 use Rattle.rows.specs.declared.gap.Gap.{Gap}
-use Rattle.rows.specs.gap.Gaps.{countsAt, lengthRow, closed, termIn, behind}
+use Rattle.rows.specs.Rows.{countsAt, lengthRow, closed, termIn}
+use Rattle.rows.specs.gap.Gaps.{behind}
 use Rattle.system.specs.Spans.{spans}
-use Rattle.rows.specs.lengths.Measured.{Measured}
+use Rattle.rows.specs.Measured.{Measured}
 use Rattle.rows.proofs.gap.Rows.{length-row-at, length-set-row}
 use Rattle.rows.proofs.lengths.Measures.{row-behind, measured-join}
 use Rattle.reducts.specs.putting.Replaced.{Placed}

@@ -13,7 +13,8 @@ use Rattle.reader.specs.Book.{systemOf}
 use Rattle.system.proofs.Places.{replace-length}
 use Rattle.system.proofs.words.SpanSteps.{span-le}
 use Rattle.rows.specs.declared.gap.Gap.{Gap}
-use Rattle.rows.specs.gap.Gaps.{countsAt, termIn, lengthsIn, wordsIn}
+use Rattle.rows.specs.Rows.{countsAt, termIn, lengthsIn}
+use Rattle.rows.specs.gap.Gaps.{wordsIn}
 use Rattle.rows.proofs.lengths.Measures.{words-length}
 use Rattle.redexes.specs.declared.search.Redex.{Redex}
 use Rattle.matching.specs.Matching.{Contraction, contraction}

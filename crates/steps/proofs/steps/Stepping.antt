@@ -14,7 +14,7 @@ use Rattle.system.specs.Terms.{WellFormed}
 use Rattle.reader.specs.Book.{systemOf}
 use Rattle.layout.proofs.Books.{well}
 use Rattle.rows.specs.declared.gap.Gap.{Gap}
-use Rattle.rows.specs.gap.Gaps.{termIn, lengthsIn}
+use Rattle.rows.specs.Rows.{termIn, lengthsIn}
 use Rattle.rows.proofs.lengths.Measures.{measured-length, words-length}
 use Rattle.redexes.specs.declared.search.Redex.{Redex}
 use Rattle.matching.specs.Matching.{Contraction}

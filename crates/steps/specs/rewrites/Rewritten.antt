@@ -11,8 +11,8 @@ use Rattle.system.specs.Terms.{Whole}
 use Rattle.layout.specs.index.Index.{Indexed}
 use Rattle.reader.specs.Book.{systemOf, Accepted}
 use Rattle.rows.specs.declared.gap.Gap.{Gap}
-use Rattle.rows.specs.gap.Gaps.{termIn}
-use Rattle.rows.specs.lengths.Measured.{Measured}
+use Rattle.rows.specs.Rows.{termIn}
+use Rattle.rows.specs.Measured.{Measured}
 use Rattle.redexes.specs.declared.search.Redex.{Redex}
 use Rattle.matching.specs.Matching.{Contraction, contraction}
 use Rattle.matching.specs.Bindings.{matchOf}

@@ -4,7 +4,7 @@ use mathlib.Core.Path.{_≡_}
 use mathlib.Core.List.{List, [], _∷_, _++_}
 use lib.ListN.{length, getD, take, drop}
 use Rattle.system.specs.Limits.{termWords}
-use Rattle.rows.specs.gap.Gaps.{countsAt, wordRow, lengthRow}
+use Rattle.rows.specs.Rows.{countsAt, wordRow, lengthRow}
 use Rattle.rewriting.specs.levels.Lengths.{raise}
 
 -- the numbers at these indices of the row may be taken d from, one after the other, and have room for e

@@ -12,7 +12,7 @@ use Rattle.buffers.specs.moves.Parts.{part}
 use Rattle.buffers.proofs.Over.{length-part, part-slice, over-append}
 use Rattle.system.specs.Limits.{areaWords, termWords}
 use Rattle.rows.specs.declared.gap.Gap.{Gap}
-use Rattle.rows.specs.gap.Gaps.{Lies, closed, termIn}
+use Rattle.rows.specs.Rows.{Lies, closed, termIn}
 use Rattle.evaluation.proofs.scanned.hand_back.Statement.{statement}
 use Rattle.evaluation.proofs.scanned.hand_back.Tie as tie
 

@@ -6,7 +6,7 @@ use lib.ListN.{getD, drop, length-set}
 use borrow.Author.Needs.{needs}
 use Rattle.system.specs.Signature.{span}
 use Rattle.reader.specs.Book.{systemOf}
-use Rattle.rows.specs.gap.Gaps.{termIn}
+use Rattle.rows.specs.Rows.{termIn}
 use Rattle.machine.specs.advance.Area.{baseOf}
 use Rattle.machine.proofs.advance.Bounds.{Bounds, bounds}
 use Rattle.machine.proofs.advance.Performing.{Taking, performed-end, performed-repeated, performed-rules, performed-deep, argument-fits, performed-argument}

@@ -5,7 +5,8 @@ use mathlib.Core.Path.{_≡_, refl, _∙_}
 use mathlib.Core.List.{List}
 use lib.ListN.{getD, length-set}
 use Rattle.system.specs.Limits.{variable, variables}
-use Rattle.rows.specs.gap.Gaps.{wordsIn, termIn}
+use Rattle.rows.specs.Rows.{termIn}
+use Rattle.rows.specs.gap.Gaps.{wordsIn}
 use Rattle.rows.proofs.lengths.Measures.{words-length}
 use Rattle.redexes.proofs.search.Binds.{new-bound, old-bound, symbol-bound}
 use Rattle.redexes.proofs.search.Binds.{nothing-takes, takes-inside, symbol-takes, new-takes, length-differs, words-differ, again-takes, stretch-inside}

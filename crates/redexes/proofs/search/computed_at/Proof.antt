@@ -3,7 +3,7 @@ use native.Mathlib.Omega.{arith}
 use mathlib.Core.Path.{refl, sym, ap, _∙_}
 use mathlib.Core.List.{[], _∷_}
 use lib.ListN.{drop}
-use Rattle.rows.specs.gap.Gaps.{termIn}
+use Rattle.rows.specs.Rows.{termIn}
 use Rattle.matching.specs.Matching.{computed}
 use Rattle.matching.specs.Bindings.{computedRule}
 use Rattle.matching.proofs.Computed.{computed-words}

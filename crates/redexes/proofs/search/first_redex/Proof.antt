@@ -10,7 +10,7 @@ use Rattle.system.specs.Signature.{signatureOf}
 use Rattle.reader.specs.Book.{systemOf}
 use Rattle.layout.specs.index.Index.{bucket, ruleFrom}
 use Rattle.layout.proofs.Books.{Turn, turn-of}
-use Rattle.rows.specs.gap.Gaps.{termIn}
+use Rattle.rows.specs.Rows.{termIn}
 use Rattle.rows.proofs.lengths.Measures.{words-length}
 use Rattle.matching.specs.Bindings.{taken}
 use Rattle.redexes.specs.search.Redexes.{boundIn}

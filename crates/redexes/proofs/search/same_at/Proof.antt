@@ -3,7 +3,7 @@ use Prim.Native.Nat.{_-_}
 use native.Mathlib.Omega.{arith}
 use mathlib.Core.Path.{_≡_, sym, _∙_}
 use lib.ListN.{length, getD, take, drop}
-use Rattle.rows.specs.gap.Gaps.{termIn}
+use Rattle.rows.specs.Rows.{termIn}
 use Rattle.rows.proofs.lengths.Measures.{words-length}
 use Rattle.matching.proofs.SameWords.{SameTo, same-starts, same-ends, same-next, same-stops, part-length, part-word}
 use borrow.Author.Needs.{needs}

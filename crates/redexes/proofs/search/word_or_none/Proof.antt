@@ -2,7 +2,7 @@
 use native.Mathlib.Omega.{arith}
 use mathlib.Core.Path.{sym}
 use lib.ListN.{List·getD-eq-default}
-use Rattle.rows.specs.gap.Gaps.{termIn}
+use Rattle.rows.specs.Rows.{termIn}
 use Rattle.rows.proofs.lengths.Measures.{words-length}
 use borrow.Author.Needs.{needs}
 use Rattle.redexes.proofs.search.word_or_none.Statement.{statement}

@@ -5,8 +5,9 @@ use mathlib.Core.Path.{_≡_, refl, sym, ap, _∙_, subst}
 use borrow.Author.Needs.{needs}
 use Rattle.reader.specs.Book.{systemOf}
 use Rattle.layout.proofs.Books.{well, signature}
-use Rattle.rows.specs.gap.Gaps.{wordsIn, termIn}
-use Rattle.rows.specs.lengths.Measured.{Measured}
+use Rattle.rows.specs.Rows.{termIn}
+use Rattle.rows.specs.gap.Gaps.{wordsIn}
+use Rattle.rows.specs.Measured.{Measured}
 use Rattle.replay.specs.walk.Way.{Points}
 use Rattle.replay.specs.retrace.Retraces.{wrong, long, goes}
 use Rattle.replay.proofs.walk.Pointing.{Bounds, points-bounds}

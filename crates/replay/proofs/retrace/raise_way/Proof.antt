@@ -7,7 +7,7 @@ use lib.ListN.{length, getD, drop, length-drop}
 use lib.Seq.{length-take-le, getD-take, getD-drop}
 use borrow.Author.Needs.{needs}
 use Rattle.system.specs.Limits.{areaWords, termWords}
-use Rattle.rows.specs.gap.Gaps.{countsAt}
+use Rattle.rows.specs.Rows.{countsAt}
 use Rattle.steps.proofs.steps.Raising.{Raising, raising-start, raising-end, raising-within, raising-slot, raising-less, raising-fits, raising-turn}
 use Rattle.replay.specs.walk.Way.{wayIn}
 use Rattle.replay.proofs.retrace.raise_way.Statement.{statement}

@@ -6,7 +6,7 @@ use lib.ListN.{length, length-set}
 use borrow.Author.Needs.{needs}
 use borrow.Author.Tests.{not-true, not-false}
 use Rattle.reader.specs.Book.{systemOf}
-use Rattle.rows.specs.gap.Gaps.{termIn}
+use Rattle.rows.specs.Rows.{termIn}
 use Rattle.replay.specs.declared.walk.Finger.{Finger}
 use Rattle.replay.specs.walk.Way.{Over}
 use Rattle.replay.proofs.walk.Pointing.{Bounds}

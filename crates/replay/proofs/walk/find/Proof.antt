@@ -3,7 +3,7 @@ use native.Mathlib.Omega.{arith}
 use borrow.Author.Needs.{needs}
 use Rattle.reader.specs.Book.{systemOf}
 use Rattle.layout.proofs.Books.{well}
-use Rattle.rows.specs.gap.Gaps.{termIn}
+use Rattle.rows.specs.Rows.{termIn}
 use Rattle.replay.specs.walk.Way.{Over}
 use Rattle.replay.proofs.walk.Descending.{over-in}
 use Rattle.replay.proofs.walk.Finding.{found-behind, found-in}

@@ -6,7 +6,8 @@ use lib.ListN.{length, drop}
 use borrow.Author.Needs.{needs}
 use Rattle.reader.specs.Book.{systemOf}
 use Rattle.system.specs.Signature.{span}
-use Rattle.rows.specs.gap.Gaps.{wordsIn, termIn}
+use Rattle.rows.specs.Rows.{termIn}
+use Rattle.rows.specs.gap.Gaps.{wordsIn}
 use Rattle.rows.proofs.lengths.Measures.{words-length, measured-length}
 use Rattle.replay.proofs.walk.Hopping.{Hopping, some-argument, hopping-first, hopping-bounds, hopping-next, held-here, held-last}
 use Rattle.replay.proofs.walk.holder.Statement.{statement}

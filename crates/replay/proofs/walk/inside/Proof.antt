@@ -1,6 +1,6 @@
 -- `walk::inside` meets its contract.
 use mathlib.Core.Path.{sym, _∙_}
-use Rattle.rows.specs.gap.Gaps.{termIn}
+use Rattle.rows.specs.Rows.{termIn}
 use Rattle.rows.proofs.lengths.Measures.{measured-length}
 use Rattle.replay.proofs.walk.Insides.{within-before, within-read}
 use Rattle.replay.proofs.walk.inside.Statement.{statement}

@@ -8,7 +8,7 @@ use borrow.Author.Needs.{needs}
 use Rattle.system.specs.Limits.{areaWords}
 use Rattle.system.specs.Signature.{signatureOf}
 use Rattle.layout.proofs.Books.{signature}
-use Rattle.rows.specs.gap.Gaps.{countsAt}
+use Rattle.rows.specs.Rows.{countsAt}
 use Rattle.rows.specs.lengths.Written.{Laid}
 use Rattle.machine.specs.advance.Area.{baseOf, frameWords}
 use Rattle.runs.proofs.run.Ending.{Begun, startable, ends-stopped, ends-final}

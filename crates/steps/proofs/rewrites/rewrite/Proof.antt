@@ -7,7 +7,7 @@ use borrow.Author.Needs.{needs}
 use Rattle.layout.specs.index.Accepted.{RulesAt}
 use Rattle.layout.proofs.Books.{SidesAt, sides-at, room, rule-count}
 use Rattle.layout.proofs.Sizes.{book-short}
-use Rattle.rows.specs.gap.Gaps.{termIn}
+use Rattle.rows.specs.Rows.{termIn}
 use Rattle.matching.specs.declared.FirstRule.the-variants.{First, Computed}
 use Rattle.redexes.proofs.search.Found.{redex-listed, redex-built}
 use Rattle.steps.proofs.rewrites.Redexes.{found, some-found}

@@ -9,7 +9,8 @@ use Rattle.buffers.specs.moves.Parts.{part}
 use Rattle.system.specs.Limits.{levels, variables}
 use Rattle.layout.specs.index.Accepted.{RulesAt}
 use Rattle.layout.proofs.Books.{SidesAt, sides-at, room, rule-count}
-use Rattle.rows.specs.gap.Gaps.{lengthsIn, wordsIn}
+use Rattle.rows.specs.Rows.{lengthsIn}
+use Rattle.rows.specs.gap.Gaps.{wordsIn}
 use Rattle.matching.specs.declared.FirstRule.the-variants.{First, Computed}
 use Rattle.matching.specs.rules.Searches.{reductLength}
 use Rattle.redexes.specs.search.Redexes.{bindingWords}

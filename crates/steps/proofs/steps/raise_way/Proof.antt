@@ -6,7 +6,7 @@ use mathlib.Core.List.{List}
 use lib.ListN.{length, getD}
 use borrow.Author.Needs.{needs}
 use Rattle.system.specs.Limits.{areaWords, termWords}
-use Rattle.rows.specs.gap.Gaps.{countsAt}
+use Rattle.rows.specs.Rows.{countsAt}
 use Rattle.steps.proofs.steps.Raising.{raised-kept, Raising, raising-start, raising-end, raising-within, raising-slot, raising-less, raising-fits, raising-turn}
 use Rattle.steps.specs.steps.Raised.{wayIn}
 use Rattle.steps.proofs.steps.Kept.{way-length, way-word}

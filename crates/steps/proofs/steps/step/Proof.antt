@@ -7,7 +7,8 @@ use lib.Seq.{take-all}
 use borrow.Author.Needs.{needs}
 use Rattle.buffers.specs.moves.Parts.{part}
 use Rattle.system.specs.Limits.{areaWords, levels}
-use Rattle.rows.specs.gap.Gaps.{countsAt, lengthsIn, wordsIn}
+use Rattle.rows.specs.Rows.{countsAt, lengthsIn}
+use Rattle.rows.specs.gap.Gaps.{wordsIn}
 use Rattle.machine.specs.advance.Area.{frameWords}
 use Rattle.steps.specs.rewrites.Rewritten.{Reducible, Rewrites}
 use Rattle.steps.specs.steps.Stepped.{here}

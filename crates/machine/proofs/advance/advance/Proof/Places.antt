@@ -8,7 +8,7 @@ use mathlib.Core.List.{List}
 use lib.ListN.{length, getD, take, drop, length-drop}
 use lib.Seq.{length-take-le}
 use Rattle.system.specs.Limits.{areaWords, levels}
-use Rattle.rows.specs.gap.Gaps.{termIn}
+use Rattle.rows.specs.Rows.{termIn}
 use Rattle.matching.specs.Bindings.{matchOf}
 use Rattle.matching.specs.rules.Searches.{unnumbered}
 use Rattle.redexes.specs.search.Redexes.{bindingWords, redexOf, Bound}
