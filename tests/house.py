@@ -1,8 +1,9 @@
 """The layout that docs/CHANGING.md asks for: lengths of lines, files, functions and chains of `.before`; how many functions a crate has; that
-crates.txt lists what each crate is built on, and no more; and that every must-fail edit finds its lines. Prints what is not so, and exits with 1
-if anything is.
+crates.txt lists the crates that each crate's files name, and no more; and that every must-fail edit finds its lines. Prints what is not so, and
+exits with 1 if anything is.
 
-    python3 tests/house.py      from the repository's top
+    python3 tests/house.py            from the repository's top
+    python3 tests/house.py --crates   prints crates.txt as it should be, for the crates that it has
 """
 import glob
 import re
@@ -66,35 +67,27 @@ def crowded():
 
 
 def built_on():
-    """Where crates.txt does not list exactly the crates that a crate's files name, and what these are built on."""
+    """Of each crate what crates.txt lists, and the crates that its own files name; what these are built on rt finds by itself."""
     listed = {}
     for line in open("crates.txt", encoding="utf-8"):
         name, _, rest = line.split("#")[0].partition(":")
         if name.strip():
-            listed[name.strip()] = set(rest.split())
-    names = {}
+            listed[name.strip()] = rest.split()
+    order = [*listed, *sorted(KIT)]
     for crate in listed:
         text = ""
         for path in glob.glob(f"crates/{crate}/*/**/*.rt", recursive=True) + glob.glob(f"crates/{crate}/*/**/*.antt", recursive=True):
             comment = r"//.*" if path.endswith(".rt") else r"(^|\s)--.*"
             text += re.sub(comment, "", open(path, encoding="utf-8").read(), flags=re.M)
         named = set(re.findall(r"Rattle·([a-z_0-9]+)", text)) | set(re.findall(r"(?<![\w:])([a-z_0-9]+)::", text))
-        names[crate] = named & (set(listed) | KIT) - {crate}
-    for crate in listed:
-        due, todo = set(), list(names[crate])
-        while todo:
-            below = todo.pop()
-            if below not in due:
-                due.add(below)
-                todo += names.get(below, ())
-        if due - listed[crate]:
-            yield f"crates.txt: {crate} is built on {', '.join(sorted(due - listed[crate]))} too"
-        if listed[crate] - due:
-            yield f"crates.txt: {crate} does not use {', '.join(sorted(listed[crate] - due))}"
+        yield crate, set(listed[crate]), [name for name in order if name in named and name != crate]
 
 
 def main():
-    over = [*crowded(), *built_on()]
+    over = list(crowded())
+    for crate, listed, named in built_on():
+        over += [f"crates.txt: {crate} names {name} too" for name in named if name not in listed]
+        over += [f"crates.txt: {crate} does not name {name}" for name in sorted(listed - set(named))]
     for part, most in LINE.items():
         for path in sorted(glob.glob(f"crates/*/{part}/**/*.*", recursive=True)):
             if not path.endswith((".rt", ".antt")):
@@ -120,4 +113,9 @@ def main():
     sys.exit(1 if over else 0)
 
 
-main()
+if "--crates" in sys.argv:
+    print("# NAME: the crates that its files name; rt adds what these are built on")
+    for crate, _, named in built_on():
+        print(" ".join([crate + ":", *named]))
+else:
+    main()
