@@ -1,5 +1,7 @@
 # For the scripts that hold what a program prints for its files to lines written by hand from 01: sourced with the program's path. It goes
 # to a folder of its own, which is removed at the end.
+[ $# = 1 ] || { printf 'usage: %s PROGRAM\n' "$0" >&2; exit 2; }
+[ -f "$1" ] && [ -x "$1" ] || { printf '%s: %s is no program that can be run\n' "$0" "$1" >&2; exit 2; }
 program=$(realpath "$1")
 folder=$(mktemp -d)
 trap 'rm -rf "$folder"' EXIT
@@ -51,7 +53,7 @@ shows() { # CASE STATUS ARGUMENTS LINE..
     local name=$1 status=$2 arguments=$3 got=0
     shift 3
     cases=$((cases + 1))
-    printf '%s\n' "$@" > expected
+    { [ $# = 0 ] || printf '%s\n' "$@"; } > expected
     "$program" $arguments > printed 2> said < /dev/null || got=$?
     if [ "$got" != "$status" ] || [ -s said ] || ! cmp -s expected printed; then
         printf '%s: %s: exit status %s, where %s is due; it should print\n' "$(basename "$program")" "$name" "$got" "$status"
@@ -71,6 +73,23 @@ refuses() { # CASE ARGUMENTS WHAT IT SAYS
         sed 's/^/    /' printed said
         wrong=1
     fi
+}
+
+# with a standard output that is full
+cannot_print() { # CASE ARGUMENTS
+    local name=$1 got=0
+    cases=$((cases + 1))
+    "$program" $2 > /dev/full 2> said < /dev/null || got=$?
+    if [ "$got" != 2 ] || [ "$(wc -l < said)" != 1 ] || ! grep -q "^$(basename "$program"): the standard output: " said; then
+        printf '%s: %s, printed where there is no room: exit status %s, where 2 is due, and it says\n' "$(basename "$program")" "$name" "$got"
+        sed 's/^/    /' said
+        wrong=1
+    fi
+}
+# a file is as it should be: mostly, as it was before
+still() { # CASE FILE COPY
+    cases=$((cases + 1))
+    cmp -s "$2" "$3" || { printf '%s: %s: %s is not as it should be\n' "$(basename "$program")" "$1" "$2"; wrong=1; }
 }
 
 # the last line of a script: how many cases there were, if all are right

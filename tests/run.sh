@@ -1,7 +1,7 @@
 #!/usr/bin/env bash
 # The checks from outside: the C interface and its header, the stack of each operation, the C example, random books against the second
-# evaluator (which must also find 27 planted faults), the words tool, the examples, the programs' files, the steps tool and the weights
-# tool. Everything is written under target/outside.
+# evaluator (which must also find 27 planted faults), the words tool, the examples, the programs' files, the steps tool, the weights
+# tool and the places tool. Everything is written under target/outside.
 #     tests/run.sh [CASES of the random run; 100000 if not said]
 set -euo pipefail
 cd "$(dirname "$0")/.."
@@ -13,6 +13,11 @@ say() { printf 'outside: %s\n' "$*"; }
 fail() { say "FAILED: $*"; exit 1; }
 # a command whose output is shown only where it fails
 quiet() { "$@" > "$to/log" 2>&1 || { cat "$to/log"; fail "$*"; }; }
+# a script that holds what a program prints for its files to lines written by hand
+prints() { # SCRIPT PROGRAM
+    said=$(bash "$1" "$2") || { printf '%s\n' "$said"; fail "$2 prints something else for its files"; }
+    say "$said"
+}
 
 # a check whose tool is missing has not passed
 for tool in rt gcc g++ rustc python3 nm objdump objcopy; do
@@ -55,30 +60,17 @@ for plant in {1..27}; do
     say "planted fault $plant was found: $(sed -n 's/^second: DIFFERENCE //p' "$to/plant-$plant")"
 done
 
-# 5. the words tool, there and back, and what it refuses
+# 5. the words tool, there and back, and its files
 for text in examples/*/*.txt; do
+    rm -f "$to/unpacked.txt"
     tools/words pack "$text" "$to/packed"
     tools/words unpack "$to/packed" "$to/unpacked.txt"
     tools/words pack "$to/unpacked.txt" "$to/again"
     cmp "$to/packed" "$to/again" || fail "$text comes back otherwise"
     sed 's/#.*//' "$text" | tr -s ' \t' '\n' | sed '/^$/d' | diff - "$to/unpacked.txt" || fail "$text comes back with other words"
 done
-for wrong in 65536 -1 1x '2 3 four' 0x10; do
-    echo "$wrong" > "$to/wrong.txt"
-    ! tools/words pack "$to/wrong.txt" "$to/packed" 2> /dev/null || fail "the words tool takes $wrong"
-done
-printf 'abc' > "$to/odd"
-! tools/words unpack "$to/odd" > /dev/null 2>&1 || fail "the words tool takes an odd file"
-# a refusal says why in one line, and leaves no file behind, an old one neither
-printf '\377\376' > "$to/no-text"
-for wrong in "$to/wrong.txt" "$to/no-text"; do
-    echo old > "$to/stale"
-    ! tools/words pack "$wrong" "$to/stale" 2> "$to/why" || fail "the words tool packs $wrong"
-    [ ! -e "$to/stale" ] && [ "$(wc -l < "$to/why")" = 1 ] || fail "the words tool leaves an old file, or more than a line, for $wrong"
-done
-tools/words --help > /dev/null || fail "the words tool has no --help"
-[ "$(tools/words where examples/book-b/book.txt 11 | cut -d: -f1)" = 'word 11 is 1, number 2 in line 10' ] || fail "the words tool does not tell where word 11 is"
 say "the words tool goes there and back"
+prints tests/words.sh tools/words
 
 # 6. the examples, by both programs
 quiet rt check expand
@@ -95,10 +87,6 @@ for folder in examples/*/; do
     done
     say "example $name prints what it should"
 done
-prints() { # SCRIPT PROGRAM
-    said=$(bash "$1" "$2") || { printf '%s\n' "$said"; fail "$2 prints something else for its files"; }
-    say "$said"
-}
 prints tests/program.sh target/bin/expand
 prints tests/check_book.sh target/bin/check_book
 
@@ -129,7 +117,17 @@ done
 say "the weights tool tests the example by its three lists"
 prints tests/weights.sh "$to/weights"
 
-# 9. the benchmark builds, for one archive and for two, and all agree (its times are not looked at here)
+# 9. the places tool; and each script above says in a line what it needs
+prints tests/places.sh tools/places
+for script in program check_book steps weights words places; do
+    for arguments in '' target/none; do
+        status=0
+        bash "tests/$script.sh" $arguments > "$to/said" 2>&1 || status=$?
+        [ "$status" = 2 ] && [ "$(wc -l < "$to/said")" = 1 ] || fail "tests/$script.sh $arguments does not say in a line what it needs"
+    done
+done
+
+# 10. the benchmark builds, for one archive and for two, and all agree (its times are not looked at here)
 quiet env BUILT=1 bash tests/bench/run.sh 0
 quiet env BUILT=1 bash tests/bench/run.sh 0 "$archive"
 say "the benchmark agrees; tests/bench/run.sh shows its times"

@@ -109,7 +109,27 @@ zeros 8196 > long
 refuses 'a long cue' 'show.book long' 'long: it has too many words'
 zeros 262142 > long
 refuses 'a long record' "$both long" 'long: it has too many words'
-refuses 'a record that cannot be written' "-o . $both" '\.: Is a directory'
+refuses 'a folder for a record' "-o . $both" '\.: it is no ordinary file'
+ln -s /dev/null device
+refuses 'a device for a record' "-o device $both" 'device: it is no ordinary file'
+refuses 'a record in a folder that is not there' "-o none/record $both" 'none/record.new: No such file'
+# no file that is read is written over, under whatever name, and none that happens to have the name of the unfinished one
+cp show.book book.before; cp show.cue cue.before; ln -s show.cue link; ln show.book twin
+for name in show.book ./show.book twin show.cue link; do
+    refuses "a record over $name" "-o $name $both" "$name: it is a file that is read"
+done
+words 7 7 > mine.new; cp mine.new mine.before
+refuses 'a record whose unfinished name is taken' "-o mine $both" 'mine.new: File exists'
+still 'the book' show.book book.before
+still 'the cue' show.cue cue.before
+still 'a file of another name' mine.new mine.before
+[ ! -e mine ] || { printf 'steps: a record was written all the same\n'; wrong=1; }
+: > written; cue 4 2 3 4
+shows 'over an old record' 0 "-o written $both" "$heading" "$one" "$two" "$three" "$four" "$numbers" '0 1 4 taken'
+wrote 2 0 1 2 1 0 0 1
+[ ! -e written.new ] || { printf 'steps: an unfinished record is left\n'; wrong=1; }
+cannot_print 'steps' "$both"
+cannot_print 'the help' --help
 for arguments in '' 'show.book' '-o record' '-o record show.book' "-o record $both record" "$both record record" '-x show.cue'; do
     refuses "arguments '$arguments'" "$arguments" usage
 done

@@ -196,7 +196,10 @@ zeros 514 > long
 refuses 'a long list' 'show.book long' 'long: it has too many words'
 zeros 8196 > long
 refuses 'a long cue' "$bare long" 'long: it has too many words'
+cannot_print 'a list that falls, and a cue' "$full"
+cannot_print 'the help' --help
 list 3 8 5
+cannot_print 'a list that does not fall' "$bare"
 refuses 'no cue, and a rule that rises' "$bare none" 'none: No such file'
 for arguments in '' 'show.book' "$full show.cue" "-x show.book list" '--help list'; do
     refuses "arguments '$arguments'" "$arguments" usage

@@ -29,4 +29,10 @@ static size_t load(const char *path, uint16_t *words, size_t room) {
   return n;
 }
 
+/* a tool's exit status, if all that it printed got through */
+static int finish(int status) {
+  if (fflush(stdout) != 0 || ferror(stdout)) refuse("the standard output", "it can't be written");
+  return status;
+}
+
 #endif

@@ -4,9 +4,12 @@
  *
  *     gcc -std=c99 -Iinclude tools/steps.c target/staticlib/libcue.a -o target/steps
  */
+#define _POSIX_C_SOURCE 200809L /* for stat and open: which file a name means, and whether it is free */
 #include <errno.h>
+#include <fcntl.h>
 #include <stdio.h>
 #include <string.h>
+#include <sys/stat.h>
 
 #include "cue.h"
 
@@ -16,7 +19,7 @@
 #define STEPS 65535 /* the most: the allowance in a cue file is one word */
 
 static const char help[] =
-    "steps [-o FILE] BOOK CUE    expands the cue, and prints its steps; -o writes their record to a file\n"
+    "steps [-o FILE] BOOK CUE    expands the cue, and prints its steps; -o writes their record to a file, but to none that is read\n"
     "steps BOOK CUE RECORD       replays a record, from anyone\n"
     "\n"
     "Files of words, low byte first, as tools/words packs them: BOOK and CUE are show.book and show.cue (the allowance, then the cue), RECORD\n"
@@ -33,17 +36,37 @@ static uint16_t out[CUE_TERM_WORDS];
 static uint16_t work[CUE_WORK_WORDS];
 static size_t book_words, cue_words, record_words;
 
+/* refuses to write where something else would be lost: a folder, a device, or a file that is read */
+static void check_target(const char *path, char **files, int n) {
+  struct stat to, from;
+  int i;
+  if (stat(path, &to) != 0) return;
+  if (!S_ISREG(to.st_mode)) refuse(path, "it is no ordinary file, so nothing is written there");
+  for (i = 0; i < n; i++) {
+    if (stat(files[i], &from) != 0 || from.st_dev != to.st_dev || from.st_ino != to.st_ino) continue;
+    refuse(path, "it is a file that is read: write to another");
+  }
+}
+
+/* all of the words or nothing: first under a name of its own, which must be free */
 static void save(const char *path, const uint16_t *words, size_t n) {
-  FILE *f = fopen(path, "wb");
+  char name[4096];
+  FILE *f;
   size_t i;
-  int failed;
-  if (!f) refuse(path, strerror(errno));
+  int to, failed;
+  if (strlen(path) + sizeof ".new" > sizeof name) refuse(path, "its name is too long");
+  sprintf(name, "%s.new", path);
+  to = open(name, O_WRONLY | O_CREAT | O_EXCL, 0666);
+  f = to < 0 ? NULL : fdopen(to, "wb");
+  if (!f) refuse(name, strerror(errno));
   for (i = 0; i < n; i++) {
     putc(words[i] % 256, f);
     putc(words[i] / 256, f);
   }
   failed = ferror(f);
-  if (fclose(f) != 0 || failed) refuse(path, "it can't be written");
+  if (fclose(f) == 0 && !failed && rename(name, path) == 0) return;
+  remove(name);
+  refuse(path, "it can't be written");
 }
 
 /* expands the cue: its answer, as a replay tells it, and the pairs of its steps in the record */
@@ -91,7 +114,7 @@ static void print_refused(cue_replayed r) {
 int main(int argc, char **argv) {
   const char *to = NULL;
   cue_replayed r;
-  if (argc == 2 && strcmp(argv[1], "--help") == 0) return fputs(help, stdout) == EOF;
+  if (argc == 2 && strcmp(argv[1], "--help") == 0) return finish(fputs(help, stdout) == EOF);
   if (argc == 5 && strcmp(argv[1], "-o") == 0) {
     to = argv[2];
     argv += 2;
@@ -104,6 +127,7 @@ int main(int argc, char **argv) {
   book_words = load(argv[1], book, CUE_BOOK_WORDS);
   cue_words = load(argv[2], cue, 1 + CUE_TERM_WORDS);
   if (cue_words == 0) refuse(argv[2], "its first word, the allowance, is missing");
+  if (to) check_target(to, argv + 1, argc - 1);
   if (argc == 4) {
     record_words = load(argv[3], record, 2 * STEPS);
     r = replay(cue + 1, cue_words - 1, 0, record_words);
@@ -114,5 +138,5 @@ int main(int argc, char **argv) {
   print_steps(r.steps);
   if (argc == 4) print_refused(r);
   printf("number place steps\n%lu %lu %lu %s\n", (unsigned long)r.number, (unsigned long)r.place, (unsigned long)r.steps, cue_word(r.number));
-  return r.number != CUE_TAKEN;
+  return finish(r.number != CUE_TAKEN);
 }

@@ -20,7 +20,7 @@ static const char help[] =
     "here, then the cue), WEIGHTS has a weight from 1 to 1,000 for each name of the book. A line for each rule tells its number, from 0, what\n"
     "its left and its right side weigh, and whether it falls or why not; then come the three numbers of the test, with their word. Of the cue\n"
     "they come between its weight and that of the answer: the steps and the answer's weight are at most the cue's weight.\n"
-    "Exit status: 0 taken; 1 any other number; 2 a file that can't be read, or bad usage.\n";
+    "Exit status: 0 taken; 1 any other number; 2 a file that can't be read, an output that can't be written, or bad usage.\n";
 
 /* all the memory there is: a book, a list of weights, an allowance and a cue; and what is lent to the expansion */
 static uint16_t book[CUE_BOOK_WORDS];
@@ -104,7 +104,7 @@ static uint32_t print_expansion(void) {
 
 int main(int argc, char **argv) {
   cue_answer test;
-  if (argc == 2 && strcmp(argv[1], "--help") == 0) return fputs(help, stdout) == EOF;
+  if (argc == 2 && strcmp(argv[1], "--help") == 0) return finish(fputs(help, stdout) == EOF);
   if (argc < 3 || argc > 4 || argv[1][0] == '-') {
     fprintf(stderr, "weights: usage: weights BOOK WEIGHTS [CUE] | weights --help\n");
     return 2;
@@ -119,6 +119,6 @@ int main(int argc, char **argv) {
   if (test.number == CUE_TAKEN || test.number == CUE_RISING) print_rules(test);
   if (test.number == CUE_MISWEIGHED) print_list();
   print_numbers(test);
-  if (test.number != CUE_TAKEN) return 1;
-  return argc == 4 && print_expansion() != CUE_TAKEN;
+  if (test.number != CUE_TAKEN) return finish(1);
+  return finish(argc == 4 && print_expansion() != CUE_TAKEN);
 }
