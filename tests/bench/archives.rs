@@ -19,46 +19,26 @@ pub const OTHER: Option<Archive> = Some(Archive { read: o::other_cue_read, test:
 #[cfg(other)]
 mod o {
     use super::Answer;
-    #[link(name = "other", kind = "static")]
-    extern "C" {
-        pub fn other_cue_read(book: *const u16, book_words: usize) -> Answer;
-        pub fn other_cue_test_strategies(book: *const u16, book_words: usize) -> Answer;
-        pub fn other_cue_expand(
-            book: *const u16,
-            book_words: usize,
-            term: *const u16,
-            term_words: usize,
-            limit: u32,
-            out: *mut u16,
-            out_words: usize,
-            work: *mut u16,
-            work_words: usize,
-        ) -> Answer;
+    functions! {
+        #[link(name = "other", kind = "static")]
+        extern "C" {
+            fn other_cue_read(book; ;) -> Answer;
+            fn other_cue_test_strategies(book; ;) -> Answer;
+            fn other_cue_expand(book, term; limit: u32; out, work) -> Answer;
+        }
     }
 }
 
 impl Archive {
     pub fn read(&self, book: &[u16]) -> Answer {
-        unsafe { (self.read)(book.as_ptr(), book.len()) }
+        call!(self.read; book; ;)
     }
 
     pub fn test(&self, book: &[u16]) -> Answer {
-        unsafe { (self.test)(book.as_ptr(), book.len()) }
+        call!(self.test; book; ;)
     }
 
     pub fn expand(&self, book: &[u16], term: &[u16], out: &mut [u16], work: &mut [u16]) -> Answer {
-        unsafe {
-            (self.expand)(
-                book.as_ptr(),
-                book.len(),
-                term.as_ptr(),
-                term.len(),
-                u32::MAX,
-                out.as_mut_ptr(),
-                out.len(),
-                work.as_mut_ptr(),
-                work.len(),
-            )
-        }
+        call!(self.expand; book, term; u32::MAX; out, work)
     }
 }

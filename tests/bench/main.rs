@@ -6,12 +6,18 @@
 //!
 //! Exit status: 0 all agree; 1 they do not.
 
+#[path = "../second/calls.rs"]
+#[macro_use]
+mod calls;
 #[path = "../second/book.rs"]
 #[allow(dead_code)]
 mod book;
 #[path = "../second/evaluate.rs"]
 #[allow(dead_code)]
 mod evaluate;
+#[path = "../second/plant.rs"]
+#[allow(dead_code)]
+mod plant;
 #[path = "../second/product.rs"]
 #[allow(dead_code)]
 mod product;
@@ -24,8 +30,9 @@ mod records;
 mod works;
 
 use archives::{Archive, OTHER, PRODUCT};
-use book::{Book, Plant, ANSWER_WORDS, WORK_WORDS};
+use book::{Book, ANSWER_WORDS, WORK_WORDS};
 use evaluate::{evaluate, End};
+use plant::Plant;
 use std::time::Instant;
 use works::{largest, Work, FALLING};
 

@@ -1,8 +1,9 @@
 //! The step record (02, F-3): the product's expansion without a record and with one, and the replay of that record, on the same steps. Another
 //! archive may be too old for it, and has no part in this.
 
-use crate::book::{self, Plant, ANSWER_WORDS, WORK_WORDS};
+use crate::book::{self, ANSWER_WORDS, WORK_WORDS};
 use crate::evaluate::{evaluate, pairs, End};
+use crate::plant::Plant;
 use crate::{measure, product, rate, time, Call, Work, PRODUCT};
 
 /// A replayed step is to take at most so many times an expanded one's time.

@@ -1,6 +1,7 @@
 //! Show books and cues, read into trees, straight from the paper's text (01, "The show book" and "The table of numbers"; 02, F-1,
 //! F-2, F-4, F-5 and F-7).
 
+use crate::plant::Plant;
 use std::cell::Cell;
 use std::rc::Rc;
 
@@ -12,19 +13,26 @@ pub const LONGEST: usize = 4096;
 
 /// "Answer buffer below 4,096 words" is 10 (01).
 pub const ANSWER_WORDS: usize = 4096;
+
 /// "Number 10 and the zeroing use 12,288 for the work buffer" (02, F-5).
 pub const WORK_WORDS: usize = 12288;
 
 /// "Words 16384 to 16639 stand for levels 0 to 255" (02, F-2): level n is the word LEVEL + n.
 pub const LEVEL: u16 = 16384;
+
 /// "Word 16640 is "higher of", 16641 "lower of"."
 pub const HIGHER: u16 = 16640;
+
 pub const LOWER: u16 = 16641;
+
 /// "These act as rules 128 and 129."
 pub const HIGHER_RULE: usize = 128;
+
 pub const LOWER_RULE: usize = 129;
+
 /// "Word 16642 is "curve", one argument, order 1 0, rule 130" (02, F-4).
 pub const CURVE: u16 = 16642;
+
 pub const CURVE_RULE: usize = 130;
 
 pub fn is_level(w: u16) -> bool {
@@ -352,78 +360,5 @@ impl Book {
             None => false,
             Some(z) => order[z + 1..].iter().all(|&e| e == 0 || idle(e)),
         }
-    }
-}
-
-/// A fault that is planted here on purpose, to show that the comparison finds it.
-#[derive(Clone, Copy, PartialEq, Debug)]
-pub enum Plant {
-    Nothing,
-    /// goes on with the old name's order after a step
-    OldOrder,
-    /// the order test looks after the first 0, not the last
-    FirstZero,
-    /// 12 is checked before 11
-    OverlongFirst,
-    /// what an evaluation leaves is marked as evaluated, though it took steps
-    Evaluated,
-    /// the order test tells the highest-numbered name that fails
-    LastFailing,
-    /// "lower of" puts the larger level there
-    Larger,
-    /// "higher of" and "lower of" take a step where only one argument is a level
-    OneLevel,
-    /// 16 is checked after 12
-    FullLast,
-    /// the replay takes any rule that fits, not the lowest alone
-    AnyRule,
-    /// the replay takes places that are not active
-    AnyPlace,
-    /// the curve's quotient is cut off, not rounded: n × n divided by 255, without the 127
-    CutOff,
-    /// the curve takes a step whatever its argument is: the low byte of its word for the level
-    LowByte,
-    /// a work buffer of 8,192 words is enough, as it was before F-5
-    OldRoom,
-    /// the first 8,192 words of the work buffer are zeroed, as they were before F-5
-    OldZeros,
-    /// a rule falls where both sides weigh the same, too
-    SameWeight,
-    /// a rule falls with a placeholder on the right more often than on the left, too
-    Twice,
-    /// the test by weights tells the highest rule that doesn't fall
-    LastRising,
-    /// a weight of 1,001 is taken
-    TooHeavy,
-    /// a list with one weight too many is taken
-    LongList,
-    /// levels weigh 1 in rules
-    LevelsWeigh,
-    /// 7 for a placeholder that is met again on the left, as it was before F-7
-    NoTwins,
-    /// a placeholder that is met again is counted as a new one
-    NewTwins,
-    /// an argument is idle though its left side holds the placeholder twice
-    IdleTwins,
-    /// a placeholder that is met again fits where the first words are equal
-    FirstWords,
-    /// where both arguments have as many words
-    SameLengths,
-    /// whatever it meets
-    AnyTwins,
-    /// no rule falls with a placeholder on the right twice, as it was before F-7
-    OnceRight,
-}
-
-impl Plant {
-    /// Number 10: buffers that are too short.
-    pub fn cramped(self, out_words: usize, work_words: usize) -> bool {
-        let least = if self == Plant::OldRoom { 8192 } else { WORK_WORDS };
-        out_words < ANSWER_WORDS || work_words < least
-    }
-
-    /// How many words of the work buffer are zero after 0 and after every limit.
-    pub fn zeroed(self) -> usize {
-        if self == Plant::OldZeros { 8192 } else { WORK_WORDS }
     }
 }

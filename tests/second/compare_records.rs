@@ -1,10 +1,13 @@
 //! One case of the step record and its replay (02, F-3): the product against what the paper's text gives, whole answers, whole records and
 //! whole buffers.
 
-use crate::book::{Book, Cue, Plant, CURVE_RULE, LONGEST};
-use crate::compare::{answer, count, same, Checked, Counts, Input, Lent, Pair};
+use crate::book::{Book, Cue, CURVE_RULE, LONGEST};
+use crate::checks::{answer, same, Checked, Lent, Pair};
+use crate::compare_expansions::Input;
+use crate::counts::{count, Counts};
 use crate::demand3;
 use crate::evaluate::{all_fits, evaluate, evaluate_recorded, pairs, End, Fit, Step};
+use crate::plant::Plant;
 use crate::product::{self, Answer, Replayed};
 use crate::random::{Case, PATIENCE};
 use crate::replay::{replay, Place, Replay, Stop, Wrong};

@@ -1,8 +1,9 @@
 //! What is counted of left sides that repeat a placeholder (02, F-7): how they are read, tested, met, and given up.
 
-use crate::book::{self, Book, Cue, Fault, Plant, Rule, Side};
-use crate::compare::{count, Counts};
+use crate::book::{self, Book, Cue, Fault, Rule, Side};
+use crate::counts::{count, Counts};
 use crate::evaluate::{first_fit, Fit, Outcome};
+use crate::plant::Plant;
 use crate::random::Case;
 use crate::weights;
 use std::rc::Rc;

@@ -1,9 +1,11 @@
 //! One case of the test for finite shows (02, F-6): the product against what the paper's text gives; and where all rules fall, what is promised
 //! of expansions, held against the product's own answers.
 
-use crate::book::{Book, Cue, Fault, Plant, Rule, ANSWER_WORDS, WORK_WORDS};
-use crate::compare::{answer, count, same, Checked, Counts};
+use crate::book::{Book, Cue, Fault, Rule, ANSWER_WORDS, WORK_WORDS};
+use crate::checks::{answer, same, Checked};
+use crate::counts::{count, Counts};
 use crate::evaluate::{evaluate, End, Outcome};
+use crate::plant::Plant;
 use crate::product::{self, Answer};
 use crate::random::{Case, PATIENCE};
 use crate::weights::{doubles, is_bad, rising, test, weigh, Weights, HEAVIEST, LIGHTEST};

@@ -4,7 +4,8 @@
 //! in it, and whether an argument is opened from level 64, depends on nothing but the tree and the level, so it takes none there again. The
 //! evaluation without this memory is at hand too, and the random cases hold one to the other wherever the plain one ends.
 
-use crate::book::{is_level, Book, Cue, Plant, Side, CURVE, CURVE_RULE, HIGHER, HIGHER_RULE, LEVEL, LONGEST, LOWER, LOWER_RULE};
+use crate::book::{is_level, Book, Cue, Side, CURVE, CURVE_RULE, HIGHER, HIGHER_RULE, LEVEL, LONGEST, LOWER, LOWER_RULE};
+use crate::plant::Plant;
 use std::rc::Rc;
 
 /// A pair of the step record (02, F-3): "the step's index in the whole cue before it and the rule's number".

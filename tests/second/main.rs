@@ -2,37 +2,57 @@
 //!
 //!     second [CASES] [--seed N] [--threads N] [--plant N] [--plain]
 //!
-//! CASES cases (100,000 if not said), from seed 0 (or --seed) on; one thread for each processor, if not said. --plant 1 to 27 plants a fault
-//! in the second evaluator, which the run must then find. --plain leaves out what takes too long if nothing is remembered of arguments that
-//! took no step: for a product that remembers nothing. Exit status: 0 no difference; 1 a difference, printed with its seed and cut down; 2 a
-//! number of the table, a nest of repeats, a kind of level, of work buffer, of long cue, of record or of list of weights came too seldom, or bad
-//! usage.
+//! CASES cases (100,000 if not said), from seed 0 (or --seed) on; one thread for each processor, if not said. --plant plants a fault in the
+//! second evaluator, by its number in plant.rs, which the run must then find. --plain leaves out what takes too long if nothing is remembered of
+//! arguments that took no step: for a product that remembers nothing. Exit status: 0 no difference; 1 a difference, printed with its seed and
+//! cut down; 2 a number of the table, a nest of repeats, a kind of level, of work buffer, of long cue, of record or of list of weights came too
+//! seldom, or bad usage.
+
+#[macro_use]
+mod calls;
 
 mod book;
+mod checks;
 mod compare;
+mod compare_expansions;
+mod compare_met;
 mod compare_records;
 mod compare_twins;
 mod compare_weights;
+mod counts;
 mod demand3;
+mod draft;
 mod evaluate;
 mod paper;
+mod paper_curve;
+mod paper_lengths;
+mod paper_levels;
+mod paper_records;
 mod paper_twins;
 mod paper_weights;
+mod plant;
 mod product;
 mod random;
+mod random_books;
+mod random_changes;
+mod random_faults;
 mod random_long;
 mod random_records;
+mod random_shows;
+mod random_trees;
 mod random_twins;
 mod random_weights;
 mod replay;
 mod shrink;
 mod weights;
 
-use book::Plant;
-use compare::{compare, Counts, BUFFERS, LEVELS, LONG, NUMBERS, REFUSED};
+use compare::compare;
+use compare_met::{BUFFERS, LEVELS, LONG, REFUSED};
 use compare_records::{RECORDED, REPLAYED};
 use compare_twins::TWINS;
 use compare_weights::{FALLING, WEIGHED};
+use counts::{Counts, NUMBERS};
+use plant::{Plant, PLANTS};
 use random::Case;
 use std::sync::atomic::{AtomicU64, Ordering};
 use std::time::Instant;
@@ -62,38 +82,7 @@ fn options() -> Option<Options> {
             "--seed" => o.first = args.next()?.parse().ok()?,
             "--plain" => o.plain = true,
             "--threads" => o.threads = args.next()?.parse().ok().filter(|&n| n > 0)?,
-            "--plant" => {
-                o.plant = match args.next()?.as_str() {
-                    "1" => Plant::OldOrder,
-                    "2" => Plant::FirstZero,
-                    "3" => Plant::OverlongFirst,
-                    "4" => Plant::Evaluated,
-                    "5" => Plant::LastFailing,
-                    "6" => Plant::Larger,
-                    "7" => Plant::OneLevel,
-                    "8" => Plant::FullLast,
-                    "9" => Plant::AnyRule,
-                    "10" => Plant::AnyPlace,
-                    "11" => Plant::CutOff,
-                    "12" => Plant::LowByte,
-                    "13" => Plant::OldRoom,
-                    "14" => Plant::OldZeros,
-                    "15" => Plant::SameWeight,
-                    "16" => Plant::Twice,
-                    "17" => Plant::LastRising,
-                    "18" => Plant::TooHeavy,
-                    "19" => Plant::LongList,
-                    "20" => Plant::LevelsWeigh,
-                    "21" => Plant::NoTwins,
-                    "22" => Plant::NewTwins,
-                    "23" => Plant::IdleTwins,
-                    "24" => Plant::FirstWords,
-                    "25" => Plant::SameLengths,
-                    "26" => Plant::AnyTwins,
-                    "27" => Plant::OnceRight,
-                    _ => return None,
-                }
-            }
+            "--plant" => o.plant = args.next()?.parse().ok().and_then(Plant::numbered)?,
             _ => o.cases = a.parse().ok()?,
         }
     }
@@ -237,7 +226,7 @@ fn run(o: &Options) -> (Counts, Option<u64>) {
                     return n;
                 }
                 let case = random::case(seed);
-                if o.plain && !compare::ends_plainly(&case) {
+                if o.plain && !compare_expansions::ends_plainly(&case) {
                     n.too_long += 1;
                     continue;
                 }
@@ -257,15 +246,15 @@ fn run(o: &Options) -> (Counts, Option<u64>) {
 
 fn all() -> i32 {
     let Some(o) = options() else {
-        eprintln!("second [CASES] [--seed N] [--threads N] [--plant 1 to 27] [--plain]");
+        eprintln!("second [CASES] [--seed N] [--threads N] [--plant 1 to {}] [--plain]", PLANTS.len());
         return 2;
     };
     if o.plant == Plant::Nothing {
         let mut faults = paper::paper();
-        faults.extend(paper::levels());
-        faults.extend(paper::records());
-        faults.extend(paper::curve());
-        faults.extend(paper::lengths());
+        faults.extend(paper_levels::levels());
+        faults.extend(paper_records::records());
+        faults.extend(paper_curve::curve());
+        faults.extend(paper_lengths::lengths());
         faults.extend(paper_weights::weights());
         faults.extend(paper_twins::twins());
         if !o.plain {

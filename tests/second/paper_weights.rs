@@ -1,8 +1,10 @@
 //! Finite shows (02, F-6): cases typed in by hand, each worked out from the paper's text. What they expect is held against the second evaluator
 //! and the product.
 
-use crate::book::{self, Plant, ANSWER_WORDS, WORK_WORDS};
-use crate::paper::{case, changed, dim_book, nested, Check, B, DOUBLES};
+use crate::book::{self, ANSWER_WORDS, WORK_WORDS};
+use crate::paper::{case, changed, nested, Check, B, DOUBLES};
+use crate::paper_levels::dim_book;
+use crate::plant::Plant;
 use crate::product;
 use crate::random::Case;
 use crate::weights::{test, weigh};

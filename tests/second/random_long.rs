@@ -3,7 +3,9 @@
 //! root or nested as far as level 64, and what it puts there just fits, or just does not.
 
 use crate::book::{HOLE, LONGEST};
-use crate::random::{order, Draft, Random};
+use crate::draft::Draft;
+use crate::random::Random;
+use crate::random_trees::order;
 
 /// The names of such a book: constants, and three names that only hold others, with which no left side starts; those that left sides start
 /// with; and two that stand round a step.

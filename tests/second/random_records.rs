@@ -1,8 +1,9 @@
 //! Random step records (02, F-3): the room of the one that the expander is lent, and records to be replayed, "from anyone": of the expansion
 //! itself, of steps in another order, with a wrong pair, damaged, and noise.
 
-use crate::book::{Book, Cue, Plant, CURVE_RULE, HIGHER_RULE, LONGEST, LOWER_RULE};
+use crate::book::{Book, Cue, CURVE_RULE, HIGHER_RULE, LONGEST, LOWER_RULE};
 use crate::evaluate::{all_fits, pairs, Outcome, Step};
+use crate::plant::Plant;
 use crate::random::Random;
 use crate::replay::{replay, Stop};
 use std::rc::Rc;

@@ -1,7 +1,8 @@
 //! Left sides that repeat a placeholder (02, F-7), and cues whose arguments are equal, almost equal, or equal once they are evaluated.
 
 use crate::book::{HOLE, LEVEL, LONGEST};
-use crate::random::{Draft, Random};
+use crate::draft::Draft;
+use crate::random::Random;
 
 const A: u16 = HOLE;
 const B: u16 = HOLE + 1;

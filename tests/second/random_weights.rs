@@ -2,7 +2,8 @@
 //! for, from random weights on, until all rules fall or nearly all; then one rule's sides may be made to weigh the same, or the list is spoilt.
 
 use crate::book::{built_in, is_level, HOLE, LEVEL, LONGEST};
-use crate::random::{Draft, Random};
+use crate::draft::Draft;
+use crate::random::Random;
 use crate::weights::{HEAVIEST, LIGHTEST};
 
 /// How much more a rule's left side weighs: the names that one side has more often, with how much more often the left has them, and what

@@ -1,8 +1,9 @@
 //! The replay of a step record, on trees, straight from the paper's text (02, F-3; 01, "The words of demand 3"). A pair may be at any active
 //! place, however deep, and need not be the step that an evaluation would take.
 
-use crate::book::{Book, Cue, Plant, LONGEST};
+use crate::book::{Book, Cue, LONGEST};
 use crate::evaluate::{all_fits, first_fit, Fit};
+use crate::plant::Plant;
 use std::rc::Rc;
 
 /// What is wrong with a pair, which is taken "exactly if each pair is whole, its index an active place then, its rule the lowest that fits

@@ -1,8 +1,11 @@
 //! Cutting a case down while it still shows a difference.
 
-use crate::book::{self, Book, Cue, Plant, ANSWER_WORDS, WORK_WORDS};
-use crate::compare::{compare, Counts};
-use crate::random::{Case, Draft};
+use crate::book::{self, Book, Cue, ANSWER_WORDS, WORK_WORDS};
+use crate::compare::compare;
+use crate::counts::Counts;
+use crate::draft::Draft;
+use crate::plant::Plant;
+use crate::random::Case;
 use crate::replay::replay;
 use std::rc::Rc;
 

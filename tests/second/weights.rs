@@ -1,7 +1,8 @@
 //! The test for finite shows, and what words weigh, straight from the paper's text (02, F-6 and F-7). Two things that `weigh` needs are not 02's,
 //! but the header's text for cue_weigh: the cap at 32 bits, and that a word with no entry weighs nothing.
 
-use crate::book::{built_in, is_level, Book, Plant, Rule, Side, LEVEL};
+use crate::book::{built_in, is_level, Book, Rule, Side, LEVEL};
+use crate::plant::Plant;
 
 /// "A lent list that gives each name a weight from 1 to 1,000."
 pub const LIGHTEST: u16 = 1;
