@@ -1,6 +1,6 @@
 #!/usr/bin/env bash
-# The checks from outside: the C interface and its header, the stack of each operation, the C example, random books against the second
-# evaluator (which must also find 27 planted faults), the words tool, the examples, the programs' files, the steps tool, the weights
+# The checks from outside: the C interface and its header, the stack of each operation, the C and Rust examples, random books against the second
+# evaluator (which must also find faults that are planted in it), the words tool, the examples, the programs' files, the steps tool, the weights
 # tool and the places tool. Everything is written under target/outside.
 #     tests/run.sh [CASES of the random run; 100000 if not said]
 set -euo pipefail
@@ -39,18 +39,22 @@ say "the archive exports, and the header declares, $(wc -l < "$to/exported") fun
 bash tests/stack.sh 4096 "$archive" || fail "the stack"
 ! bash tests/stack.sh 100 "$archive" > "$to/low" 2>&1 && grep -q 'ABOVE 100:' "$to/low" || fail "the stack is never too deep"
 
-# 3. the header's sizes, limits and words against what the functions do, and the C example
+# 3. the header's sizes, limits and words against what the functions do, and the examples in C and Rust
 quiet gcc -std=c99 -Wall -Wextra -pedantic -Werror -Iinclude tests/header.c "$archive" -o "$to/header"
 "$to/header" || fail "the header's sizes are not the functions'"
 quiet gcc -std=c99 -Wall -Wextra -pedantic -Werror -Iinclude examples/c/expand.c "$archive" -o "$to/expand-c"
 "$to/expand-c" > "$to/expand-c.out"
 diff examples/c/stdout "$to/expand-c.out" || fail "the C example prints something else"
-say "the C example prints what the paper prints"
+quiet rustc --edition 2021 -D warnings -L target/staticlib examples/rust/expand.rs -o "$to/expand-rust"
+"$to/expand-rust" > "$to/expand-rust.out"
+diff examples/rust/stdout "$to/expand-rust.out" || fail "the Rust example prints something else"
+say "the C example and the Rust example print what the paper prints"
 
 # 4. random books against the second evaluator, and the planted faults
 quiet rustc -O --edition 2021 -D warnings -L target/staticlib tests/second/main.rs -o "$to/second"
 "$to/second" "$cases" || fail "the product and the second evaluator differ, or a number came too seldom"
-for plant in {1..27}; do
+plants=27
+for ((plant = 1; plant <= plants; plant++)); do
     status=0
     "$to/second" --plant "$plant" > "$to/plant-$plant" || status=$?
     if [ "$status" != 1 ] || ! grep -q 'cut down' "$to/plant-$plant"; then
@@ -59,6 +63,11 @@ for plant in {1..27}; do
     fi
     say "planted fault $plant was found: $(sed -n 's/^second: DIFFERENCE //p' "$to/plant-$plant")"
 done
+# there is no fault more, and docs/TRYING.md tells how many there are
+status=0
+"$to/second" --plant $((plants + 1)) 2> "$to/usage" || status=$?
+[ "$status" = 2 ] && grep -q -- "--plant 1 to $plants\]" "$to/usage" || fail "the faults that can be planted are not 1 to $plants"
+grep -q "plants a fault (1 to $plants)" docs/TRYING.md || fail "docs/TRYING.md does not say that the faults are 1 to $plants"
 
 # 5. the words tool, there and back, and its files
 for text in examples/*/*.txt; do

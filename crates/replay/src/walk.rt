@@ -1,8 +1,7 @@
 // Finds whether a position of the term is active (02, F-3: "its index an active place then"), by a walk from the position of the last step.
 //
 // The finger is at that position. In the place of the machine's counts the area holds the way to it: the positions of the symbols from the
-// root on, outermost first. So a position near the last step's costs little; and where a subterm ends is one read (02, F-5: "No span of the cue
-// is counted any more").
+// root on, outermost first. So a position near the last step's costs little; and where a subterm ends is one read: no span of the term is counted.
 ghost use mathlib.Core.Path.{_≡_};
 ghost use Prim.Native.Nat.{_<_};
 ghost use Rattle.reader.specs.Book.{systemOf, Accepted};
