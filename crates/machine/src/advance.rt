@@ -1,6 +1,7 @@
 // The machine in an area of lent words: from a state to just before its next rewrite, without recursion.
 ghost use mathlib.Core.Path.{_≡_};
 ghost use Rattle.reader.specs.Book.{systemOf, Accepted};
+ghost use Rattle.rows.specs.Measured.{Measured};
 ghost use Rattle.machine.specs.declared.advance.Stop.the-variants.{Ready};
 ghost use Rattle.machine.specs.advance.Area.{baseOf, Tracks};
 ghost use Rattle.machine.specs.advance.Transition.{sinceAt, Performed};
@@ -80,6 +81,7 @@ fn at_level(gap: Gap, level: usize, floor: usize, since: usize) -> Innermost
 }
 
 // Takes the next entry of the innermost level's strategy, and counts it as begun. Nothing is changed where it would be too deep.
+// (measured) is 02, F-5: the lengths beside the words are "true after every step and every opened argument".
 fn take_transition(
     book: &[u16],
     shape: Shape,
@@ -90,8 +92,9 @@ fn take_transition(
 ) -> Event
     requires { ⌜ Accepted (now book) shape × Indexed (now book) shape (now index)
         × Tracks (systemOf (now book)) (now area) (now frame) (at .gap) (baseOf (now frame)) (at .level) ⌝ }
-    ensures { λ r. ⌜ Performed (systemOf (now (book .entry))) at (baseOf (now (frame .entry))) (now (area .entry)) (now (frame .entry)) r
+    ensures performed { λ r. ⌜ Performed (systemOf (now (book .entry))) at (baseOf (now (frame .entry))) (now (area .entry)) (now (frame .entry)) r
         (now (area .exit)) (now (frame .exit)) ⌝ }
+    ensures measured { λ _. ⌜ Measured (systemOf (now (book .entry)) .arities) (now (area .exit)) (at .gap) ⌝ }
 {
     let gap = at.gap;
     let level = at.level;
@@ -141,8 +144,9 @@ pub fn advance(
 ) -> Advanced
     requires { ⌜ Accepted (now book) shape × Indexed (now book) shape (now index)
         × Tracks (systemOf (now book)) (now area) (now frame) (state .gap) (baseOf (now frame)) (state .level) ⌝ }
-    ensures { λ r. ⌜ Advances (systemOf (now (book .entry))) state (baseOf (now (frame .entry))) (now (area .entry)) r
+    ensures advanced { λ r. ⌜ Advances (systemOf (now (book .entry))) state (baseOf (now (frame .entry))) (now (area .entry)) r
         (now (area .exit)) (now (frame .exit)) ⌝ }
+    ensures measured { λ _. ⌜ Measured (systemOf (now (book .entry)) .arities) (now (area .exit)) (state .gap) ⌝ }
 {
     let gap = state.gap;
     let mut level = state.level;

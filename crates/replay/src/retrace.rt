@@ -4,6 +4,8 @@ ghost use Prim.Native.Nat.{_≤_};
 ghost use lib.ListN.{length};
 ghost use Rattle.reader.specs.Book.{systemOf, Accepted};
 ghost use Rattle.system.specs.Limits.{areaWords, termWords};
+ghost use Rattle.system.specs.Numbers.{taken, numberOf};
+ghost use Rattle.rows.specs.Measured.{Measured};
 ghost use Rattle.layout.specs.index.Index.{Indexed};
 ghost use Rattle.rows.specs.Rows.{termIn};
 ghost use Rattle.steps.specs.steps.Raised.{Raisable, Raised};
@@ -67,6 +69,7 @@ fn raise_way(area: &mut [u16], level: usize, width: usize, size: usize)
 }
 
 // Takes the step that a pair tells of, if its index is an active position and its rule the first that matches there.
+// (measured) is 02, F-5: the lengths beside the words are "true after every step".
 fn follow(
     book: &[u16],
     shape: Shape,
@@ -77,7 +80,8 @@ fn follow(
 ) -> Followed
     requires { ⌜ Accepted (now book) shape × Indexed (now book) shape (now index) × PointsIn (systemOf (now book)) (now area) from
         × (pair .number ≤ 65535) ⌝ }
-    ensures { λ r. ⌜ Follows (systemOf (now (book .entry))) (termIn (now (area .entry)) (from .gap)) pair r (now (area .exit)) ⌝ }
+    ensures followed { λ r. ⌜ Follows (systemOf (now (book .entry))) (termIn (now (area .entry)) (from .gap)) pair r (now (area .exit)) ⌝ }
+    ensures measured { λ r. ⌜ (r .number ≡ numberOf taken → Measured (systemOf (now (book .entry)) .arities) (now (area .exit)) (r .finger .gap)) ⌝ }
 {
     let f = find(book, shape, index, area, from, pair.at);
     let gap = f.gap;

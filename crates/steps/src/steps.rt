@@ -3,6 +3,8 @@ ghost use Prim.Native.Nat.{_≤_};
 ghost use mathlib.Core.Path.{_≡_};
 ghost use lib.ListN.{length, take};
 ghost use Rattle.system.specs.Limits.{areaWords, termWords};
+ghost use Rattle.reader.specs.Book.{systemOf};
+ghost use Rattle.rows.specs.Measured.{Measured};
 ghost use Rattle.steps.specs.steps.Raised.{Raisable, Raised, wayIn};
 ghost use Rattle.steps.specs.steps.Stepped.{Steppable, Steps};
 use crate::rewrites::Site;
@@ -51,6 +53,7 @@ pub struct Based {
 }
 
 // Rewrites the subterm of the innermost level by the match that was found there, and starts that level anew.
+// (measured) is 02, F-5: the lengths beside the words are "true after every step".
 pub fn step(
     book: &[u16],
     index: &[u16],
@@ -60,7 +63,8 @@ pub fn step(
     m: Redex,
 ) -> Reduced
     requires { ⌜ Steppable (now book) (now index) (now area) (now frame) (from .state) (from .way) m ⌝ }
-    ensures { λ r. ⌜ Steps (now (book .entry)) (now (area .entry)) (now (frame .entry)) (from .state) r (now (area .exit)) ⌝ }
+    ensures stepped { λ r. ⌜ Steps (now (book .entry)) (now (area .entry)) (now (frame .entry)) (from .state) r (now (area .exit)) ⌝ }
+    ensures measured { λ r. ⌜ Measured (systemOf (now (book .entry)) .arities) (now (area .exit)) (r .gap) ⌝ }
 {
     let gap = from.state.gap;
     let level = from.state.level;

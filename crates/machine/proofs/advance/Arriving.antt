@@ -18,6 +18,7 @@ use Rattle.machine.specs.declared.advance.Stop.the-variants.{Final, Deep
 use Rattle.rewriting.specs.Machine.{position, advance}
 use Rattle.rows.specs.declared.gap.Gap.{Gap}
 use Rattle.rows.specs.Rows.{termIn}
+use Rattle.rows.specs.Measured.{Measured}
 use Rattle.machine.specs.advance.Area.{outerIn, countIn, Stands, Valid}
 use Rattle.machine.specs.advance.Transition as to
 use Rattle.machine.specs.advance.Arrivals.{Arrives, Advances}
@@ -46,7 +47,7 @@ module _ (τ : Round) where
   c = countIn (τ .ws) (τ .level)
 
   abbrev Came : Advanced → Type 0
-  Came r = Advances s (τ .state) base (τ .ws₀) r (τ .ws′) (τ .frame)
+  Came r = Advances s (τ .state) base (τ .ws₀) r (τ .ws′) (τ .frame) × Measured (s .arities) (τ .ws′) gap
 
   valid : Valid s t base outer c
   valid = τ .kept .held .represents .valid
@@ -54,9 +55,9 @@ module _ (τ : Round) where
   levels : length outer ≡ τ .level
   levels = τ .kept .held .represents .levels
 
-  -- the last words are those that the loop started with
+  -- the last words are those that the loop started with, and the lengths are true
   came : (r : Advanced) → Arrives (r .stop) s (τ .state) base (τ .ws₀) r (τ .ws′) (τ .frame) → Came r
-  came r h = (h, τ .performed .kept ∙ τ .kept .kept)
+  came r h = ((h, τ .performed .kept ∙ τ .kept .kept), τ .performed .stands .measured)
 
   -- the strategy of the outermost level is at its end
   pub arrives-end : τ .event ≡ End → τ .level ≡ 0 → (r : Advanced) → r .stop ≡ Final → Came r

@@ -17,7 +17,9 @@ use Rattle.layout.proofs.Books.{well}
 use Rattle.layout.specs.declared.entries.Entry.{Entry}
 use Rattle.layout.specs.declared.entries.Entry.the-variants as entry
 use Rattle.machine.specs.declared.advance.Event.the-variants.{End, Repeated, Rules, Argument, TooDeep}
+use Rattle.machine.specs.declared.advance.Event.{Event}
 use Rattle.machine.specs.declared.advance.Innermost.{Innermost}
+use Rattle.rows.specs.Measured.{Measured}
 use Rattle.rewriting.specs.Machine.{strategyAt, down, position}
 use Rattle.rows.specs.declared.gap.Gap.{Gap}
 use Rattle.rows.specs.Rows.{countsAt, termIn}
@@ -266,3 +268,8 @@ module _ (τ : Taking) where
               let l : length inner ≡ m = (let y = length-append inner (0 ∷ []) in omega arith) in
               holds inner 0 pushed l (valid-open s wf t base outer c valid more i entry-is (omega (arith, levels))) positions₂
               (length-set positions (level + 1) q′ ∙ v .slots) positioned
+
+-- after each of them the lengths are true
+pub performed-measured : {s : System} {at : Innermost} {base : ℕ} {ws positions : List ℕ} {r : Event} {ws′ positions′ : List ℕ} →
+    Performed s at base ws positions r ws′ positions′ → Performed s at base ws positions r ws′ positions′ × Measured (s .arities) ws′ (at .gap)
+performed-measured h = (h, h .stands .measured)

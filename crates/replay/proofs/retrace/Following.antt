@@ -10,6 +10,7 @@ use borrow.Author.Tests.{eq-eqb, ne-eqb}
 use Rattle.reader.specs.declared.Shape.{Shape}
 use Rattle.reader.specs.Book.{systemOf, Accepted}
 use Rattle.system.specs.Limits.{areaWords, termWords}
+use Rattle.system.specs.Numbers.{taken, numberOf}
 use Rattle.system.specs.Signature.{Signature, span, replace}
 use Rattle.system.specs.System.{System}
 use Rattle.system.specs.Terms.{WellFormed}
@@ -18,6 +19,7 @@ use Rattle.layout.proofs.Books.{well}
 use Rattle.rows.specs.declared.gap.Gap.{Gap}
 use Rattle.rows.specs.Rows.{termIn, lengthsIn, Lies}
 use Rattle.rows.specs.gap.Gaps.{wordsIn}
+use Rattle.rows.specs.Measured.{Measured}
 use Rattle.rows.proofs.lengths.Measures.{measured-length}
 use Rattle.reducts.specs.declared.putting.Reduced.{Reduced}
 use Rattle.reducts.specs.declared.putting.Subterm.{Subterm}
@@ -39,6 +41,8 @@ use Rattle.replay.specs.declared.retrace.Pair.{Pair}
 use Rattle.replay.specs.Activity.{activeAt}
 use Rattle.replay.specs.Replay.{toldBy}
 use Rattle.replay.specs.walk.Way.{wayIn, Points, Found}
+use Rattle.replay.specs.declared.retrace.Followed.{Followed}
+use Rattle.replay.specs.retrace.Retraces.{Follows, wrong, long, goes}
 use Rattle.replay.proofs.Pairs.{told-inactive, told-nothing, told-other, right-told}
 use Rattle.replay.proofs.walk.Pointing.{points-bounds}
 use Rattle.replay.proofs.walk.Stepping.{step-words, step-raisable, points-stepped, points-reducible}
@@ -230,3 +234,10 @@ module _ (c : Chosen) where
             let h = first-there (systemOf (k .book)) (wf k) (v .whole) (there k) y fires .left in
             subst (λ z. Points (systemOf (k .book)) z ws₂ (record { gap = gap; level = k .f .level; at = k .f .at })) here-next
             (points-stepped (systemOf (k .book)) (wf k) v wide (y .reduct) placed size is h raised)
+
+-- the lengths are true after a step
+pub follows-measured : {s : System} {t : List ℕ} {p : Pair} {r : Followed} {ws : List ℕ} → Follows s t p r ws →
+    Follows s t p r ws × (r .number ≡ numberOf taken → Measured (s .arities) ws (r .finger .gap))
+follows-measured (wrong n e l) = (wrong n e l, λ z. absurd (omega arith))
+follows-measured (long x n m e l) = (long x n m e l, λ z. absurd (omega arith))
+follows-measured (goes x n m e points) = (goes x n m e points, λ z. points .measured)

@@ -15,6 +15,7 @@ use Rattle.reader.specs.Book.{systemOf}
 use Rattle.layout.proofs.Books.{well}
 use Rattle.rows.specs.declared.gap.Gap.{Gap}
 use Rattle.rows.specs.Rows.{termIn, lengthsIn}
+use Rattle.rows.specs.Measured.{Measured}
 use Rattle.rows.proofs.lengths.Measures.{measured-length, words-length}
 use Rattle.redexes.specs.declared.search.Redex.{Redex}
 use Rattle.matching.specs.Matching.{Contraction}
@@ -147,3 +148,12 @@ module _ {book index ws positions : List ℕ} {state : State} {n : ℕ} {m : Red
     -- the term would have too many words
     pub step-long : {r : Reduced} {ws₁ : List ℕ} → Rewrites book ws gap u r ws₁ → r .long ≡ true → Steps book ws positions state r ws₁
     step-long {r} {ws₁} rewrites q x f = let y = subst (LeftAs s ws gap u x ws₁ r) q (left (rewrites x f)) in to.long (y .0) (r .gap) (y .1) (y .2)
+
+-- the lengths are true after a step, and where it would leave too many words
+pub steps-measured : {book index ws positions : List ℕ} {state : State} {n : ℕ} {m : Redex} (q : Steppable book index ws positions state n m) {r : Reduced} {ws′ : List ℕ} →
+    Steps book ws positions state r ws′ → Steps book ws positions state r ws′ × Measured (systemOf book .arities) ws′ (r .gap)
+steps-measured {book} {ws = ws} {positions = positions} {state = state} q {r} {ws′} h = (h, go (h (q .x) (q .contracts)))
+  where
+    go : to.Stepped (systemOf book) ws positions state (q .x) r ws′ → Measured (systemOf book .arities) ws′ (r .gap)
+    go (to.done f gap′ e stands k) = subst (λ y. Measured (systemOf book .arities) ws′ (y .gap)) (sym e) (stands .measured)
+    go (to.long f gap′ e kept) = subst (λ y. Measured (systemOf book .arities) ws′ (y .gap)) (sym e) (kept .measured)

@@ -10,6 +10,7 @@ use Rattle.rows.specs.Rows.{termIn}
 use Rattle.machine.specs.advance.Area.{baseOf}
 use Rattle.machine.proofs.advance.Bounds.{Bounds, bounds}
 use Rattle.machine.proofs.advance.Performing.{Taking, performed-end, performed-repeated, performed-rules, performed-deep, argument-fits, performed-argument}
+use Rattle.machine.proofs.advance.Performing.{performed-measured}
 use Rattle.machine.proofs.advance.take_transition.Statement.{statement}
 use Rattle.machine.proofs.advance.take_transition.Tie as tie
 
@@ -97,16 +98,18 @@ word-at-requires : tie.Need-word-at-requires
 word-at-requires c κs = let b = within (reading (c .before)) in (b .gapped, omega (arith, b .within, start (c .before)))
 
 returns : tie.Need-returns
-returns c = performed-end (taking (c .before .before)) (c .enum-told .given .1)
+returns c = performed-measured (performed-end (taking (c .before .before)) (c .enum-told .given .1))
 
 returns-2 : tie.Need-returns-2
-returns-2 c = performed-repeated (taking (c .before .before)) (c .enum-told2 .given .1)
+returns-2 c = performed-measured (performed-repeated (taking (c .before .before)) (c .enum-told2 .given .1))
 
 returns-3 : tie.Need-returns-3
-returns-3 c = performed-rules (taking (c .before .before)) (c .enum-told3 .given .1)
+returns-3 c = performed-measured (performed-rules (taking (c .before .before)) (c .enum-told3 .given .1))
 
 returns-4 : tie.Need-returns-4
-returns-4 c = let e = c .before .before .e in performed-deep (taking (c .before .before .before .before)) (e .given .0 .0) (e .given .1) (c .if1 .taken)
+returns-4 c =
+    let e = c .before .before .e in
+    performed-measured (performed-deep (taking (c .before .before .before .before)) (e .given .0 .0) (e .given .1) (c .if1 .taken))
 
 hop-requires : tie.Need-hop-requires
 hop-requires c κs =
@@ -128,7 +131,7 @@ returns-5 c =
     let x = hopped c in
     let e = x .before .before .e in
     let τ = taking (argument x) in
-    performed-argument τ (e .given .0 .0) (e .given .1) (x .if1 .left) (c .hop .result) (hops c)
+    performed-measured (performed-argument τ (e .given .0 .0) (e .given .1) (x .if1 .left) (c .hop .result) (hops c))
 
 pub take-transition-spec : {M : Type 1} → statement M
 take-transition-spec =

@@ -11,7 +11,7 @@ use Rattle.rows.specs.Measured.{Measured}
 use Rattle.replay.specs.walk.Way.{Points}
 use Rattle.replay.specs.retrace.Retraces.{wrong, long, goes}
 use Rattle.replay.proofs.walk.Pointing.{Bounds, points-bounds}
-use Rattle.replay.proofs.retrace.Following.{missed, Searched, other, told, Chosen, reducible, exceeds, next-few, placed-lies, placed-words, way-raisable, way-raised}
+use Rattle.replay.proofs.retrace.Following.{missed, Searched, other, told, Chosen, reducible, exceeds, next-few, placed-lies, placed-words, way-raisable, way-raised, follows-measured}
 use Rattle.replay.proofs.retrace.follow.Statement.{statement}
 use Rattle.replay.proofs.retrace.follow.Tie as tie
 
@@ -105,7 +105,7 @@ returns : tie.Need-returns
 returns c =
     let d = walked (c .before .before) in
     let a = entry d .args in
-    wrong (missed (systemOf (a .book .now)) (a .pair) (d .find .ensures) (c .before .if1 .taken)) (ap (λ y. y .number) (c .outcome .ensures)) (bounds d .total)
+    follows-measured (wrong (missed (systemOf (a .book .now)) (a .pair) (d .find .ensures) (c .before .if1 .taken)) (ap (λ y. y .number) (c .outcome .ensures)) (bounds d .total))
 
 first-redex-requires : tie.Need-first-redex-requires
 first-redex-requires c κs =
@@ -121,7 +121,7 @@ same-length-2 c = walked (reached (searched (c .before .before)) .before) .find 
 returns-2 : tie.Need-returns-2
 returns-2 c =
     let k = found (searched (c .before .before)) in
-    wrong (other k (c .before .if2 .taken)) (ap (λ y. y .number) (c .outcome2 .ensures)) (k .found .points .total)
+    follows-measured (wrong (other k (c .before .if2 .taken)) (ap (λ y. y .number) (c .outcome2 .ensures)) (k .found .points .total))
 
 -- ---- the rewrite
 
@@ -147,7 +147,7 @@ returns-3 c =
     let r = refused c in
     let d = chosen (widths r) in
     let z = exceeds d (r .rewrite .ensures) (c .before .if3 .taken) in
-    long _ (told (d .at) (d .same) (d .word)) (z .0) (ap (λ y. y .number) (c .outcome3 .ensures)) (z .1)
+    follows-measured (long _ (told (d .at) (d .same) (d .word)) (z .0) (ap (λ y. y .number) (c .outcome3 .ensures)) (z .1))
 
 -- ---- it is done: the lengths on the way
 
@@ -197,8 +197,8 @@ returns-4 c =
     let d = chosen (widths r) in
     let few = next-few d (r .rewrite .ensures) (y .if3 .left) in
     let v = way-raised d (r .rewrite .ensures) (y .if3 .left) _ (size (u .before)) (u .raise-way .ensures) in
-    goes _ (told (d .at) (d .same) (d .word)) few (ap (λ y. y .number) (c .outcome4 .ensures))
-    (subst (Points _ _ _) (sym (ap (λ y. y .finger) (c .outcome4 .ensures))) v)
+    follows-measured (goes _ (told (d .at) (d .same) (d .word)) few (ap (λ y. y .number) (c .outcome4 .ensures))
+    (subst (Points _ _ _) (sym (ap (λ y. y .finger) (c .outcome4 .ensures))) v))
 
 pub follow-spec : {M : Type 1} → statement M
 follow-spec =

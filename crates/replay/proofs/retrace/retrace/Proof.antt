@@ -121,7 +121,7 @@ turned c =
     let a = e .args in
     turns (systemOf (a .book .now)) (a .term .now) (a .«record» .now) (l .loop .inv) (left b)
     (record { at = w .before .before .wide .result; number = w .wide2 .result }) (w .before .before .wide .ensures .0) (w .wide2 .ensures .0)
-    (c .follow .result) _ (follows-in (a .book .now) (a .shape) (e .pre .accepted) (l .loop .inv .points) (c .follow .ensures))
+    (c .follow .result) _ (follows-in (a .book .now) (a .shape) (e .pre .accepted) (l .loop .inv .points) (c .follow .ensures .0))
 
 same-length-2 : tie.Need-same-length-2 Inv-loop μ-loop
 same-length-2 c =

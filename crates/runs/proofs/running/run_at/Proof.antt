@@ -85,7 +85,7 @@ round c =
       ws′ = d .last .1 .1 .1 .0;
       positions′ = d .last .1 .1 .1 .1 .0;
       came = subst (λ b. Advances (systemOf (e .args .book .now)) (record { gap = l .gap; level = l .level }) b (l .area) (d .result) (d .last .1 .1 .1 .0) (d .last .1 .1 .1 .1 .0))
-          (tracks-base (l .inv .holds)) (d .ensures);
+          (tracks-base (l .inv .holds)) (d .ensures .0);
     }
 
 -- the area, the frame and the record have the lengths that they came with
@@ -124,7 +124,7 @@ stepped : (c : tie.After-step Inv-loop μ-loop) → let k = round (here (next (a
 stepped c =
     let g = granted (noted c) in
     let e = allowed (g .before) in
-    goes (round (here (next e))) (before (next e)) (free e) (g .if2 .left) (c .step .result) _ (c .step .ensures)
+    goes (round (here (next e))) (before (next e)) (free e) (g .if2 .left) (c .step .result) _ (c .step .ensures .0)
 
 -- ---- the needs
 

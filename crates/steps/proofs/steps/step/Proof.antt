@@ -12,7 +12,7 @@ use Rattle.rows.specs.gap.Gaps.{wordsIn}
 use Rattle.machine.specs.advance.Area.{frameWords}
 use Rattle.steps.specs.rewrites.Rewritten.{Reducible, Rewrites}
 use Rattle.steps.specs.steps.Stepped.{here}
-use Rattle.steps.proofs.steps.Stepping.{step-bounds, step-few, step-reducible, step-long}
+use Rattle.steps.proofs.steps.Stepping.{step-bounds, step-few, step-reducible, step-long, steps-measured}
 use Rattle.steps.proofs.steps.Rewrote.{Rewrote, step-placed, step-words, step-raisable, step-raisable-levels, step-done}
 use Rattle.steps.proofs.steps.step.Statement.{statement}
 use Rattle.steps.proofs.steps.step.Tie as tie
@@ -135,7 +135,7 @@ returns : tie.Need-returns
 returns c =
     let x = c .before .before .before in
     let k = widths x in
-    step-long (begun x .pre) (k .length-at .result) (read-is k) (rewrites x) (c .if1 .taken)
+    steps-measured (begun x .pre) (step-long (begun x .pre) (k .length-at .result) (read-is k) (rewrites x) (c .if1 .taken))
 
 words-requires : tie.Need-words-requires
 words-requires c κs = step-placed (done c) .gapped .lies
@@ -176,7 +176,9 @@ same-length-2 c =
     length-set (raised c .raise .last .0) (countsAt + x .state .level) 0 ∙ total c ∙ sym (x .asked .tracks .represents .total)
 
 returns-2 : tie.Need-returns-2
-returns-2 c = step-done (counted (stepped c)) _ (size (stepped c)) (rooted (raised c .before) .raise-way .ensures) (raised c .raise .ensures)
+returns-2 c =
+    let k = counted (stepped c) in
+    steps-measured (k .asked) (step-done k _ (size (stepped c)) (rooted (raised c .before) .raise-way .ensures) (raised c .raise .ensures))
 
 pub step-spec : {M : Type 1} → statement M
 step-spec =

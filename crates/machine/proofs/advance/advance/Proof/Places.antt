@@ -9,6 +9,7 @@ use lib.ListN.{length, getD, take, drop, length-drop}
 use lib.Seq.{length-take-le}
 use Rattle.system.specs.Limits.{areaWords, levels}
 use Rattle.rows.specs.Rows.{termIn}
+use Rattle.rows.specs.Measured.{Measured}
 use Rattle.matching.specs.Bindings.{matchOf}
 use Rattle.matching.specs.rules.Searches.{unnumbered}
 use Rattle.redexes.specs.search.Redexes.{bindingWords, redexOf, Bound}
@@ -76,7 +77,7 @@ round c =
       frame = k .last .1 .1 .1 .1 .0;
       framed = same-positions (k .last .1 .1 .1 .1 .0);
       performed = subst₂ (λ y z. Performed (systemOf (a .book .now)) y z (l .area) (l .frame) (k .result) (k .last .1 .1 .1 .0) (k .last .1 .1 .1 .1 .0))
-          (g .at-level .ensures) (tracks-base (l .inv .0 .held)) (k .ensures);
+          (g .at-level .ensures) (tracks-base (l .inv .0 .held)) (k .ensures .0);
     }
 
 -- a transition keeps the lengths that the slices came with
@@ -141,7 +142,8 @@ pub none-matches : (c : tie.After-first-redex Inv-loop μ-loop) → c .first-red
 none-matches c q = goes-rules (retried c) (tried c .enum-told2 .given .1) (c .first-redex .result) (found-there c) q
 
 pub one-matches : (c : tie.After-first-redex Inv-loop μ-loop) → (c .first-redex .result .number ≡ unnumbered → ⊥) → let τ = retried c in
-    (r : Advanced) → r ≡ record { stop = Ready; level = τ .level; redex = c .first-redex .result } → Advances (systemOf (τ .book)) (τ .state) (τ .base) (τ .ws₀) r (τ .ws′) (τ .frame)
+    (r : Advanced) → r ≡ record { stop = Ready; level = τ .level; redex = c .first-redex .result } →
+    Advances (systemOf (τ .book)) (τ .state) (τ .base) (τ .ws₀) r (τ .ws′) (τ .frame) × Measured (systemOf (τ .book) .arities) (τ .ws′) (τ .state .gap)
 one-matches c q r is =
     let τ = retried c in
     let w = trying (tried c) in
