@@ -1,15 +1,13 @@
 -- Theorem "stopped": an evaluation that a limit stops took the steps of its trace, and stopped for want of what that limit counts. It is told
--- by the machine's rounds, and of every end (`evaluation-ends`); of a finished one `theorem-path` says the same by the walk, without the machine.
-use Prim.Native.Nat.{ℕ, zero, suc, _+_, _*_, _≤_, _<_}
+-- by the steps of a run, and of every end (`evaluation-ends`); of a finished one `theorem-path` says the same by the walk, without the machine.
+use Prim.Native.Nat.{ℕ, zero, suc, _+_, _≤_, _<_}
 use native.Mathlib.Omega.{arith}
-use native.Mathlib.Decide.{decLt, decLe}
-use mathlib.Core.Path.{_≡_, refl, sym, subst}
-use mathlib.Core.Bool.{Bool, true, false}
+use mathlib.Core.Path.{_≡_, refl, sym, ap, _∙_, subst}
 use mathlib.Core.Option.{Option, none, some}
 use mathlib.Core.List.{List, [], _∷_, _++_}
-use lib.ListN.{length, getD, drop}
+use lib.ListN.{length, getD, drop, length-append}
 use Rattle.system.specs.Limits.{termWords, levels}
-use Rattle.system.specs.Numbers.{Limit, spent, overlong, nested, full}
+use Rattle.system.specs.Numbers.{Limit, nested}
 use Rattle.system.specs.Signature.{argument}
 use Rattle.system.specs.System.{System, Rule}
 use Rattle.system.specs.Rules.{RuleOf}
@@ -18,16 +16,19 @@ use Rattle.system.proofs.Members.{member-getD}
 use Rattle.reader.proofs.Parsed.{drop-head}
 use Rattle.matching.specs.Matching.{Contraction, contraction, Matches}
 use Rattle.rewriting.specs.Trace.{Trace}
-use Rattle.rewriting.specs.Evaluation.{Limits, hasRoom, Config, start, stepped, steps, Outcome, finished, stopped, evaluation}
-use Rattle.rewriting.specs.Rewriting.{Active, root, below, Step, Path, begin, then}
+use Rattle.rewriting.specs.Evaluation.{Limits, Config, start, stepped, steps, Outcome, finished, stopped, evaluation}
+use Rattle.rewriting.specs.Rewriting.{Active, root, below, Step, Path, begin}
 use Rattle.rewriting.specs.Stopped.{levelOf, Opens, first, past, Halts, noSteps, noRoom, tooLong, tooDeep, Stopped}
-use Rattle.rewriting.specs.Machine.{strategyAt, down, position, Next, final, deep, ready, around, scan, enter, advance, iterate}
+use Rattle.rewriting.specs.Machine.{strategyAt, down, position, Next, final, deep, ready, around, scan, enter, advance}
 use Rattle.rewriting.specs.levels.Opened.{Opened, base, level}
-use Rattle.rewriting.proofs.Walks.{roomy as has-room}
-use Rattle.rewriting.proofs.Contractions.{none-there, step-there}
-use Rattle.rewriting.proofs.OpenLevels.{opened-active, opened-replace}
-use Rattle.rewriting.proofs.Iterate.{scan-pass, scan-fire, Reached, reached}
-use Rattle.rewriting.proofs.MachineTheorem.{iterate-final, iterate-deep, iterate-spent, iterate-full, iterate-long, iterate-goes, evaluation-iterate}
+use Rattle.rewriting.specs.Runs.{Came, ended, sunk, barred, waits, configOf, outcomeOf, come, run}
+use Rattle.rewriting.proofs.Contractions.{none-there}
+use Rattle.rewriting.proofs.OpenLevels.{opened-replace}
+use Rattle.rewriting.proofs.Iterate.{fires-within, scan-pass, scan-fire}
+use Rattle.rewriting.proofs.Runs.{Bars, bySteps, byRoom, byLength, tests-cases, come-final, come-deep, come-waits, come-steps, run-is, run-evaluates}
+use Rattle.rewriting.proofs.Comings.{Stood, stood, open-state}
+use Rattle.rewriting.proofs.Taken.{Took, run-took}
+use Rattle.rewriting.proofs.RunPaths.{Along, Led, run-led}
 
 -- ---- where the machine comes to: the levels around the next rewrite are open, and an argument that would be opened too deep is one of the last level
 
@@ -108,7 +109,47 @@ sinks-halts : (s : System) (wf : WellFormed s) {t : List ℕ} → Whole (s .arit
 unfolding levelOf
 sinks-halts s wf w limits h d = sinks-below s wf w limits h root d refl
 
--- ---- the rounds
+-- ---- a run that sinks
+
+module _ (s : System) (wf : WellFormed s) (limits : Limits) where
+  abbrev Sunk : Came → Type 0
+  Sunk (ended r) = Unit {0}
+  Sunk (sunk r) = Sinks s (r .term) levels 0
+  Sunk (barred l outer c x r) = Unit {0}
+  Sunk (waits outer c x r) = Unit {0}
+
+  come-sunk : (k : ℕ) (n : Next) (r : Config) → Lands s (r .term) levels 0 n → Stood s (r .term) levels 0 n → Sunk (come s limits 0 k n r)
+  come-sunk zero n r o m = go n o
+    where
+      go : (n : Next) → Lands s (r .term) levels 0 n → Sunk (come s limits 0 0 n r)
+      go final o = subst Sunk (sym (come-final s limits 0 0 r)) tt
+      go deep o = subst Sunk (sym (come-deep s limits 0 0 r)) o
+      go (ready outer c x) o =
+          subst Sunk (sym (come-waits s limits 0 outer c x r))
+          (tests-cases s limits outer c x r Sunk (position s (r .term) outer 0) (waits outer c x r) (λ l b. tt) (λ f. tt))
+  come-sunk (suc k) n r o m = go n o m (λ n r. come-sunk k n r)
+    where
+      go : (n : Next) → Lands s (r .term) levels 0 n → Stood s (r .term) levels 0 n →
+          ((n : Next) (r : Config) → Lands s (r .term) levels 0 n → Stood s (r .term) levels 0 n → Sunk (come s limits 0 k n r)) → Sunk (come s limits 0 (suc k) n r)
+      go final o m ih = subst Sunk (sym (come-final s limits 0 (suc k) r)) tt
+      go deep o m ih = subst Sunk (sym (come-deep s limits 0 (suc k) r)) o
+      go (ready outer c x) o m ih =
+          let q = position s (r .term) outer 0 in
+          let r₁ = stepped s q r x in
+          let t₁ = r₁ .term in
+          let n = advance s levels (outer ++ 0 ∷ []) t₁ 0 in
+          let d : Opened s t₁ 0 outer = opened-replace s (r .term) (x .reduct) q (o .0) (omega arith) (fires-within s wf (r .term) q x (m .1)) .0 in
+          let on = ih n r₁ (lands s t₁ 63 d (let z = o .1 in omega arith)) (stood s t₁ levels (outer ++ 0 ∷ []) 0 (open-state s t₁ d 0)) in
+          subst Sunk (sym (come-steps s limits 0 outer c x r k)) (tests-cases s limits outer c x r Sunk q (run s limits 0 k (outer ++ 0 ∷ []) r₁) (λ l b. tt)
+          (λ f. subst Sunk (sym (run-is s limits 0 k (outer ++ 0 ∷ []) r₁)) on))
+
+  run-sunk : (k : ℕ) (r : Config) → Sunk (run s limits 0 k (0 ∷ []) r)
+  run-sunk k r =
+      let t = r .term in
+      subst Sunk (sym (run-is s limits 0 k (0 ∷ []) r))
+      (come-sunk k (advance s levels (0 ∷ []) t 0) r (lands s t 63 base (omega arith)) (stood s t levels (0 ∷ []) 0 (open-state s t base 0)))
+
+-- ---- the theorem: by the steps of a run that has as many as the limit allows
 
 module _ (s : System) (wf : WellFormed s) (limits : Limits) (t₀ : List ℕ) where
   -- what an end tells: the steps of its trace lead from t₀ to the term that is handed back, or to the one at which the evaluation stopped
@@ -116,80 +157,46 @@ module _ (s : System) (wf : WellFormed s) (limits : Limits) (t₀ : List ℕ) wh
   Ends (finished r) = Path s termWords t₀ (r .trace) (r .term)
   Ends (stopped n h) = Stopped s limits t₀ n h
 
-  -- the evaluation of t₀ has come to r, below the open levels cs, and k rounds are enough for the rest
-  record Comes (k : ℕ) (cs : List ℕ) (r : Config) : Type 0 where
-    path : Path s termWords t₀ (r .trace) (r .term)
-    whole : Whole (s .arities) (r .term)
-    opened : Opened s (r .term) 0 cs
-    shallow : length cs < levels
-    afford : steps r ≤ limits .steps
-    roomy : (m : ℕ) → limits .room ≡ some m → 2 * steps r ≤ m
-    rounds : limits .steps < k + steps r
+  module _ (o : Came) (y : Took s limits 0 (limits .steps) (start t₀) o) where
+    affords : steps (configOf o) ≤ limits .steps
+    affords = y .afford (omega arith)
 
-  -- a round
-  module _ (k : ℕ) (cs xs : List ℕ) (r : Config) (v : Comes (suc k) cs r) where
-    abbrev t : List ℕ
-    t = r .term
+    halt : {n : Limit} → Along s wf limits t₀ 0 (configOf o) → Halts s limits (configOf o .term) (configOf o .trace) n → Stopped s limits t₀ n (configOf o .trace)
+    halt h w = record {
+      last = configOf o .term;
+      path = h .path;
+      whole = h .whole;
+      afford = affords;
+      roomy = λ m e. y .roomy m e (omega arith);
+      why = w;
+    }
 
-    halt : {n : Limit} → Halts s limits t (r .trace) n → Stopped s limits t₀ n (r .trace)
-    halt w = record { last = t; path = v .path; whole = v .whole; afford = v .afford; roomy = v .roomy; why = w }
+  -- a limit stopped the next step
+  barred-halts : {q : ℕ} {x : Contraction} {r : Config} {l : Limit} → Step s (r .term) (stepped s q r x .term) → steps r ≤ limits .steps → Bars s limits q x r l →
+      Halts s limits (r .term) (r .trace) l
+  barred-halts d a (bySteps n) = noSteps d (omega arith)
+  barred-halts d a (byRoom n b) = noRoom d n b
+  barred-halts d a (byLength n b m) = tooLong d n b m
 
-    -- in which a rewrite is next, below the levels `outer`
-    module _ (outer : List ℕ) (c : ℕ) (x : Contraction) (e : advance s levels xs t 0 ≡ ready outer c x) (o : Lands s t levels 0 (ready outer c x))
-        (f : contraction s (drop (position s t outer 0) t) ≡ some x) where
-      abbrev after : Config
-      after = stepped s (position s t outer 0) r x
-
-      abbrev next : Step s t (after .term)
-      next = step-there s wf (v .whole) (opened-active s t root (o .0)) x f
-
-      -- the state after it
-      comes-after : steps r < limits .steps → hasRoom (limits .room) (steps r) ≡ true → length (after .term) ≤ termWords → Comes k outer after
-      comes-after l b m =
-          let z = v .rounds in
-          record {
-            path = then (v .path) next m;
-            whole = next .left;
-            opened = opened-replace s t (x .reduct) (position s t outer 0) (o .0) (omega arith) (next .within) .0;
-            shallow = o .1;
-            afford = l;
-            roomy = λ m e. let y = has-room (limits .room) (steps r) m e b in omega arith;
-            rounds = omega arith;
-          }
-
-      ready-ends : (Comes k outer after → Ends (iterate s limits k (outer ++ 0 ∷ []) after)) → Ends (iterate s limits (suc k) xs r)
-      ready-ends on = elim (decLt (steps r) (limits .steps)) [
-        | no l ↦ rw (iterate-spent s limits k xs r outer c x e (omega arith)) (halt (noSteps next (let z = v .afford in omega arith)))
-        | yes l ↦ room l (hasRoom (limits .room) (steps r)) refl
-      ]
-        where
-          room : steps r < limits .steps → (b : Bool) → hasRoom (limits .room) (steps r) ≡ b → Ends (iterate s limits (suc k) xs r)
-          room l false b = rw (iterate-full s limits k xs r outer c x e l b) (halt (noRoom next l b))
-          room l true b = elim (decLe (length (after .term)) termWords) [
-            | no m ↦ rw (iterate-long s limits k xs r outer c x e l b (omega arith)) (halt (tooLong next l b (omega arith)))
-            | yes m ↦ rw (iterate-goes s limits k xs r outer c x e l b m) (on (comes-after l b m))
-          ]
-
-  iterate-ends : (k : ℕ) (cs : List ℕ) (r : Config) → Comes k cs r → Ends (iterate s limits k (cs ++ 0 ∷ []) r)
-  iterate-ends zero cs r v = absurd (let z = v .afford in let z′ = v .rounds in omega arith)
-  iterate-ends (suc k) cs r v =
-      go (advance s levels xs (r .term) 0) refl (reached s wf limits r levels xs 0) (lands s (r .term) 63 (v .opened) (let z = v .shallow in omega arith))
-      (λ cs r. iterate-ends k cs r)
-    where
-      xs : List ℕ
-      xs = cs ++ 0 ∷ []
-
-      go : (n : Next) → advance s levels xs (r .term) 0 ≡ n → Reached s wf limits r levels xs 0 (advance s levels xs (r .term) 0) →
-          Lands s (r .term) levels 0 (advance s levels xs (r .term) 0) →
-          ((cs : List ℕ) (r : Config) → Comes k cs r → Ends (iterate s limits k (cs ++ 0 ∷ []) r)) → Ends (iterate s limits (suc k) xs r)
-      go final e y o ih = rw (iterate-final s limits k xs r e) (v .path)
-      go deep e y o ih = rw (iterate-deep s limits k xs r e) (halt k cs xs r v (sinks-halts s wf (v .whole) limits (r .trace) (rw e at o)))
-      go (ready outer d x) e y o ih = ready-ends k cs xs r v outer d x e (rw e at o) ((rw e at y) .0) (ih outer (stepped s (position s (r .term) outer 0) r x))
+  came-ends : (o : Came) → Took s limits 0 (limits .steps) (start t₀) o → Led s wf limits t₀ 0 o → Sunk s wf limits o → Ends (outcomeOf o)
+  came-ends (ended r) y h d = h .path
+  came-ends (sunk r) y h d = halt (sunk r) y h (sinks-halts s wf (h .whole) limits (r .trace) d)
+  came-ends (barred l outer c x r) y h d =
+      let o = barred l outer c x r in
+      halt o y (h .0) (barred-halts (h .1) (affords o y) (y .judged))
+  came-ends (waits outer c x r) y h d =
+      let n : steps r ≡ limits .steps = ap length (y .trace) ∙ length-append (y .more) [] ∙ (let z = y .all tt in omega arith) in
+      absurd (let z = y .judged .0 in omega arith)
 
   -- however an evaluation ends, it took the steps of its trace
   pub evaluation-ends : Whole (s .arities) t₀ → length t₀ ≤ termWords → Ends (evaluation s limits t₀)
-  evaluation-ends h l = rw (evaluation-iterate s limits wf t₀) (iterate-ends (suc (limits .steps)) [] (start t₀)
-      (record { path = begin l; whole = h; opened = base; shallow = omega arith; afford = omega arith; roomy = λ m e. omega arith; rounds = omega arith }))
+  unfolding evaluation
+  evaluation-ends h l =
+      let n = limits .steps in
+      let r = start t₀ in
+      let along : Along s wf limits t₀ 0 r = record { path = begin l; whole = h; active = root } in
+      subst Ends (run-evaluates s limits 0 wf n r (omega arith) (omega arith))
+      (came-ends (run s limits 0 n (0 ∷ []) r) (run-took s limits 0 n (0 ∷ []) r) (run-led s wf limits t₀ 0 n [] 0 r along base) (run-sunk s wf limits n r))
 
   -- one that a limit stops
   pub stopped-path : (n : Limit) (h : Trace) → Whole (s .arities) t₀ → length t₀ ≤ termWords → evaluation s limits t₀ ≡ stopped n h → Stopped s limits t₀ n h

@@ -1,8 +1,9 @@
 -- The steps that a run takes: how many; that the one before which it stands is stopped by the limit that it tells, or by none; and that they are the
 -- first ones of the evaluation there.
-use Prim.Native.Nat.{ℕ, zero, suc, _+_, _≤_}
+use Prim.Native.Nat.{ℕ, zero, suc, _+_, _*_, _≤_}
 use native.Mathlib.Omega.{arith}
 use mathlib.Core.Path.{_≡_, refl, sym, ap, _∙_, subst}
+use mathlib.Core.Option.{some}
 use mathlib.Core.List.{List, [], _∷_, _++_, append-assoc}
 use lib.ListN.{length, length-append}
 use Rattle.system.specs.Limits.{levels}
@@ -13,6 +14,7 @@ use Rattle.rewriting.specs.Trace.{Trace}
 use Rattle.rewriting.specs.Evaluation.{Limits, Config, stepped, steps, evaluate, traceOf}
 use Rattle.rewriting.specs.Machine.{position, Next, final, deep, ready, advance}
 use Rattle.rewriting.specs.Runs.{Came, ended, sunk, barred, waits, configOf, outcomeOf, come, run, onward}
+use Rattle.rewriting.proofs.Walks.{roomy as has-room}
 use Rattle.rewriting.proofs.Runs.{Bars, Free, tests-cases, come-final, come-deep, come-waits, come-steps, run-is, run-more, run-evaluates}
 
 module _ (s : System) (limits : Limits) (p : ℕ) where
@@ -30,19 +32,21 @@ module _ (s : System) (limits : Limits) (p : ℕ) where
   Judged (barred l outer c x r) = Bars s limits (position s (r .term) outer p) x r l
   Judged (waits outer c x r) = Free s limits (position s (r .term) outer p) x r
 
-  -- from r at most k steps were taken, these; and just k where it waits
+  -- from r at most k steps were taken, these, and just k where it waits; no more than the step limit allows, and a record has room for their pairs
   pub record Took (k : ℕ) (r : Config) (o : Came) : Type 0 where
     pub more : Trace
     pub trace : configOf o .trace ≡ more ++ r .trace
     pub most : length more ≤ k
     pub all : Waits o → length more ≡ k
+    pub afford : steps r ≤ limits .steps → steps (configOf o) ≤ limits .steps
+    pub roomy : (m : ℕ) → limits .room ≡ some m → 2 * steps r ≤ m → 2 * steps (configOf o) ≤ m
     pub judged : Judged o
 
   took-none : (k : ℕ) (o : Came) → (Waits o → 0 ≡ k) → Judged o → Took k (configOf o) o
-  took-none k o w c = record { more = []; trace = refl; most = omega arith; all = w; judged = c }
+  took-none k o w c = record { more = []; trace = refl; most = omega arith; all = w; afford = λ h. h; roomy = λ m e h. h; judged = c }
 
-  took-one : (k : ℕ) (q : ℕ) (r : Config) (x : Contraction) (o : Came) → Took k (stepped s q r x) o → Took (suc k) r o
-  took-one k q r x o y =
+  took-one : (k : ℕ) (q : ℕ) (r : Config) (x : Contraction) (o : Came) → Free s limits q x r → Took k (stepped s q r x) o → Took (suc k) r o
+  took-one k q r x o f y =
       let d : Trace = record { at = q; number = x .number } ∷ [] in
       let n = length-append (y .more) d in
       record {
@@ -50,6 +54,8 @@ module _ (s : System) (limits : Limits) (p : ℕ) where
         trace = y .trace ∙ sym (append-assoc (y .more) d (r .trace));
         most = (let z = y .most in omega arith);
         all = λ w. (let z = y .all w in omega arith);
+        afford = λ h. y .afford (f .0);
+        roomy = λ m e h. y .roomy m e (let z = has-room (limits .room) (steps r) m e (f .1) in omega arith);
         judged = y .judged;
       }
 
@@ -72,7 +78,7 @@ module _ (s : System) (limits : Limits) (p : ℕ) where
           let on = run s limits p k (outer ++ 0 ∷ []) r₁ in
           let then : Took k r₁ on = subst (Took k r₁) (sym (run-is s limits p k (outer ++ 0 ∷ []) r₁)) (ih (advance s levels (outer ++ 0 ∷ []) (r₁ .term) p) r₁) in
           subst (Took (suc k) r) (sym (come-steps s limits p outer c x r k)) (tests-cases s limits outer c x r (Took (suc k) r) q on
-          (λ l b. took-none (suc k) (barred l outer c x r) (λ w. absurd w) b) (λ f. took-one k q r x on then))
+          (λ l b. took-none (suc k) (barred l outer c x r) (λ w. absurd w) b) (λ f. took-one k q r x on f then))
 
   -- the theorem: the steps that a run took, and what stops the next one
   pub run-took : (k : ℕ) (cs : List ℕ) (r : Config) → Took k r (run s limits p k cs r)
