@@ -21,6 +21,7 @@ use Rattle.rewriting.specs.Rewriting.{Active, root, below, Step, Path, b
 use Rattle.rewriting.specs.Stopped.{levelOf, Opens, first, past, Halts, noSteps, noRoom, tooLong, tooDeep, Stopped}
 use Rattle.rewriting.specs.Machine.{strategyAt, down, position, Next, final, deep, ready, around, scan, enter, advance}
 use Rattle.rewriting.specs.levels.Opened.{Opened, base, level}
+use Rattle.rewriting.specs.levels.Lengths.{top}
 use Rattle.rewriting.specs.Runs.{Came, ended, sunk, barred, waits, configOf, outcomeOf, come, run}
 use Rattle.rewriting.proofs.Contractions.{none-there}
 use Rattle.rewriting.proofs.OpenLevels.{opened-replace}
@@ -194,7 +195,7 @@ module _ (s : System) (wf : WellFormed s) (limits : Limits) (t₀ : List ℕ) wh
   evaluation-ends h l =
       let n = limits .steps in
       let r = start t₀ in
-      let along : Along s wf limits t₀ 0 r = record { path = begin l; whole = h; active = root } in
+      let along : Along s wf limits t₀ 0 r = record { path = begin l; whole = h; symbols = []; way = top } in
       subst Ends (run-evaluates s limits 0 wf n r (omega arith) (omega arith))
       (came-ends (run s limits 0 n (0 ∷ []) r) (run-took s limits 0 n (0 ∷ []) r) (run-led s wf limits t₀ 0 n [] 0 r along base) (run-sunk s wf limits n r))
 
