@@ -26,7 +26,7 @@ use Rattle.rewriting.proofs.Actives.{At, at-parted}
 use Rattle.rewriting.proofs.Done.{whole-within}
 use Rattle.rewriting.proofs.Laws.{next-entry}
 use Rattle.rewriting.proofs.OpenLevels.{opened-at, opened-replace}
-use Rattle.rewriting.proofs.Iterate.{scan-pass, scan-fire}
+use Rattle.rewriting.proofs.Reached.{scan-pass, scan-fire}
 use Rattle.rewriting.proofs.WayRows.{way-spans-rewrite}
 use Rattle.rewriting.proofs.Everywhere.{every-formed}
 use Rattle.rewriting.proofs.Runs.{tests-cases, come-final, come-deep, come-waits, come-steps, run-is, run-more}

@@ -6,11 +6,10 @@ use mathlib.Core.Option.{none, some}
 use mathlib.Core.List.{List, [], _∷_, _++_}
 use lib.ListN.{length, getD, drop}
 use lib.Seq.{drop-cons}
-use Rattle.system.specs.Limits.{levels}
 use Rattle.system.specs.Signature.{argument, replace}
 use Rattle.system.specs.System.{System, strategy}
 use Rattle.matching.specs.Matching.{Contraction, contraction}
-use Rattle.rewriting.specs.Evaluation.{Limits, Config, start, stepped, Outcome, finished, stopped, andThen, rewrite, follow, evaluate, evaluation}
+use Rattle.rewriting.specs.Evaluation.{Limits, Config, stepped, Outcome, finished, stopped, andThen, rewrite, follow, evaluate}
 use Rattle.system.specs.Numbers.{nested}
 use Rattle.rewriting.specs.Machine.{others, last, strategyAt, down, position}
 use Rattle.system.proofs.Places.{replace-word, replace-argument}
@@ -88,10 +87,6 @@ module _ (s : System) (limits : Limits) where
   unfolding evaluate
   resume-start zero p r = resume-deep 0 [] p r
   resume-start (suc l) p r = resume-top l 0 p r ∙ sym (evaluate-again s limits l p r)
-
-  pub resume-evaluation : (t : List ℕ) → resume s limits levels (0 ∷ []) 0 (start t) ≡ evaluation s limits t
-  unfolding evaluation
-  resume-evaluation t = resume-start levels 0 (start t)
 
   -- the laws at the innermost level
   module _ (l c p : ℕ) (r : Config) where

@@ -11,8 +11,7 @@ pub mod Found
 pub mod Fuel
 pub mod Laws
 pub mod OpenLevels
-pub mod Iterate
-pub mod MachineTheorem
+pub mod Reached
 pub mod Runs
 pub mod Comings
 pub mod Taken

@@ -19,7 +19,7 @@ use Rattle.rewriting.specs.Machine.{position, Next, final, deep, ready, 
 use Rattle.rewriting.specs.Runs.{Came, ended, sunk, barred, waits, outcomeOf, before, fitting, come, run, onward}
 use Rattle.rewriting.proofs.Walks.{rewrite-spent, rewrite-full, rewrite-long, rewrite-goes}
 use Rattle.rewriting.proofs.Laws.{resume, resume-start}
-use Rattle.rewriting.proofs.Iterate.{Reached, reached}
+use Rattle.rewriting.proofs.Reached.{Reached, reached}
 
 module _ (s : System) (limits : Limits) (q : ℕ) (x : Contraction) (r : Config) where
   -- a limit that stops the step at q: 11, 16, 12

@@ -25,7 +25,7 @@ use Rattle.rewriting.specs.levels.Lengths.{top}
 use Rattle.rewriting.specs.Runs.{Came, ended, sunk, barred, waits, configOf, outcomeOf, come, run}
 use Rattle.rewriting.proofs.Contractions.{none-there}
 use Rattle.rewriting.proofs.OpenLevels.{opened-replace}
-use Rattle.rewriting.proofs.Iterate.{fires-within, scan-pass, scan-fire}
+use Rattle.rewriting.proofs.Reached.{fires-within, scan-pass, scan-fire}
 use Rattle.rewriting.proofs.Runs.{Bars, bySteps, byRoom, byLength, tests-cases, come-final, come-deep, come-waits, come-steps, run-is, run-evaluates}
 use Rattle.rewriting.proofs.Comings.{Stood, stood, open-state}
 use Rattle.rewriting.proofs.Taken.{Took, run-took}

@@ -1,15 +1,12 @@
 -- The evaluation as a machine that can stop between any two transitions and go on. A state is a run and, for each open level, outermost first,
 -- how many entries of its strategy are begun. The level below starts at the argument that the entry last begun tells of.
 use Prim.Native.Nat.{ℕ, zero, suc}
-use mathlib.Core.List.{List, [], _∷_, _++_}
+use mathlib.Core.List.{List, [], _∷_}
 use mathlib.Core.Option.{none, some}
 use lib.ListN.{getD, drop}
 use Rattle.system.specs.Signature.{argument}
 use Rattle.system.specs.System.{System, strategy}
 use Rattle.matching.specs.Matching.{Contraction, contraction}
-use Rattle.rewriting.specs.Evaluation.{Limits, Config, Outcome, finished, stopped, rewrite}
-use Rattle.system.specs.Numbers.{spent, nested}
-use Rattle.system.specs.Limits.{levels}
 
 -- how many arguments stand before the one that an entry tells of
 abbrev pub others : ℕ → ℕ
@@ -69,13 +66,3 @@ advance s zero (c ∷ cs) t p = deep
 advance s (suc l) (c ∷ cs) t p =
     let on = scan s (enter s l t) t (drop c (strategyAt s t p)) c p in
     around c (advance s l cs t (down s t p c)) on
-
--- advance to the next rewrite and rewrite, at most so many times: the whole evaluation is this (`evaluation-iterate`)
-unfoldable pub iterate : System → Limits → ℕ → List ℕ → Config → Outcome
-iterate s limits zero cs r = stopped spent (r .trace)
-iterate s limits (suc k) cs r =
-    elim (advance s levels cs (r .term) 0) [
-      | final ↦ finished r
-      | deep ↦ stopped nested (r .trace)
-      | ready outer c x ↦ rewrite s limits (position s (r .term) outer 0) r x (λ r′. iterate s limits k (outer ++ 0 ∷ []) r′)
-    ]

@@ -66,7 +66,7 @@ module _ (s : System) (limits : Limits) where
             before outer c x r (fitting q outer c x r (come p k (advance s levels (outer ++ 0 ∷ []) (r₁ .term) p) r₁))
       ]
 
-  -- from a state
+  -- from a state. With as many steps as the limit allows, from the start at position 0, it is the whole evaluation (`run-evaluates`)
   unfoldable pub run : ℕ → ℕ → List ℕ → Config → Came
   run p k cs r = come p k (advance s levels cs (r .term) p) r
 

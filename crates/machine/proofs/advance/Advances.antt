@@ -12,7 +12,7 @@ use Rattle.matching.specs.Matching.{Contraction, contraction}
 use Rattle.rewriting.specs.Machine.{strategyAt, down, position, Next, final, deep, ready, around, scan, enter, advance}
 use Rattle.rewriting.proofs.Laws.{next-entry, entry-at}
 use Rattle.machine.proofs.advance.Levels.{onto, outward, given-below}
-use Rattle.rewriting.proofs.Iterate.{scan-fire}
+use Rattle.rewriting.proofs.Reached.{scan-fire}
 use Rattle.machine.proofs.advance.Skipping.{Skips, scan-over}
 
 module _ (s : System) (t : List ℕ) where

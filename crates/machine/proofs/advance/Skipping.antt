@@ -20,7 +20,7 @@ use Rattle.rewriting.specs.levels.Opened.{Opened, level}
 use Rattle.layout.specs.entries.Entries.{between}
 use Rattle.machine.specs.advance.Transition.{sinceAt}
 use Rattle.rewriting.proofs.Laws.{position-snoc}
-use Rattle.rewriting.proofs.Iterate.{scan-pass}
+use Rattle.rewriting.proofs.Reached.{scan-pass}
 use Rattle.layout.proofs.entries.Repeats.{among-member, between-none, between-more, between-all}
 
 module _ (s : System) (t : List ℕ) where

@@ -1,4 +1,4 @@
--- Where the machine comes to tells what is left to do: the induction on which its theorem (MachineTheorem.antt) rests.
+-- Where the machine comes to tells what is left to do: the induction on which its theorem (`run-evaluates`, Runs.antt) rests.
 use Prim.Native.Nat.{ℕ, zero, suc, _+_, _<_}
 use native.Mathlib.Omega.{arith}
 use native.Mathlib.Decide.{decLt}
