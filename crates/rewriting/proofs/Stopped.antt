@@ -113,6 +113,7 @@ sinks-halts s wf w limits h d = sinks-below s wf w limits h root d refl
 -- ---- a run that sinks
 
 module _ (s : System) (wf : WellFormed s) (limits : Limits) where
+  -- from the first entry of the whole term's strategy on, 13 tells of an argument that is next on the last level
   abbrev Sunk : Came → Type 0
   Sunk (ended r) = Unit {0}
   Sunk (sunk r) = Sinks s (r .term) levels 0
