@@ -1,11 +1,11 @@
--- The structs that C sees, as what the libraries answer.
+-- The structs that C sees, as what the libraries answer, and the version of what C sees.
+use Prim.Native.Nat.{ℕ, _+_, _*_}
 use Rattle.system.specs.declared.Answer.{Answer}
 use Rattle.reader.specs.declared.Shape.{Shape}
 use Rattle.reader.specs.declared.ArgumentSpan.{ArgumentSpan}
 use Rattle.matching.specs.declared.Match.{Match}
 use Rattle.matching.specs.declared.FirstRule.the-variants.{Nothing, First, Computed}
 use Rattle.cue.specs.declared.CueAnswer.{CueAnswer}
-use Rattle.cue.specs.declared.CueReplayed.{CueReplayed}
 use Rattle.cue.specs.declared.CueShape.{CueShape}
 use Rattle.cue.specs.declared.CuePart.{CuePart}
 use Rattle.cue.specs.declared.CueMatch.{CueMatch}
@@ -17,10 +17,6 @@ answerFor a = record { number = a .number; place = a .place; steps = a .steps }
 -- and back, where the library's promise is of the answer together with the buffers
 abbrev pub asAnswer : CueAnswer → Answer
 asAnswer a = record { number = a .number; place = a .place; steps = a .steps }
-
--- of a replay
-abbrev pub replayedAnswer : CueReplayed → Answer
-replayedAnswer a = record { number = a .number; place = a .place; steps = a .steps }
 
 abbrev pub shapeFor : Shape → CueShape
 shapeFor s = record { symbols = s .symbols; strategies = s .strategies; rules = s .rules; «first_rule» = s .«first_rule» }
@@ -37,3 +33,7 @@ matchFor m =
       | First k at n ↦ record { found = 1; number = k; rhs = at; size = n; starts = m .starts; lengths = m .lengths; word = 0 }
       | Computed k w ↦ record { found = 1; number = k; rhs = 0; size = 0; starts = m .starts; lengths = m .lengths; word = w }
     ]
+
+-- the version of include/cue.h, 4.0, as one number: the first times 65,536 and the second
+abbrev pub version : ℕ
+version = 4 * 65536 + 0

@@ -1,5 +1,5 @@
-// The libraries' public operations for C and other languages: include/cue.h declares what stands here. Each function hands its
-// arguments on and its answer back; none asks anything of its caller.
+// The libraries' public operations for C and other languages, but for the replay's, which `cue_replay` has: include/cue.h declares what
+// stands here. Each function hands its arguments on and its answer back; none asks anything of its caller.
 ghost use mathlib.Core.Path.{_≡_};
 ghost use Rattle.reader.specs.Answers.{answerOf, shapeOf, termAnswer, argumentSpan};
 ghost use Rattle.system.specs.Signature.{signatureOf};
@@ -13,15 +13,17 @@ ghost use Rattle.termination.specs.WeightTest.{weightsAnswer, weightLimit};
 ghost use lib.ListN.{length};
 ghost use Rattle.rewriting.specs.Evaluation.{unrecorded, recorded};
 ghost use Rattle.evaluation.specs.Expansion.{result, expansion, recordAfter};
-ghost use Rattle.replay.specs.Replaying.{replaying, AcceptsExactly, IsMistold};
 ghost use Rattle.demands.specs.Demand3.{IsDone, IsStopped, IsHandedBack, IsFound, secondly, RestsAgain};
-ghost use Rattle.demands.specs.Retracing.{Reported, retracing, IsRetraced};
-ghost use Rattle.cue.specs.Exports.{answerFor, asAnswer, replayedAnswer, shapeFor, partFor, matchFor};
+ghost use Rattle.cue.specs.Exports.{answerFor, asAnswer, shapeFor, partFor, matchFor, version};
 use matching::FirstRule;
-use replay::Replayed;
 use system::Answer;
 use system::limits::VARIABLES;
 use termination::weighing::weigh;
+
+// The version of include/cue.h, which has the same two numbers.
+pub const VERSION_MAJOR: u32 = 4;
+
+pub const VERSION_MINOR: u32 = 0;
 
 // Three numbers: one of 01's table, a place, and steps.
 #[repr(C)]
@@ -76,22 +78,8 @@ pub struct CueTwice {
     pub second: CueAnswer,
 }
 
-// The three numbers of a replay: a record may have more pairs than 32 bits tell.
-#[repr(C)]
-pub struct CueReplayed {
-    pub number: u32,
-    pub place: usize,
-    pub steps: usize,
-}
-
-// The answers of an expansion with a record, and of its replay.
-#[repr(C)]
-pub struct CueRetraced {
-    pub answer: CueAnswer,
-    pub replay: CueReplayed,
-}
-
-fn answer_for(a: Answer) -> CueAnswer
+// Three numbers of the libraries as those of C; the crate `cue_replay` hands its answers on by it too.
+pub fn answer_for(a: Answer) -> CueAnswer
     ensures { λ r. ⌜ r ≡ answerFor a ⌝ }
 {
     CueAnswer {
@@ -101,14 +89,12 @@ fn answer_for(a: Answer) -> CueAnswer
     }
 }
 
-fn replayed_for(e: Replayed) -> CueReplayed
-    ensures { λ r. ⌜ r ≡ record { number = e .number; place = e .place; steps = e .steps } ⌝ }
+// The version that this archive was built for: where it is not the header's CUE_VERSION, the two do not belong together.
+#[no_mangle]
+pub extern "C" fn cue_version() -> u32
+    ensures { λ r. ⌜ r ≡ version ⌝ }
 {
-    CueReplayed {
-        number: e.number,
-        place: e.place,
-        steps: e.steps,
-    }
+    VERSION_MAJOR * 65536 + VERSION_MINOR
 }
 
 // Reads a book.
@@ -242,7 +228,7 @@ pub extern "C" fn cue_expand(
     answer_for(evaluation::expand(book, term, limit, out, work))
 }
 
-// Tests the book's strategies and expands the term: "done" whether or not the book passed, "found" where it did, and where a limit stops it, why.
+// Tests the book's strategies and expands the term: "done" whether or not the book passed, "found" where it did.
 #[no_mangle]
 pub extern "C" fn cue_expand_checked(
     book: &[u16],
@@ -317,60 +303,4 @@ pub extern "C" fn cue_expand_recorded(
         (recorded limit (length (now («record» .entry)))) (now (out .entry)) (now (work .entry)) (now («record» .entry)) ⌝ }
 {
     answer_for(evaluation::expand_recorded(book, term, limit, out, work, record))
-}
-
-// Follows a record over a book from a term on.
-#[no_mangle]
-pub extern "C" fn cue_replay(
-    book: &[u16],
-    term: &[u16],
-    record: &[u16],
-    out: &mut [u16],
-    work: &mut [u16],
-) -> CueReplayed
-    ensures replayed { λ r. ⌜ result (replayedAnswer r) (now (out .exit)) (now (work .exit))
-        ≡ replaying (now (book .entry)) (now (term .entry)) (now («record» .entry)) (now (out .entry)) (now (work .entry)) ⌝ }
-    ensures exact { λ r. ⌜ AcceptsExactly (now (book .entry)) (now (term .entry)) (now («record» .entry)) (now (out .entry)) (now (work .entry))
-        (result (replayedAnswer r) (now (out .exit)) (now (work .exit))) ⌝ }
-    ensures mistold { λ r. ⌜ IsMistold (now (book .entry)) (now (term .entry)) (now («record» .entry))
-        (result (replayedAnswer r) (now (out .exit)) (now (work .exit))) ⌝ }
-{
-    replayed_for(replay::replay(book, term, record, out, work))
-}
-
-// Expands the term with a record, and follows the record, cut to its pairs, in a second pair of buffers; where nothing is handed back the
-// answer's numbers stand for the replay's.
-#[no_mangle]
-pub extern "C" fn cue_expand_retraced(
-    book: &[u16],
-    term: &[u16],
-    limit: u32,
-    out: &mut [u16],
-    work: &mut [u16],
-    record: &mut [u16],
-    again: &mut [u16],
-    spare: &mut [u16],
-) -> CueRetraced
-    ensures expanded { λ r. ⌜ result (asAnswer (r .answer)) (now (out .exit)) (now (work .exit))
-        ≡ expansion (now (book .entry)) (now (term .entry)) (recorded limit (length (now («record» .entry))))
-        (now (out .entry)) (now (work .entry)) ⌝ }
-    ensures told { λ _. ⌜ now («record» .exit) ≡ recordAfter (now (book .entry)) (now (term .entry))
-        (recorded limit (length (now («record» .entry)))) (now (out .entry)) (now (work .entry)) (now («record» .entry)) ⌝ }
-    ensures replayed { λ r. ⌜ result (replayedAnswer (r .replay)) (now (again .exit)) (now (spare .exit))
-        ≡ retracing (now (book .entry)) (now (term .entry)) (asAnswer (r .answer)) (now («record» .exit))
-        (now (again .entry)) (now (spare .entry)) ⌝ }
-    ensures done { λ r. ⌜ IsDone (now (book .entry)) (now (term .entry)) (recorded limit (length (now («record» .entry))))
-        (result (asAnswer (r .answer)) (now (out .exit)) (now (work .exit))) ⌝ }
-    ensures retraced { λ r. ⌜ IsRetraced (result (asAnswer (r .answer)) (now (out .exit)) (now (work .exit))) (now (again .entry))
-        (now (spare .entry)) (result (replayedAnswer (r .replay)) (now (again .exit)) (now (spare .exit))) ⌝ }
-    ensures stopped { λ r. ⌜ IsStopped (now (book .entry)) (now (term .entry)) (recorded limit (length (now («record» .entry))))
-        (result (asAnswer (r .answer)) (now (out .exit)) (now (work .exit))) ⌝ }
-    ensures reported { λ r. ⌜ Reported (now (book .entry)) (now (term .entry)) (recorded limit (length (now («record» .entry))))
-        (now («record» .entry)) (now («record» .exit)) (result (asAnswer (r .answer)) (now (out .exit)) (now (work .exit))) ⌝ }
-{
-    let c = demands::expand_retraced(book, term, limit, out, work, record, again, spare);
-    CueRetraced {
-        answer: answer_for(c.answer),
-        replay: replayed_for(c.replay),
-    }
 }

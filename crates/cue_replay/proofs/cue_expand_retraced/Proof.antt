@@ -1,7 +1,7 @@
 -- `cue_expand_retraced` meets its contract.
 use borrow.Author.Needs.{needs}
-use Rattle.cue.proofs.cue_expand_retraced.Statement.{statement}
-use Rattle.cue.proofs.cue_expand_retraced.Tie as tie
+use Rattle.cue_replay.proofs.cue_expand_retraced.Statement.{statement}
+use Rattle.cue_replay.proofs.cue_expand_retraced.Tie as tie
 
 -- the places after the second pair of buffers came back, after the record did, and after the call
 abbrev second-back : tie.After-answer-for → tie.After-slice-known8

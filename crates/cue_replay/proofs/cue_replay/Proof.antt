@@ -1,7 +1,7 @@
 -- `cue_replay` meets its contract.
 use borrow.Author.Needs.{needs}
-use Rattle.cue.proofs.cue_replay.Statement.{statement}
-use Rattle.cue.proofs.cue_replay.Tie as tie
+use Rattle.cue_replay.proofs.cue_replay.Statement.{statement}
+use Rattle.cue_replay.proofs.cue_replay.Tie as tie
 
 returns : tie.Need-returns
 returns c =
