@@ -119,7 +119,8 @@ def main():
         failing, others = facts(open(path, encoding="utf-8", errors="replace").read())
         if not failing:
             said = [" ".join(message.split())[:240] for message in others]
-            print(f"refused: WRONG: {crate}/{label}: no fact fails, the proof only does not fit:", *said, sep="\n    ")
+            why = "the proof only does not fit:" if said else "and the log has no error"
+            print(f"refused: WRONG: {crate}/{label}: no fact fails, {why}", *said, sep="\n    ")
             wrong += 1
     print(f"refused: {len(labels) - wrong} of {len(labels)} must-fail edits are refused because a fact fails")
     sys.exit(1 if wrong else 0)
