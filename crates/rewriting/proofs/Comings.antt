@@ -19,9 +19,9 @@ use Rattle.matching.specs.Matching.{Contraction, contraction, FirstMatch}
 use Rattle.matching.proofs.Firsts.{contraction-rest, fired}
 use Rattle.rewriting.specs.Evaluation.{Limits, Config, stepped}
 use Rattle.rewriting.specs.Machine.{strategyAt, down, position, Next, final, deep, ready, around, scan, enter, advance}
-use Rattle.rewriting.specs.levels.Opened.{Opened, base, level}
+use Rattle.rewriting.specs.Opened.{Opened, base, level}
 use Rattle.rewriting.specs.levels.Lengths.{raise, Way, everyArgument}
-use Rattle.rewriting.specs.Runs.{Came, ended, sunk, barred, waits, configOf, come, run, onward, unbegun}
+use Rattle.rewriting.specs.Runs.{Came, ended, sunk, barred, waits, configOf, come, run, onward, unbegun, again, Enclosed}
 use Rattle.rewriting.proofs.Actives.{At, at-parted}
 use Rattle.rewriting.proofs.Done.{whole-within}
 use Rattle.rewriting.proofs.Laws.{next-entry}
@@ -102,15 +102,9 @@ module _ (s : System) (wf : WellFormed s) where
   abbrev g : Signature
   g = s .arities
 
-  -- between a and b stands a whole term
-  pub record Between (a b t : List ℕ) : Type 0 where
-    pub part : List ℕ
-    pub whole : Whole g part
-    pub equal : t ≡ a ++ (part ++ b)
-
   -- a whole term put in the place of the subterm below open levels
   pub opened-between : (t : List ℕ) {p : ℕ} {cs : List ℕ} → Opened s t p cs → (a u b : List ℕ) → t ≡ a ++ (u ++ b) → p ≡ length a → Whole g u →
-      (v : List ℕ) → Whole g v → Between a b (replace g t (position s t cs p) v)
+      (v : List ℕ) → Whole g v → Enclosed g a b (replace g t (position s t cs p) v)
   unfolding position down
   opened-between t base a u b e q h v hv = record {
     part = v;
@@ -165,10 +159,10 @@ module _ (s : System) (wf : WellFormed s) where
     Waiting (waits outer c x r) = Stood s (r .term) levels p (ready outer c x)
 
     abbrev There : Came → Type 0
-    There o = Between a b (configOf o .term) × Waiting o
+    There o = Enclosed g a b (configOf o .term) × Waiting o
 
     -- a step below open levels
-    module _ (outer : List ℕ) (c : ℕ) (x : Contraction) (r : Config) (h : Between a b (r .term)) (k : Stood s (r .term) levels p (ready outer c x)) where
+    module _ (outer : List ℕ) (c : ℕ) (x : Contraction) (r : Config) (h : Enclosed g a b (r .term)) (k : Stood s (r .term) levels p (ready outer c x)) where
       abbrev t : List ℕ
       t = r .term
 
@@ -181,7 +175,7 @@ module _ (s : System) (wf : WellFormed s) where
       there : At s (λ _. Unit {0}) t q
       there = opened-at s t wf here (k .0)
 
-      pub step-between : Between a b (stepped s q r x .term)
+      pub step-between : Enclosed g a b (stepped s q r x .term)
       step-between = opened-between t (k .0) a (h .part) b (h .equal) refl (h .whole) (x .reduct) (first-at there x (k .1) .left)
 
       pub step-stood : Stood s (stepped s q r x .term) levels p (advance s levels (outer ++ 0 ∷ []) (stepped s q r x .term) p)
@@ -189,7 +183,7 @@ module _ (s : System) (wf : WellFormed s) where
           stood s (stepped s q r x .term) levels (outer ++ 0 ∷ []) p
           (open-state s (stepped s q r x .term) (opened-replace s t (x .reduct) q (k .0) (omega arith) (at-within there) .0) 0)
 
-    come-between : (k : ℕ) (n : Next) (r : Config) → Between a b (r .term) → Stood s (r .term) levels p n → There (come s limits p k n r)
+    come-between : (k : ℕ) (n : Next) (r : Config) → Enclosed g a b (r .term) → Stood s (r .term) levels p n → There (come s limits p k n r)
     come-between zero n r h m = go n m
       where
         go : (n : Next) → Stood s (r .term) levels p n → There (come s limits p 0 n r)
@@ -202,7 +196,7 @@ module _ (s : System) (wf : WellFormed s) where
     come-between (suc k) n r h m = go n m (λ n r. come-between k n r)
       where
         go : (n : Next) → Stood s (r .term) levels p n →
-            ((n : Next) (r : Config) → Between a b (r .term) → Stood s (r .term) levels p n → There (come s limits p k n r)) → There (come s limits p (suc k) n r)
+            ((n : Next) (r : Config) → Enclosed g a b (r .term) → Stood s (r .term) levels p n → There (come s limits p k n r)) → There (come s limits p (suc k) n r)
         go final m ih = subst There (sym (come-final s limits p (suc k) r)) (h, tt)
         go deep m ih = subst There (sym (come-deep s limits p (suc k) r)) (h, tt)
         go (ready outer c x) m ih =
@@ -213,19 +207,19 @@ module _ (s : System) (wf : WellFormed s) where
             (ih (advance s levels (outer ++ 0 ∷ []) (r₁ .term) p) r₁ (step-between outer c x r h m) (step-stood outer c x r h m)) in
             subst There (sym (come-steps s limits p outer c x r k)) (tests-cases s limits outer c x r There q on (λ l b. (h, tt)) (λ f. then))
 
-    run-there : (k : ℕ) (outer : List ℕ) (c : ℕ) (r : Config) → Between a b (r .term) → Opened s (r .term) p outer → There (run s limits p k (outer ++ c ∷ []) r)
+    run-there : (k : ℕ) (outer : List ℕ) (c : ℕ) (r : Config) → Enclosed g a b (r .term) → Opened s (r .term) p outer → There (run s limits p k (outer ++ c ∷ []) r)
     run-there k outer c r h o =
         subst There (sym (run-is s limits p k (outer ++ c ∷ []) r))
         (come-between k (advance s levels (outer ++ c ∷ []) (r .term) p) r h (stood s (r .term) levels (outer ++ c ∷ []) p (open-state s (r .term) o c)))
 
     -- the law: whatever k, from the start of the subterm or from any state in it
-    pub run-between : (k : ℕ) (outer : List ℕ) (c : ℕ) (r : Config) → Between a b (r .term) → Opened s (r .term) p outer →
-        Between a b (configOf (run s limits p k (outer ++ c ∷ []) r) .term)
+    pub run-between : (k : ℕ) (outer : List ℕ) (c : ℕ) (r : Config) → Enclosed g a b (r .term) → Opened s (r .term) p outer →
+        Enclosed g a b (configOf (run s limits p k (outer ++ c ∷ []) r) .term)
     run-between k outer c r h o = run-there k outer c r h o .0
 
     -- "but the lengths on the way to it": beside the words before and behind the subterm stand the lengths that stood there, but for the symbols on the
     -- way ps to it, whose lengths are those less the words that the subterm had and more those that it has
-    pub run-lengths : (k : ℕ) (outer : List ℕ) (c : ℕ) (r : Config) (h : Between a b (r .term)) (o : Opened s (r .term) p outer) → Whole g (r .term) →
+    pub run-lengths : (k : ℕ) (outer : List ℕ) (c : ℕ) (r : Config) (h : Enclosed g a b (r .term)) (o : Opened s (r .term) p outer) → Whole g (r .term) →
         {ps : List ℕ} → Way (everyArgument s) (r .term) ps p → let v = run-between k outer c r h o .part in
         spans g (configOf (run s limits p k (outer ++ c ∷ []) r) .term)
         ≡ raise ps (length (h .part)) (length v) (take p (spans g (r .term))) ++ (spans g v ++ drop (p + length (h .part)) (spans g (r .term)))
@@ -241,20 +235,14 @@ module _ (s : System) (wf : WellFormed s) where
         ∙ ap (λ n. raise ps n (length v) (take p (spans g t)) ++ (spans g v ++ drop (p + n) (spans g t))) width
 
     -- and m + n steps are m steps, and then n steps from the state that the first run left, its last 0 not begun
-    pub again : ℕ → Came → Came
-    again n (ended r) = ended r
-    again n (sunk r) = sunk r
-    again n (barred l outer c x r) = barred l outer c x r
-    again n (waits outer c x r) = run s limits p n (unbegun outer c) r
-
-    onward-again : (n : ℕ) (o : Came) → Waiting o → onward s limits p n o ≡ again n o
+    onward-again : (n : ℕ) (o : Came) → Waiting o → onward s limits p n o ≡ again s limits p n o
     unfolding again
     onward-again n (ended r) k = refl
     onward-again n (sunk r) k = refl
     onward-again n (barred l outer c x r) k = refl
     onward-again n (waits outer c x r) k = sym (waits-again s limits p n outer c x r k)
 
-    pub run-again : (m n : ℕ) (outer : List ℕ) (c : ℕ) (r : Config) → Between a b (r .term) → Opened s (r .term) p outer →
-        run s limits p (m + n) (outer ++ c ∷ []) r ≡ again n (run s limits p m (outer ++ c ∷ []) r)
+    pub run-again : (m n : ℕ) (outer : List ℕ) (c : ℕ) (r : Config) → Enclosed g a b (r .term) → Opened s (r .term) p outer →
+        run s limits p (m + n) (outer ++ c ∷ []) r ≡ again s limits p n (run s limits p m (outer ++ c ∷ []) r)
     run-again m n outer c r h o =
         run-more s limits p m n (outer ++ c ∷ []) r ∙ onward-again n (run s limits p m (outer ++ c ∷ []) r) (run-there m outer c r h o .1)

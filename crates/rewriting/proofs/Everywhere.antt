@@ -16,7 +16,7 @@ use Rattle.system.specs.System.{System, strategy}
 use Rattle.system.specs.Terms.{Member, first, later, Whole, WellFormed}
 use Rattle.system.proofs.Members.{member-nil, member-getD, member-front, member-back, member-snoc}
 use Rattle.rewriting.specs.Machine.{strategyAt, down, position}
-use Rattle.rewriting.specs.levels.Opened.{Opened, base, level}
+use Rattle.rewriting.specs.Opened.{Opened, base, level}
 use Rattle.rewriting.specs.levels.Lengths.{above, Way, top, upTo, everyArgument}
 
 up-to-member : (n i : ℕ) → i < n → Member (suc i) (upTo n)

@@ -9,7 +9,7 @@ use Rattle.system.specs.System.{System}
 use Rattle.system.specs.Terms.{WellFormed}
 use Rattle.rewriting.specs.Rewriting.{Active, below}
 use Rattle.rewriting.specs.Machine.{strategyAt, down, position}
-use Rattle.rewriting.specs.levels.Opened.{Opened, base, level}
+use Rattle.rewriting.specs.Opened.{Opened, base, level}
 use Rattle.system.proofs.Members.{member-getD}
 use Rattle.rewriting.proofs.Actives.{At, at-below}
 use Rattle.rewriting.proofs.Laws.{down-lt, position-le, replace-strategy, replace-down}

@@ -15,7 +15,7 @@ use Rattle.system.proofs.Members.{member-getD}
 use Rattle.system.proofs.Places.{at-replace}
 use Rattle.rewriting.specs.Rewriting.{root}
 use Rattle.rewriting.specs.Machine.{others, strategyAt, down, position}
-use Rattle.rewriting.specs.levels.Opened.{Opened, base, level}
+use Rattle.rewriting.specs.Opened.{Opened, base, level}
 use Rattle.rewriting.specs.levels.Lengths.{above, raise}
 use Rattle.system.specs.Spans.{spans}
 use Rattle.system.proofs.Spans.{spans-length, spans-append}

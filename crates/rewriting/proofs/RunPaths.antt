@@ -11,7 +11,7 @@ use Rattle.matching.specs.Matching.{Contraction}
 use Rattle.rewriting.specs.Rewriting.{Step, Path, then}
 use Rattle.rewriting.specs.Evaluation.{Limits, Config, stepped}
 use Rattle.rewriting.specs.Machine.{position, Next, final, deep, ready, advance}
-use Rattle.rewriting.specs.levels.Opened.{Opened}
+use Rattle.rewriting.specs.Opened.{Opened}
 use Rattle.rewriting.specs.levels.Lengths.{Way}
 use Rattle.rewriting.specs.Runs.{Came, ended, sunk, barred, waits, come, run}
 use Rattle.rewriting.proofs.Contractions.{step-there}

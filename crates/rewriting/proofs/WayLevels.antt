@@ -9,7 +9,7 @@ use Rattle.system.specs.System.{System}
 use Rattle.system.specs.Terms.{Member}
 use Rattle.system.proofs.Members.{member-getD, member-index}
 use Rattle.rewriting.specs.Machine.{others, strategyAt, down, position}
-use Rattle.rewriting.specs.levels.Opened.{Opened, base, level}
+use Rattle.rewriting.specs.Opened.{Opened, base, level}
 use Rattle.rewriting.specs.levels.Lengths.{above, Way, top}
 use Rattle.rewriting.proofs.Laws.{position-snoc}
 use Rattle.rewriting.proofs.OpenLevels.{opened-open}

@@ -6,6 +6,7 @@ pub mod Outcomes
 pub mod Stopped
 -- The evaluation as a machine
 pub mod Machine
+pub mod Opened
 pub mod Runs
 -- Inner
 pub mod levels

@@ -1,13 +1,16 @@
 -- A run of the machine: from a state, in the subterm at a position p, at most k steps; and where it came to. (The step limit is another number: it
 -- counts all steps since the evaluation began.)
 use Prim.Native.Nat.{ℕ, zero, suc, _-_}
+use mathlib.Core.Path.{_≡_}
 use mathlib.Core.Bool.{true, false}
 use mathlib.Core.List.{List, [], _∷_, _++_}
 use lib.ListN.{length}
 use lib.Dec.{leb, ltb}
 use Rattle.system.specs.Limits.{levels, termWords}
 use Rattle.system.specs.Numbers.{Limit, spent, overlong, nested, full}
+use Rattle.system.specs.Signature.{Signature}
 use Rattle.system.specs.System.{System}
+use Rattle.system.specs.Terms.{Whole}
 use Rattle.matching.specs.Matching.{Contraction}
 use Rattle.rewriting.specs.Evaluation.{Limits, Config, stepped, steps, hasRoom, Outcome, finished, stopped}
 use Rattle.rewriting.specs.Machine.{position, Next, final, deep, ready, advance}
@@ -80,3 +83,17 @@ module _ (s : System) (limits : Limits) where
 -- the state just before a step as the counts of a state from which the machine comes to it: its 0 is not begun
 abbrev pub unbegun : List ℕ → ℕ → List ℕ
 unbegun outer c = outer ++ (c - 1) ∷ []
+
+module _ (s : System) (limits : Limits) where
+  -- the same by a new run, from the state that the first one left
+  unfoldable pub again : ℕ → ℕ → Came → Came
+  again p n (ended r) = ended r
+  again p n (sunk r) = sunk r
+  again p n (barred l outer c x r) = barred l outer c x r
+  again p n (waits outer c x r) = run s limits p n (unbegun outer c) r
+
+-- between the words a and b stands a whole term
+pub record Enclosed (g : Signature) (a b t : List ℕ) : Type 0 where
+  pub part : List ℕ
+  pub whole : Whole g part
+  pub equal : t ≡ a ++ (part ++ b)

@@ -16,7 +16,7 @@ use Rattle.machine.specs.declared.advance.State.{State}
 use Rattle.machine.specs.declared.advance.Event.{Event}
 use Rattle.machine.specs.declared.advance.Event.the-variants.{End, Repeated, Rules, Argument}
 use Rattle.rewriting.specs.Machine.{strategyAt, position, advance}
-use Rattle.rewriting.specs.levels.Opened.{Opened}
+use Rattle.rewriting.specs.Opened.{Opened}
 use Rattle.rows.specs.declared.gap.Gap.{Gap}
 use Rattle.rows.specs.Rows.{termIn}
 use Rattle.rows.specs.Measured.{Measured}

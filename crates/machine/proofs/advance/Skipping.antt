@@ -16,7 +16,7 @@ use Rattle.system.specs.System.{System}
 use Rattle.system.specs.Terms.{Member, first, later, among}
 use Rattle.matching.specs.Matching.{contraction}
 use Rattle.rewriting.specs.Machine.{strategyAt, down, position, final, around, scan, enter}
-use Rattle.rewriting.specs.levels.Opened.{Opened, level}
+use Rattle.rewriting.specs.Opened.{Opened, level}
 use Rattle.layout.specs.entries.Entries.{between}
 use Rattle.machine.specs.advance.Transition.{sinceAt}
 use Rattle.rewriting.proofs.Laws.{position-snoc}

@@ -11,7 +11,7 @@ use Rattle.system.specs.System.{System}
 use Rattle.system.specs.Terms.{Whole, WellFormed}
 use Rattle.matching.specs.Matching.{Contraction, contraction, FirstMatch}
 use Rattle.rewriting.specs.Machine.{strategyAt, position}
-use Rattle.rewriting.specs.levels.Opened.{Opened, base}
+use Rattle.rewriting.specs.Opened.{Opened, base}
 use Rattle.machine.specs.advance.Area.{Valid}
 use Rattle.system.proofs.Places.{patch, at-replace}
 use Rattle.matching.proofs.Firsts.{contraction-at, fired}

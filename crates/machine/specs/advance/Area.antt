@@ -13,7 +13,7 @@ use Rattle.rows.specs.Rows.{countsAt, termIn}
 use Rattle.rows.specs.Measured.{Measured}
 use Rattle.redexes.specs.search.Redexes.{bindingWords}
 use Rattle.rewriting.specs.Machine.{strategyAt, position}
-use Rattle.rewriting.specs.levels.Opened.{Opened}
+use Rattle.rewriting.specs.Opened.{Opened}
 use Rattle.system.specs.Limits.{areaWords, levels, termWords}
 
 -- with `level` levels around the innermost one, the counts of those and the innermost one's
