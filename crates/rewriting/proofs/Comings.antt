@@ -20,7 +20,7 @@ use Rattle.matching.proofs.Firsts.{contraction-rest, fired}
 use Rattle.rewriting.specs.Evaluation.{Limits, Config, stepped}
 use Rattle.rewriting.specs.Machine.{strategyAt, down, position, Next, final, deep, ready, around, scan, enter, advance}
 use Rattle.rewriting.specs.Opened.{Opened, base, level}
-use Rattle.rewriting.specs.levels.Lengths.{raise, Way, everyArgument}
+use Rattle.rewriting.specs.Ways.{raise, Way, everyArgument}
 use Rattle.rewriting.specs.Runs.{Came, ended, sunk, barred, waits, configOf, come, run, onward, unbegun, again, Enclosed}
 use Rattle.rewriting.proofs.Actives.{At, at-parted}
 use Rattle.rewriting.proofs.Done.{whole-within}
@@ -219,12 +219,11 @@ module _ (s : System) (wf : WellFormed s) where
 
     -- "but the lengths on the way to it": beside the words before and behind the subterm stand the lengths that stood there, but for the symbols on the
     -- way ps to it, whose lengths are those less the words that the subterm had and more those that it has
-    pub run-lengths : (k : ℕ) (outer : List ℕ) (c : ℕ) (r : Config) (h : Enclosed g a b (r .term)) (o : Opened s (r .term) p outer) → Whole g (r .term) →
-        {ps : List ℕ} → Way (everyArgument s) (r .term) ps p → let v = run-between k outer c r h o .part in
+    pub run-lengths : (k : ℕ) (outer : List ℕ) (c : ℕ) (r : Config) (h : Enclosed g a b (r .term)) → Whole g (r .term) →
+        {ps : List ℕ} → Way (everyArgument s) (r .term) ps p → (y : Enclosed g a b (configOf (run s limits p k (outer ++ c ∷ []) r) .term)) →
         spans g (configOf (run s limits p k (outer ++ c ∷ []) r) .term)
-        ≡ raise ps (length (h .part)) (length v) (take p (spans g (r .term))) ++ (spans g v ++ drop (p + length (h .part)) (spans g (r .term)))
-    run-lengths k outer c r h o w {ps} way =
-        let y = run-between k outer c r h o in
+        ≡ raise ps (length (h .part)) (length (y .part)) (take p (spans g (r .term))) ++ (spans g (y .part) ++ drop (p + length (h .part)) (spans g (r .term)))
+    run-lengths k outer c r h w {ps} way y =
         let v = y .part in
         let t = r .term in
         let width : span g (drop p t) 1 ≡ length (h .part) =

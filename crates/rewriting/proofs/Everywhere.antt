@@ -17,7 +17,8 @@ use Rattle.system.specs.Terms.{Member, first, later, Whole, WellFormed}
 use Rattle.system.proofs.Members.{member-nil, member-getD, member-front, member-back, member-snoc}
 use Rattle.rewriting.specs.Machine.{strategyAt, down, position}
 use Rattle.rewriting.specs.Opened.{Opened, base, level}
-use Rattle.rewriting.specs.levels.Lengths.{above, Way, top, upTo, everyArgument}
+use Rattle.rewriting.specs.Ways.{Way, top, upTo, everyArgument}
+use Rattle.rewriting.specs.levels.Lengths.{above}
 
 up-to-member : (n i : ℕ) → i < n → Member (suc i) (upTo n)
 unfolding upTo

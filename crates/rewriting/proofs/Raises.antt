@@ -5,7 +5,7 @@ use mathlib.Core.Path.{_≡_, refl, sym, ap, _∙_}
 use mathlib.Core.List.{List, [], _∷_, _++_}
 use lib.ListN.{length, getD, set, take, drop, length-set, List·getD-append}
 use lib.Seq.{set-append-left, getD-set-other, take-set-lt, drop-set-lt, getD-take, lt-length-set}
-use Rattle.rewriting.specs.levels.Lengths.{raise}
+use Rattle.rewriting.specs.Ways.{raise}
 
 module _ (d e : ℕ) where
   pub raise-none : (ls : List ℕ) → raise [] d e ls ≡ ls

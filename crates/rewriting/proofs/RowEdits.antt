@@ -16,7 +16,8 @@ use Rattle.system.proofs.Places.{at-replace}
 use Rattle.rewriting.specs.Rewriting.{root}
 use Rattle.rewriting.specs.Machine.{others, strategyAt, down, position}
 use Rattle.rewriting.specs.Opened.{Opened, base, level}
-use Rattle.rewriting.specs.levels.Lengths.{above, raise}
+use Rattle.rewriting.specs.Ways.{raise}
+use Rattle.rewriting.specs.levels.Lengths.{above}
 use Rattle.system.specs.Spans.{spans}
 use Rattle.system.proofs.Spans.{spans-length, spans-append}
 use Rattle.rewriting.proofs.Raises.{raise-none, raise-more, raise-length}

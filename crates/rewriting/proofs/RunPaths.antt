@@ -12,7 +12,7 @@ use Rattle.rewriting.specs.Rewriting.{Step, Path, then}
 use Rattle.rewriting.specs.Evaluation.{Limits, Config, stepped}
 use Rattle.rewriting.specs.Machine.{position, Next, final, deep, ready, advance}
 use Rattle.rewriting.specs.Opened.{Opened}
-use Rattle.rewriting.specs.levels.Lengths.{Way}
+use Rattle.rewriting.specs.Ways.{Way}
 use Rattle.rewriting.specs.Runs.{Came, ended, sunk, barred, waits, come, run}
 use Rattle.rewriting.proofs.Contractions.{step-there}
 use Rattle.rewriting.proofs.Laws.{position-le}

@@ -21,7 +21,7 @@ use Rattle.rewriting.specs.Rewriting.{Active, root, below, Step, Path, b
 use Rattle.rewriting.specs.Stopped.{levelOf, Opens, first, past, Halts, noSteps, noRoom, tooLong, tooDeep, Stopped}
 use Rattle.rewriting.specs.Machine.{strategyAt, down, position, Next, final, deep, ready, around, scan, enter, advance}
 use Rattle.rewriting.specs.Opened.{Opened, base, level}
-use Rattle.rewriting.specs.levels.Lengths.{top}
+use Rattle.rewriting.specs.Ways.{top}
 use Rattle.rewriting.specs.Runs.{Came, ended, sunk, barred, waits, configOf, outcomeOf, come, run}
 use Rattle.rewriting.proofs.Contractions.{none-there}
 use Rattle.rewriting.proofs.OpenLevels.{opened-replace}

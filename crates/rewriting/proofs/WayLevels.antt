@@ -10,7 +10,8 @@ use Rattle.system.specs.Terms.{Member}
 use Rattle.system.proofs.Members.{member-getD, member-index}
 use Rattle.rewriting.specs.Machine.{others, strategyAt, down, position}
 use Rattle.rewriting.specs.Opened.{Opened, base, level}
-use Rattle.rewriting.specs.levels.Lengths.{above, Way, top}
+use Rattle.rewriting.specs.Ways.{Way, top}
+use Rattle.rewriting.specs.levels.Lengths.{above}
 use Rattle.rewriting.proofs.Laws.{position-snoc}
 use Rattle.rewriting.proofs.OpenLevels.{opened-open}
 use Rattle.rewriting.proofs.Aboves.{above-snoc}

@@ -11,7 +11,7 @@ use Rattle.system.specs.System.{System, strategy}
 use Rattle.system.specs.Terms.{Whole, Member, WellFormed}
 use Rattle.system.proofs.Places.{replace-word, replace-argument}
 use Rattle.rewriting.specs.Rewriting.{Active, root, below}
-use Rattle.rewriting.specs.levels.Lengths.{Way, top, down}
+use Rattle.rewriting.specs.Ways.{Way, top, down}
 use Rattle.rewriting.proofs.Contractions.{active-within}
 
 -- a list's positions with one more behind them: one of the first, or the last

@@ -7,6 +7,7 @@ pub mod Stopped
 -- The evaluation as a machine
 pub mod Machine
 pub mod Opened
+pub mod Ways
 pub mod Runs
 -- Inner
 pub mod levels

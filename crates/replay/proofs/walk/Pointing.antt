@@ -13,7 +13,7 @@ use Rattle.system.specs.Terms.{Member, WellFormed}
 use Rattle.rows.specs.Rows.{countsAt, termIn, Gapped}
 use Rattle.rows.specs.gap.Gaps.{wordsIn}
 use Rattle.rows.proofs.lengths.Measures.{words-length, measured-counts, term-counts}
-use Rattle.rewriting.specs.levels.Lengths.{Way, down}
+use Rattle.rewriting.specs.Ways.{Way, down}
 use Rattle.rewriting.proofs.Contractions.{active-within}
 use Rattle.rewriting.proofs.Ways.{way-active, way-room, way-take}
 use Rattle.replay.specs.declared.walk.Finger.{Finger}

@@ -26,7 +26,7 @@ use Rattle.matching.specs.Matching.{Contraction, contraction}
 use Rattle.matching.specs.Bindings.{matchOf}
 use Rattle.redexes.specs.search.Redexes.{redexOf, bindingWords, Bound}
 use Rattle.reducts.specs.putting.Replaced.{Placed}
-use Rattle.rewriting.specs.levels.Lengths.{Way, top}
+use Rattle.rewriting.specs.Ways.{Way, top}
 use Rattle.rewriting.proofs.Contractions.{active-within, replaced-whole}
 use Rattle.rewriting.proofs.Ways.{way-active, way-step}
 use Rattle.steps.specs.rewrites.Rewritten.{Reducible}

@@ -10,7 +10,7 @@ use Rattle.system.specs.System.{System}
 use Rattle.system.specs.Terms.{Whole, WellFormed}
 use Rattle.rows.specs.Rows.{countsAt, termIn}
 use Rattle.rows.specs.Measured.{Measured}
-use Rattle.rewriting.specs.levels.Lengths.{Way}
+use Rattle.rewriting.specs.Ways.{Way}
 use Rattle.replay.specs.Activity.{activeAt}
 use Rattle.replay.specs.declared.walk.Finger.{Finger}
 use Rattle.replay.specs.walk.Descent.{Above}

@@ -20,7 +20,7 @@ use Rattle.rewriting.specs.Trace.{Trace}
 use Rattle.rewriting.specs.Evaluation.{Limits, start, stopped, traceOf, evaluation}
 use Rattle.rewriting.specs.Machine.{position}
 use Rattle.rewriting.specs.Runs.{Came, ended, sunk, barred, waits, configOf, outcomeOf, run}
-use Rattle.rewriting.specs.levels.Lengths.{Way, top, everyArgument}
+use Rattle.rewriting.specs.Ways.{Way, top, everyArgument}
 use Rattle.rewriting.proofs.Runs.{run-evaluates}
 use Rattle.machine.specs.advance.Area.{baseOf, outerIn, countIn, Stands, frameWords, Tracks}
 use Rattle.machine.proofs.advance.Areas.{stands-set, held-count, holds, tracks-first}

@@ -18,7 +18,7 @@ use Rattle.reducts.specs.putting.Replaced.{Kept}
 use Rattle.rewriting.specs.Trace.{Pair}
 use Rattle.rewriting.specs.Machine.{position}
 use Rattle.rewriting.specs.Runs.{run}
-use Rattle.rewriting.specs.levels.Lengths.{Way, everyArgument}
+use Rattle.rewriting.specs.Ways.{Way, everyArgument}
 use Rattle.rewriting.proofs.Laws.{position-le}
 use Rattle.rewriting.proofs.Runs.{fitting-long, fitting-goes}
 use Rattle.rewriting.proofs.Ways.{way-kept}

@@ -16,7 +16,7 @@ use Rattle.rows.specs.Rows.{termIn}
 use Rattle.rewriting.specs.Evaluation.{Config}
 use Rattle.rewriting.specs.Machine.{Next, final, deep, ready, advance}
 use Rattle.rewriting.specs.Runs.{Came, ended, sunk, configOf, come}
-use Rattle.rewriting.specs.levels.Lengths.{Way, everyArgument}
+use Rattle.rewriting.specs.Ways.{Way, everyArgument}
 use Rattle.rewriting.proofs.Runs.{come-final, come-deep, run-is}
 use Rattle.rewriting.proofs.Ways.{way-room}
 use Rattle.machine.specs.declared.advance.State.{State}

@@ -14,7 +14,7 @@ use Rattle.rewriting.specs.Trace.{Trace}
 use Rattle.rewriting.specs.Evaluation.{Limits, Config}
 use Rattle.rewriting.specs.Machine.{position, down}
 use Rattle.rewriting.specs.Runs.{Came, run}
-use Rattle.rewriting.specs.levels.Lengths.{Way, everyArgument}
+use Rattle.rewriting.specs.Ways.{Way, everyArgument}
 use Rattle.rewriting.specs.Opened.{Opened}
 use Rattle.rewriting.proofs.Laws.{position-le}
 use Rattle.rewriting.proofs.OpenLevels.{opened-replace}

@@ -22,7 +22,7 @@ use Rattle.rewriting.specs.Evaluation as evaluation
 use Rattle.rewriting.specs.Evaluation.{Config, hasRoom}
 use Rattle.rewriting.specs.Machine.{position, ready}
 use Rattle.rewriting.specs.Runs.{Came, barred, waits, before, fitting, come, run}
-use Rattle.rewriting.specs.levels.Lengths.{Way, everyArgument}
+use Rattle.rewriting.specs.Ways.{Way, everyArgument}
 use Rattle.rewriting.proofs.Laws.{position-le}
 use Rattle.rewriting.proofs.Runs.{before-spent, before-full, before-free, fitting-long, fitting-goes, come-waits, come-steps}
 use Rattle.rewriting.proofs.Ways.{way-kept}

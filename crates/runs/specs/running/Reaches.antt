@@ -14,7 +14,7 @@ use Rattle.rows.specs.Rows.{termIn}
 use Rattle.rewriting.specs.Trace.{Trace}
 use Rattle.rewriting.specs.Evaluation.{Config}
 use Rattle.rewriting.specs.Runs.{Came, ended, sunk, barred, waits, configOf, run}
-use Rattle.rewriting.specs.levels.Lengths.{Way, everyArgument}
+use Rattle.rewriting.specs.Ways.{Way, everyArgument}
 use Rattle.machine.specs.declared.advance.State.{State}
 use Rattle.machine.specs.advance.Area.{baseOf, outerIn, countIn, lastWords, Stands, Represents, Tracks}
 use Rattle.steps.specs.steps.Raised.{wayIn}

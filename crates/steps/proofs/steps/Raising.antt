@@ -19,7 +19,7 @@ use Rattle.rows.specs.Measured.{Measured}
 use Rattle.rows.proofs.gap.Rows.{length-row-at, length-set-row}
 use Rattle.rows.proofs.lengths.Measures.{row-behind, measured-join}
 use Rattle.reducts.specs.putting.Replaced.{Placed}
-use Rattle.rewriting.specs.levels.Lengths.{raise, Way}
+use Rattle.rewriting.specs.Ways.{raise, Way}
 use Rattle.rewriting.proofs.Raises.{raise-none, raise-snoc, raise-append, raise-take, raise-drop}
 use Rattle.rewriting.proofs.Ways.{way-before}
 use Rattle.rewriting.proofs.WayRows.{way-spans-front, way-raise-room, way-raise-fits}

@@ -20,7 +20,7 @@ use Rattle.redexes.specs.declared.search.Redex.{Redex}
 use Rattle.matching.specs.Matching.{Contraction, contraction}
 use Rattle.reducts.specs.declared.putting.Reduced.{Reduced}
 use Rattle.reducts.specs.putting.Replaced.{Done, Placed}
-use Rattle.rewriting.specs.levels.Lengths.{everyArgument}
+use Rattle.rewriting.specs.Ways.{everyArgument}
 use Rattle.rewriting.proofs.OpenLevels.{opened-room}
 use Rattle.machine.specs.declared.advance.State.{State}
 use Rattle.machine.specs.advance.Area.{baseOf, outerIn, countIn, lastWords, Stands}

@@ -22,7 +22,8 @@ use Rattle.matching.specs.Matching.{Contraction}
 use Rattle.reducts.specs.declared.putting.Reduced.{Reduced}
 use Rattle.reducts.specs.declared.putting.Subterm.{Subterm}
 use Rattle.reducts.specs.putting.Replaced.{Done, TooLong, Placed, Kept}
-use Rattle.rewriting.specs.levels.Lengths.{above, Way, everyArgument}
+use Rattle.rewriting.specs.Ways.{Way, everyArgument}
+use Rattle.rewriting.specs.levels.Lengths.{above}
 use Rattle.rewriting.proofs.Aboves.{above-position, above-length}
 use Rattle.rewriting.proofs.Ways.{way-room}
 use Rattle.rewriting.proofs.Everywhere.{every-formed, every-opened}

@@ -5,7 +5,7 @@ use mathlib.Core.List.{List, [], _∷_, _++_}
 use lib.ListN.{length, getD, take, drop}
 use Rattle.system.specs.Limits.{termWords}
 use Rattle.rows.specs.Rows.{countsAt, wordRow, lengthRow}
-use Rattle.rewriting.specs.levels.Lengths.{raise}
+use Rattle.rewriting.specs.Ways.{raise}
 
 -- the numbers at these indices of the row may be taken d from, one after the other, and have room for e
 pub record Raisable (ws qs : List ℕ) (d e : ℕ) : Type 0 where

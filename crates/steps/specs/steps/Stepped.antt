@@ -12,7 +12,7 @@ use Rattle.reader.specs.Book.{systemOf, Accepted}
 use Rattle.layout.specs.index.Index.{Indexed}
 use Rattle.rows.specs.declared.gap.Gap.{Gap}
 use Rattle.rows.specs.Rows.{termIn}
-use Rattle.rewriting.specs.levels.Lengths.{Way, everyArgument}
+use Rattle.rewriting.specs.Ways.{Way, everyArgument}
 use Rattle.redexes.specs.declared.search.Redex.{Redex}
 use Rattle.matching.specs.Matching.{Contraction, contraction}
 use Rattle.matching.specs.Bindings.{matchOf}
