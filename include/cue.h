@@ -1,11 +1,9 @@
 /*
  * The cue expander: show books, the order test, the test by weights, expansion, and the record of an expansion's steps.
  *
- * Link with libcue.a (`rt staticlib cue` writes it to target/staticlib/). The target is x86-64 (System V ABI, ELF; SSE registers are
- * used, so save them in a task that can be interrupted). About 25 KB of code and read-only constants, no data, no bss; it needs memcpy and
- * memset and nothing else, and links with -nostdlib. Stack, read from the compiled archive with everything that is called: cue_expand
- * 2,400 bytes, cue_expand_twice, the deepest, 2,496, every function below 4,096 (`bash tests/stack.sh` measures it). Another target needs
- * another back end, and the stack measured anew.
+ * Two archives: cue_replay and cue_expand_retraced, which a support desk uses, are in libcue_replay.a, all other functions in libcue.a
+ * (`rt staticlib cue_replay` and `rt staticlib cue` write them to target/staticlib/). A desk links libcue.a alone. Neither needs the other,
+ * and a program may link both.
  *
  * Every slice is a pointer to its first word and the number of its words. A pointer must be valid even where the length is 0 (any
  * address of a uint16_t will do), and a buffer that is written (`out`, `work`, a record that is filled) must not overlap any other slice
@@ -15,10 +13,44 @@
  * For a show a desk needs two of these functions: cue_test_strategies once for a book, and cue_expand for each cue. A theatre that wants
  * books which can't run on needs two more: cue_test_weights once for a book and its list of weights, and cue_weigh for a cue's allowance. To
  * see an expansion again, cue_expand_recorded tells its steps and cue_replay follows them. cue_expand_checked, cue_expand_twice and
- * cue_expand_retraced are what these promise together, as functions of their own; the others look at a book or a cue.
+ * cue_expand_retraced are what these promise together, as functions of their own; cue_version tells the version, and the others look at a
+ * book or a cue.
  *
  * Names. The show designers' words and the words of the field stand side by side: a book is a rewrite system, a name a symbol, an
  * order a strategy, a placeholder a variable, a cue a term, a part of it a subterm, and a place a position.
+ *
+ * Porting. The target is x86-64 (System V ABI, ELF), with instructions up to SSE2; another needs another back end, and every figure measured
+ * anew. SSE registers are used: save them in a task that can be interrupted. Where the table says that the red zone is used, functions keep
+ * values in the 128 bytes below the stack pointer, as System V lets them: an interrupt handler that runs on the stack of the task which it
+ * interrupts must leave those 128 bytes alone, or have a stack of its own. Code and constants only, no data and no bss: the archives link with
+ * -nostdlib, where the program brings what they need. Each function stands in a section of its own: -Wl,--gc-sections leaves out what is
+ * not called.
+ *
+ *   linked                                                  bytes   needs           red zone
+ *   libcue.a                                               21,708   memset          used
+ *   libcue.a, cue_test_strategies and cue_expand alone     15,523   memset          used
+ *   libcue_replay.a                                        16,348   memset          used
+ *
+ * An expansion is lent 8 KB for the answer and 24 KB to work in. The stack that a call takes, read from the compiled archives with everything
+ * that is called, is below 4,096 bytes for each function (`bash tests/stack.sh` measures it, and holds both tables to the archives):
+ *
+ *   function                archive             stack, bytes
+ *   cue_version             libcue.a                       8
+ *   cue_read                libcue.a                     488
+ *   cue_shape_of            libcue.a                     488
+ *   cue_check_term          libcue.a                     536
+ *   cue_argument            libcue.a                     568
+ *   cue_span                libcue.a                      16
+ *   cue_first_match         libcue.a                   1,368
+ *   cue_test_strategies     libcue.a                     520
+ *   cue_test_weights        libcue.a                     584
+ *   cue_weigh               libcue.a                       8
+ *   cue_expand              libcue.a                   2,168
+ *   cue_expand_checked      libcue.a                   2,200
+ *   cue_expand_twice        libcue.a                   2,264
+ *   cue_expand_recorded     libcue.a                   2,152
+ *   cue_replay              libcue_replay.a            2,400
+ *   cue_expand_retraced     libcue_replay.a            4,016
  */
 #ifndef CUE_H
 #define CUE_H
@@ -30,9 +62,14 @@
 extern "C" {
 #endif
 
-/* The version: a change of what a function takes or answers raises the first number, anything new the second. */
-#define CUE_VERSION_MAJOR 3
-#define CUE_VERSION_MINOR 2
+/*
+ * The version: a change of what a function takes or answers, or of the archive that it is in, raises the first number, anything new the
+ * second. Where CUE_VERSION is not what cue_version answers, this header is not that of libcue.a; before 4.0 an archive did not have
+ * cue_version.
+ */
+#define CUE_VERSION_MAJOR 4
+#define CUE_VERSION_MINOR 0
+#define CUE_VERSION (CUE_VERSION_MAJOR * 65536UL + CUE_VERSION_MINOR)
 
 /* Sizes, in words. */
 #define CUE_TERM_WORDS 4096 /* the most words of a cue, and the least of an answer buffer */
@@ -136,6 +173,9 @@ typedef struct cue_match {
   uint16_t word;
 } cue_match;
 
+/* The first number of the version times 65,536, and the second. */
+uint32_t cue_version(void);
+
 /*
  * Reads a book. 0: accepted, place is its length. 1 to 8, or 15: refused, place is the index of the word that was being read when the first
  * fault was met. For 1 that is the book's length. For 5 it is the first word too many or, where a side's words are used up and it is
@@ -208,6 +248,9 @@ uint32_t cue_weigh(const uint16_t *weights, size_t weights_words, const uint16_t
 /*
  * Expands a cue over a book, with at most `limit` steps (the allowance).
  *
+ * The allowance is the only bound on the time of a call, which can't be left and taken up again. In the benchmark (tests/bench, one core) a step
+ * took 0.03 microseconds over a small cue, and 17 over a cue of 4,090 words that are all visited again for each step; longer ones can be made.
+ *
  *   number    place                        steps            out                                     work
  *   0         the answer's length, words   taken            the answer in its first words,          the first 12,288 words are
  *                                                           the rest unchanged                      zero, the rest unchanged
@@ -272,6 +315,8 @@ cue_twice cue_expand_twice(const uint16_t *book, size_t book_words, const uint16
 cue_answer cue_expand_recorded(const uint16_t *book, size_t book_words, const uint16_t *term, size_t term_words, uint32_t limit,
                                uint16_t *out, size_t out_words, uint16_t *work, size_t work_words, uint16_t *record,
                                size_t record_words);
+
+/* ---- libcue_replay.a: the two functions from here on are in it, and not in libcue.a. */
 
 /* The three numbers of a replay. A record may hold more pairs than 32 bits tell. */
 typedef struct cue_replayed {

@@ -1,4 +1,4 @@
-/* The header's sizes, limits and words against what the functions do: at each limit a book or a cue is taken, one above it is not. */
+/* The header's version, sizes, limits and words against what the functions do: at each limit a book or a cue is taken, one above it is not. */
 #include <stdio.h>
 #include <string.h>
 
@@ -295,6 +295,9 @@ int main(void) {
                                       "broken cue", "cramped", "spent", "overlong", "nested",   "unsettled", "builtin",
                                       "full",       "pair",    "weights", "rising"};
   size_t i;
+  check("the version", CUE_VERSION, CUE_VERSION_MAJOR * 65536UL + CUE_VERSION_MINOR);
+  check("the archive's version", cue_version(), CUE_VERSION);
+
   make(CUE_SYMBOLS, CUE_ARGUMENTS, CUE_ENTRIES, 0, 1);
   check("the most names, arguments and entries", reads(), CUE_TAKEN);
   make(CUE_SYMBOLS + 1, 0, 0, 0, 1);
@@ -348,6 +351,6 @@ int main(void) {
   /* the words of 01's table, by the numbers' names */
   for (i = 0; i < sizeof table / sizeof table[0]; i++) check(table[i], strcmp(cue_word((uint32_t)i), table[i]) == 0, 1);
   check("a number that is not in the table", strcmp(cue_word(CUE_RISING + 1), "?") == 0, 1);
-  if (!wrong) printf("outside: the header's sizes, limits and words are those of the functions\n");
+  if (!wrong) printf("outside: the header's version, sizes, limits and words are those of the functions\n");
   return wrong;
 }

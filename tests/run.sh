@@ -1,5 +1,5 @@
 #!/usr/bin/env bash
-# The checks from outside: the C interface and its header, the stack of each operation, the C and Rust examples, random books against the second
+# The checks from outside: the C interface and its header, the stack and the sizes, the C and Rust examples, random books against the second
 # evaluator (which must also find faults that are planted in it), the words tool, the examples, the programs' files, the steps tool, the weights
 # tool and the places tool. Everything is written under target/outside.
 #     tests/run.sh [CASES of the random run; 100000 if not said]
@@ -20,27 +20,30 @@ prints() { # SCRIPT PROGRAM
 }
 
 # a check whose tool is missing has not passed
-for tool in rt gcc g++ rustc python3 nm objdump objcopy; do
+for tool in rt gcc g++ rustc python3 ld nm objdump objcopy; do
     command -v "$tool" > /dev/null || fail "the tool $tool is missing"
 done
 
-# 1. the archive, and its header in C99 and C++
+# 1. the archives, and their header in C99 and C++
 quiet rt staticlib cue
+quiet rt staticlib cue_replay
 archive=target/staticlib/libcue.a
+replay=target/staticlib/libcue_replay.a
 printf '#include "cue.h"\nint main(void) { return CUE_TAKEN; }\n' | tee "$to/header.c" > "$to/header.cpp"
 quiet gcc -std=c99 -Wall -Wextra -pedantic -Werror -Iinclude -fsyntax-only "$to/header.c"
 quiet g++ -std=c++11 -Wall -Wextra -pedantic -Werror -Iinclude -fsyntax-only "$to/header.cpp"
-nm -g --defined-only "$archive" | awk '$2 == "T" { print $3 }' | sort > "$to/exported"
+for a in "$archive" "$replay"; do nm -g --defined-only "$a"; done | awk '$2 == "T" { print $3 }' | sort > "$to/exported"
 grep -v inline include/cue.h | grep -oE '\bcue_[a-z_]+\(' | tr -d '(' | sort -u > "$to/declared"
-diff "$to/exported" "$to/declared" || fail "the header does not declare what the archive exports"
-say "the archive exports, and the header declares, $(wc -l < "$to/exported") functions"
+diff "$to/exported" "$to/declared" || fail "the header does not declare what the archives export, each function once"
+say "the archives export, and the header declares, $(wc -l < "$to/exported") functions"
 
-# 2. the stack of each operation: below the 4,096 bytes that the desk's task has; with a limit too low the measure must fail
-bash tests/stack.sh 4096 "$archive" || fail "the stack"
-! bash tests/stack.sh 100 "$archive" > "$to/low" 2>&1 && grep -q 'ABOVE 100:' "$to/low" || fail "the stack is never too deep"
+# 2. the stack of each operation: below the 4,096 bytes that the desk's task has; with a limit too low the measure must fail; and the
+# header's tables of sizes and stack
+BUILT=1 bash tests/stack.sh || fail "the stack, or the header's tables"
+! BUILT=1 bash tests/stack.sh 100 > "$to/low" 2>&1 && grep -q 'ABOVE 100:' "$to/low" || fail "the stack is never too deep"
 
-# 3. the header's sizes, limits and words against what the functions do, and the examples in C and Rust
-quiet gcc -std=c99 -Wall -Wextra -pedantic -Werror -Iinclude tests/header.c "$archive" -o "$to/header"
+# 3. the header's version, sizes, limits and words against what the functions do, and the examples in C and Rust, for which libcue.a is enough
+quiet gcc -std=c99 -Wall -Wextra -pedantic -Werror -Iinclude tests/header.c "$archive" "$replay" -o "$to/header"
 "$to/header" || fail "the header's sizes are not the functions'"
 quiet gcc -std=c99 -Wall -Wextra -pedantic -Werror -Iinclude examples/c/expand.c "$archive" -o "$to/expand-c"
 "$to/expand-c" > "$to/expand-c.out"
@@ -100,7 +103,7 @@ prints tests/program.sh target/bin/expand
 prints tests/check_book.sh target/bin/check_book
 
 # 7. the steps tool: an example with the expander's own record, one in another order and one with a wrong pair; and its files
-quiet gcc -std=c99 -Wall -Wextra -pedantic -Werror -Iinclude tools/steps.c "$archive" -o "$to/steps"
+quiet gcc -std=c99 -Wall -Wextra -pedantic -Werror -Iinclude tools/steps.c "$archive" "$replay" -o "$to/steps"
 example=examples/step-record
 files=("$to/step-record/show.book" "$to/step-record/show.cue")
 for record in ours other held; do
@@ -136,8 +139,10 @@ for script in program check_book steps weights words places; do
     done
 done
 
-# 10. the benchmark builds, for one archive and for two, and all agree (its times are not looked at here)
+# 10. the benchmark builds, alone and beside another build of the product, without its replay and with it, and all agree (its times are not looked
+# at here)
 quiet env BUILT=1 bash tests/bench/run.sh 0
 quiet env BUILT=1 bash tests/bench/run.sh 0 "$archive"
+quiet env BUILT=1 bash tests/bench/run.sh 0 "$archive" "$replay"
 say "the benchmark agrees; tests/bench/run.sh shows its times"
 say "all is well"

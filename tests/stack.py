@@ -3,9 +3,10 @@
 
     tests/stack.py ARCHIVE [LIMIT; 4096 if not said]
 
-For each exported cue_* function: the bytes of its deepest chain of calls, and that chain. Read from the compiled code (objdump), as a bound
-from above: a function takes its return address, every push and every move of the stack pointer in it, and the red zone if it uses bytes
-below the stack pointer. A jump to another function counts as a call. What the C library brings counts with ALLOWED bytes.
+For each exported cue_* function: the bytes of its deepest chain of calls, and that chain; and which functions use the red zone. Read from
+the compiled code (objdump), as a bound from above: a function takes its return address, every push and every move of the stack pointer in
+it, and the red zone if it uses bytes below the stack pointer. A jump to another function counts as a call. What the C library brings
+counts with ALLOWED bytes. tests/porting.py holds the header's tables to this measure.
 
 Exit status: 0 all at most LIMIT; 1 one above it, or one that can't be bounded: recursion, a call or jump through a pointer, a frame
 whose size is not a constant, a call of something unknown; 2 bad usage.
@@ -36,8 +37,8 @@ class Function:
         name, _, rest = instruction.partition(" ")
         if name in ("bnd", "notrack", "rep", "repz"):
             return self.take(rest)
-        if re.search(r"-0x[0-9a-f]+\(%rsp", rest):
-            self.below = RED_ZONE
+        if m := re.search(r"-0x([0-9a-f]+)\(%rsp([,)])(?!,%rsp)", rest):
+            self.reach(int(m[1], 16), m[2] == ",", instruction)
         if name.startswith(("call", "j")):
             if "*" in rest:
                 self.faults.append(f"it goes through a pointer: {instruction}")
@@ -49,6 +50,13 @@ class Function:
         elif name.startswith("enter") or rest.endswith("%rsp") and not name.startswith(("cmp", "test")):
             self.frame += self.growth(instruction)
         return False
+
+    def reach(self, below, indexed, instruction):
+        """Counts an access so many bytes below the stack pointer. With an index it may be one of the frame, to whose index a number is added."""
+        if below <= RED_ZONE:
+            self.below = RED_ZONE
+        elif not indexed:
+            self.faults.append(f"it goes below the red zone: {instruction}")
 
     def growth(self, instruction):
         """By how much an instruction that sets the stack pointer moves it down."""
@@ -116,6 +124,11 @@ def deepest(found, name, around=()):
     return f.frame + most, [f"{name} {f.frame}"] + chain
 
 
+def in_red_zone(found):
+    """The functions that use bytes below the stack pointer."""
+    return sorted(name for name, f in found.items() if f.below)
+
+
 def main(args):
     if len(args) not in (1, 2) or not all(a.isdigit() for a in args[1:]):
         print(__doc__, file=sys.stderr)
@@ -134,7 +147,10 @@ def main(args):
         if size > limit:
             status = 1
         print(f"stack: {name} {size} bytes{f', ABOVE {limit}' if size > limit else ''}: {' > '.join(chain)}")
+    below = in_red_zone(found)
+    print(f"stack: the red zone is {'used by ' + ', '.join(below) if below else 'not used'}")
     return status
 
 
-sys.exit(main(sys.argv[1:]))
+if __name__ == "__main__":
+    sys.exit(main(sys.argv[1:]))

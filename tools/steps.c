@@ -2,7 +2,7 @@
  * Shows an expansion step by step, and keeps or replays its step record (02, F-3). It rewrites nothing itself: each line is what cue_replay
  * makes of one pair and the cue before it.
  *
- *     gcc -std=c99 -Iinclude tools/steps.c target/staticlib/libcue.a -o target/steps
+ *     gcc -std=c99 -Iinclude tools/steps.c target/staticlib/libcue.a target/staticlib/libcue_replay.a -o target/steps
  */
 #define _POSIX_C_SOURCE 200809L /* for stat and open: which file a name means, and whether it is free */
 #include <errno.h>

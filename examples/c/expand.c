@@ -20,8 +20,13 @@ static uint16_t out[CUE_TERM_WORDS];
 static uint16_t work[CUE_WORK_WORDS];
 
 int main(void) {
-  cue_answer a = cue_expand(book, sizeof book / sizeof book[0], cue, sizeof cue / sizeof cue[0], 10, out, CUE_TERM_WORDS, work, CUE_WORK_WORDS);
+  cue_answer a;
   size_t i;
+  if (cue_version() != CUE_VERSION) {
+    fprintf(stderr, "expand: cue.h and libcue.a are of different versions\n");
+    return 1;
+  }
+  a = cue_expand(book, sizeof book / sizeof book[0], cue, sizeof cue / sizeof cue[0], 10, out, CUE_TERM_WORDS, work, CUE_WORK_WORDS);
   printf("number place steps\n%lu %lu %lu\n", (unsigned long)a.number, (unsigned long)a.place, (unsigned long)a.steps);
   if (a.number == CUE_TAKEN) {
     for (i = 0; i < a.place; i++) {

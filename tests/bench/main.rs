@@ -1,6 +1,6 @@
 //! The product, another archive of it if there is one, and the second evaluator on the same inputs in one run: how long each takes, steps
 //! for each second, and the ratios. Where the command `maude` is present it evaluates the same systems with its `strat` attributes, and its
-//! steps for each second stand in the same table; all must agree on the answers. Then what a step record costs the product, and its replay.
+//! steps for each second stand in the same table; all must agree on the answers. Then what a step record costs, and its replay.
 //!
 //!     bench [SECONDS for each measurement; 0.3 if not said]
 //!
@@ -21,6 +21,9 @@ mod plant;
 #[path = "../second/product.rs"]
 #[allow(dead_code)]
 mod product;
+#[path = "../second/product_replay.rs"]
+#[allow(dead_code)]
+mod product_replay;
 #[path = "../second/weights.rs"]
 #[allow(dead_code)]
 mod weights;
@@ -33,23 +36,40 @@ use archives::{Archive, OTHER, PRODUCT};
 use book::{Book, ANSWER_WORDS, WORK_WORDS};
 use evaluate::{evaluate, End};
 use plant::Plant;
-use std::time::Instant;
 use works::{largest, Work, FALLING};
 
 type Call<'a> = Box<dyn FnMut() + 'a>;
 
-/// Seconds for one call of each, the best of five rounds; they take turns, so that what else the machine does meets all of them.
+#[repr(C)]
+struct Timespec {
+    seconds: i64,
+    nanoseconds: i64,
+}
+
+extern "C" {
+    fn clock_gettime(clock: i32, now: *mut Timespec) -> i32;
+}
+
+/// The processor time of this thread, in seconds: what else the machine does takes none of it.
+fn seconds() -> f64 {
+    const THREAD: i32 = 3;
+    let mut now = Timespec { seconds: 0, nanoseconds: 0 };
+    assert_eq!(unsafe { clock_gettime(THREAD, &mut now) }, 0);
+    now.seconds as f64 + now.nanoseconds as f64 * 1e-9
+}
+
+/// Seconds for one call of each, the best of five rounds; they take turns, so that a processor that is slower for a while is so for all of them.
 fn measure(least: f64, mut calls: Vec<Call>) -> Vec<f64> {
     let mut best = vec![f64::MAX; calls.len()];
     for _ in 0..5 {
         for (call, best) in calls.iter_mut().zip(&mut best) {
-            let start = Instant::now();
+            let start = seconds();
             let mut n = 0;
-            while n == 0 || start.elapsed().as_secs_f64() < least / 5.0 {
+            while n == 0 || seconds() - start < least / 5.0 {
                 call();
                 n += 1;
             }
-            *best = best.min(start.elapsed().as_secs_f64() / n as f64);
+            *best = best.min((seconds() - start) / n as f64);
         }
     }
     best

@@ -163,6 +163,14 @@ fn kept(label: &str, order: &[usize], n: usize, leaves: usize) -> Work {
     work(label, book, cue)
 }
 
+/// Rounds that keep two long arguments, each evaluated in each round: what a step costs where all of a long cue is visited for it.
+fn kept_twice(label: &str, n: usize, leaves: usize) -> Work {
+    let (z, s, p, run) = (0, 1, 2, 3);
+    let book = write(&[(0, &[]), (1, &[]), (2, &[1, 2]), (3, &[1, 2, 3, 0])], &[(&[run, z, A, B], &[A]), (&[run, s, A, B, C], &[run, A, B, C])]);
+    let tree = balanced(p, leaves, &[vec![z]]);
+    work(label, book, [vec![run], nest(s, n, &[z]), tree.clone(), tree].concat())
+}
+
 /// same(a, a) over two arguments of 1,500 words, tried in each of n rounds: they differ in the word at an index.
 fn same(label: &str, n: usize, at: usize) -> Work {
     let (z, s, p, same, run, y, q) = (0, 1, 2, 3, 4, 5, 6);
@@ -276,6 +284,7 @@ pub fn all() -> Vec<Work> {
         lists("eager lists", 50),
         kept("kept argument, 3,511", &[1, 0], 500, 1756),
         kept("the same, evaluated", &[1, 2, 0], 50, 1756),
+        kept_twice("two of 2,019, evaluated", 50, 1010),
         same("same(a, a), last word", 400, 1499),
         same("same(a, a), first word", 400, 0),
         repeats(4),

@@ -8,7 +8,8 @@ use crate::counts::{count, Counts};
 use crate::demand3;
 use crate::evaluate::{all_fits, evaluate, evaluate_recorded, pairs, End, Fit, Step};
 use crate::plant::Plant;
-use crate::product::{self, Answer, Replayed};
+use crate::product::{self, Answer};
+use crate::product_replay::{self, Replayed};
 use crate::random::{Case, PATIENCE};
 use crate::replay::{replay, Place, Replay, Stop, Wrong};
 use std::rc::Rc;
@@ -103,7 +104,7 @@ fn retraced(case: &Case, plant: Plant, expected: &Recorded) -> Checked {
     let (mut first, mut second) = (Pair::first(case, plant), Pair::second(case, plant));
     let mut record = Lent::new(case.room, case.dirt);
     let [out, work] = first.slices();
-    let got = product::expand_retraced(&case.book, &case.cue, case.limit, [out, work, record.slice()], second.slices());
+    let got = product_replay::expand_retraced(&case.book, &case.cue, case.limit, [out, work, record.slice()], second.slices());
     let a = expected.answer;
     same("expanding, to be replayed", a, got.answer)?;
     first.check(a.number, expected.words.as_deref()).map_err(of("expanding, to be replayed"))?;
@@ -146,7 +147,7 @@ fn replayed(case: &Case, plant: Plant, input: &Input, n: &mut Counts) -> Checked
     };
     n.replayed[expected.number as usize] += 1;
     let (mut lent, mut record) = (Pair::first(case, plant), Lent::holding(&case.record, case.dirt));
-    let got = product::replay(&case.book, &case.cue, record.slice(), lent.slices());
+    let got = product_replay::replay(&case.book, &case.cue, record.slice(), lent.slices());
     same("replaying", expected, got)?;
     lent.check(got.number, words.as_deref()).map_err(of("replaying"))?;
     record.check("the record that was read", &[])

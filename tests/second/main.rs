@@ -32,6 +32,7 @@ mod paper_twins;
 mod paper_weights;
 mod plant;
 mod product;
+mod product_replay;
 mod random;
 mod random_books;
 mod random_changes;
@@ -249,6 +250,10 @@ fn all() -> i32 {
         eprintln!("second [CASES] [--seed N] [--threads N] [--plant 1 to {}] [--plain]", PLANTS.len());
         return 2;
     };
+    if product::version() != product::header_version() {
+        println!("second: the archive's version is {:#x}, the header's {:#x}", product::version(), product::header_version());
+        return 1;
+    }
     if o.plant == Plant::Nothing {
         let mut faults = paper::paper();
         faults.extend(paper_levels::levels());

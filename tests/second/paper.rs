@@ -9,6 +9,7 @@ use crate::counts::Counts;
 use crate::evaluate::{evaluate, evaluate_recorded, pairs, End};
 use crate::plant::Plant;
 use crate::product;
+use crate::product_replay;
 use crate::random::Case;
 use crate::replay::replay;
 
@@ -140,7 +141,7 @@ impl Check {
         }
         self.compares(label, &Case { record: record.to_vec(), ..case(book, cue, 0) });
         let mut out = [7; ANSWER_WORDS];
-        let n = product::replay(book, cue, &mut record.to_vec(), [&mut out, &mut [7; WORK_WORDS]]);
+        let n = product_replay::replay(book, cue, &mut record.to_vec(), [&mut out, &mut [7; WORK_WORDS]]);
         self.hold(&format!("{label}, product"), narrow(expected), narrow((n.number, n.place, n.steps)));
         if expected.0 == 0 {
             self.words(&format!("{label}, product's cue"), last, &out[..last.len()]);

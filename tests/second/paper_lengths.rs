@@ -3,6 +3,7 @@
 use crate::book::ANSWER_WORDS;
 use crate::paper::{case, nested, Check, B};
 use crate::product;
+use crate::product_replay;
 use crate::random::Case;
 
 /// The work buffer of 12,288 words (02, F-5), and long cues in it: "with that much lent, users get the same cues and counts".
@@ -33,7 +34,7 @@ fn lends(t: &mut Check, work_words: usize, number: u32) {
     let a = product::expand(&B, &[2, 3, 4], 4, &mut out, &mut work);
     t.hold(&format!("F-5, expansion, {work_words} words lent"), c8(number), (a.number, a.place, a.steps));
     let mut again = vec![7; work_words];
-    let r = product::replay(&B, &[2, 3, 4], &mut [2, 0, 1, 2, 1, 0, 0, 1], [&mut [7; ANSWER_WORDS], &mut again]);
+    let r = product_replay::replay(&B, &[2, 3, 4], &mut [2, 0, 1, 2, 1, 0, 0, 1], [&mut [7; ANSWER_WORDS], &mut again]);
     t.hold(&format!("F-5, replay, {work_words} words lent"), c8(number), (r.number, r.place, r.steps as u32));
     // a limit, which leaves the work buffer as 0 does
     let mut spent = vec![7; work_words];

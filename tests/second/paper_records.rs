@@ -3,6 +3,7 @@
 use crate::book::WORK_WORDS;
 use crate::paper::{case, changed, nested, Check, B, DOUBLES};
 use crate::product;
+use crate::product_replay;
 use crate::random::Case;
 
 /// higher of(lower of(level 255, level 3), lower of(level 200, higher of(level 0, level 2))): argument 1 first, at index 1, by rule 129.
@@ -102,7 +103,7 @@ fn refusals(t: &mut Check) {
         ("the cue before the record", &B, &[2], 4096, (9, 1, 0)),
         ("the record", &B, &[4], 4096, (17, 0, 0)),
     ] {
-        let n = product::replay(book, cue, &mut [0], [&mut vec![7; out], &mut [7; WORK_WORDS]]);
+        let n = product_replay::replay(book, cue, &mut [0], [&mut vec![7; out], &mut [7; WORK_WORDS]]);
         t.hold(&format!("F-3, replay, {label}"), expected, (n.number, n.place, n.steps as u32));
         let expected = if expected.0 == 17 { (16, 0, 0) } else { expected };
         let n = product::expand_recorded(book, cue, 9, [&mut vec![7; out], &mut [7; WORK_WORDS], &mut [7]]);

@@ -1,4 +1,4 @@
-//! The product, through its C interface (include/cue.h).
+//! The product, through its C interface (include/cue.h): the functions of libcue.a. `product_replay.rs` has those of libcue_replay.a.
 
 pub const VARIABLES: usize = 16;
 
@@ -53,27 +53,12 @@ pub struct Twice {
     pub second: Answer,
 }
 
-/// A replay's three numbers: its steps are the pairs, of which a record may hold more than 32 bits count.
-#[repr(C)]
-#[derive(Clone, Copy, Debug, PartialEq)]
-pub struct Replayed {
-    pub number: u32,
-    pub place: usize,
-    pub steps: usize,
-}
-
-#[repr(C)]
-#[derive(Clone, Copy, Debug, PartialEq)]
-pub struct Retraced {
-    pub answer: Answer,
-    pub replay: Replayed,
-}
-
 pub mod c {
     use super::*;
     functions! {
         #[link(name = "cue", kind = "static")]
         extern "C" {
+            fn cue_version(; ;) -> u32;
             fn cue_read(book; ;) -> Answer;
             fn cue_shape_of(book; ;) -> Shape;
             fn cue_check_term(book, term; ;) -> Answer;
@@ -87,10 +72,22 @@ pub mod c {
             fn cue_expand_checked(book, term; limit: u32; out, work) -> Checked;
             fn cue_expand_twice(book, term; limit: u32; out, work, again, spare) -> Twice;
             fn cue_expand_recorded(book, term; limit: u32; out, work, record) -> Answer;
-            fn cue_replay(book, term, record; ; out, work) -> Replayed;
-            fn cue_expand_retraced(book, term; limit: u32; out, work, record, again, spare) -> Retraced;
         }
     }
+}
+
+pub fn version() -> u32 {
+    call!(c::cue_version; ; ;)
+}
+
+/// The version of the header, as `version` counts it.
+pub fn header_version() -> u32 {
+    let header = include_str!("../../include/cue.h");
+    let number = |name: &str| -> u32 {
+        let told = header.lines().find_map(|l| l.strip_prefix(&format!("#define {name} ")[..]));
+        told.and_then(|n| n.parse().ok()).expect(name)
+    };
+    number("CUE_VERSION_MAJOR") * 65536 + number("CUE_VERSION_MINOR")
 }
 
 pub fn read(book: &[u16]) -> Answer {
@@ -147,16 +144,4 @@ pub fn expand_twice(book: &[u16], term: &[u16], limit: u32, first: [&mut [u16]; 
 pub fn expand_recorded(book: &[u16], term: &[u16], limit: u32, lent: [&mut [u16]; 3]) -> Answer {
     let [out, work, record] = lent;
     call!(c::cue_expand_recorded; book, term; limit; out, work, record)
-}
-
-/// The record is only read. It is handed over as one that may be written, so that a caller who looks for a change would see it.
-pub fn replay(book: &[u16], term: &[u16], record: &mut [u16], lent: [&mut [u16]; 2]) -> Replayed {
-    let [out, work] = lent;
-    call!(c::cue_replay; book, term; ; record, out, work)
-}
-
-/// The buffers of the expansion: answer, work and record; and of the replay: answer and work.
-pub fn expand_retraced(book: &[u16], term: &[u16], limit: u32, first: [&mut [u16]; 3], second: [&mut [u16]; 2]) -> Retraced {
-    let ([out, work, record], [again, spare]) = (first, second);
-    call!(c::cue_expand_retraced; book, term; limit; out, work, record, again, spare)
 }
