@@ -48,10 +48,14 @@ quiet gcc -std=c99 -Wall -Wextra -pedantic -Werror -Iinclude tests/header.c "$ar
 quiet gcc -std=c99 -Wall -Wextra -pedantic -Werror -Iinclude examples/c/expand.c "$archive" -o "$to/expand-c"
 "$to/expand-c" > "$to/expand-c.out"
 diff examples/c/stdout "$to/expand-c.out" || fail "the C example prints something else"
+mkdir -p "$to/another"
+sed 's/^#define CUE_VERSION_MINOR .*/&1/' include/cue.h > "$to/another/cue.h"
+quiet gcc -std=c99 -Wall -Wextra -pedantic -Werror -I"$to/another" examples/c/expand.c "$archive" -o "$to/expand-another"
+! "$to/expand-another" > "$to/expand-another.out" 2>&1 || fail "the C example takes the header of another version"
 quiet rustc --edition 2021 -D warnings -L target/staticlib examples/rust/expand.rs -o "$to/expand-rust"
 "$to/expand-rust" > "$to/expand-rust.out"
 diff examples/rust/stdout "$to/expand-rust.out" || fail "the Rust example prints something else"
-say "the C example and the Rust example print what the paper prints"
+say "the C example and the Rust example print what the paper prints; the one in C refuses the header of another version"
 
 # 4. random books against the second evaluator, and the planted faults
 quiet rustc -O --edition 2021 -D warnings -L target/staticlib tests/second/main.rs -o "$to/second"

@@ -48,6 +48,7 @@ leaf='int cue_a(int n) { volatile char v[64]; v[n] = 1; return v[1]; }'
 tried 'cue_a 136 bytes' "$leaf"
 tried 'red zone is used by cue_a$' "$leaf"
 tried 'red zone is not used' "$leaf" -mno-red-zone
+tried 'below the red zone' 'int cue_a(void) { int r; __asm__("movl -0x100(%%rsp), %0" : "=r"(r)); return r; }'
 
 ours=()
 if [ ${#archives[@]} = 0 ]; then
