@@ -8,7 +8,8 @@ alone: the bytes that are linked, what the C library must bring, and whether the
 function's archive and stack (tests/stack.py). Prints each line of the header that is not so, with the line that is due; --write puts the lines that
 are due there.
 
-Exit status: 0 the tables are so; 1 they are not, or an archive has data that can be written, or the stack can't be bounded; 2 bad usage.
+Exit status: 0 the tables are so; 1 they are not, or an archive has data that can be written or instructions beyond SSE2, or the stack can't be
+bounded; 2 bad usage.
 """
 import os
 import re
@@ -23,8 +24,8 @@ SIZES = " *   {:<52}{:>9}   {:<16}{}"
 STACK = " *   {:<24}{:<20}{:>12}"
 
 
-def said(*command):
-    run = subprocess.run(command, capture_output=True, text=True)
+def said(*command, given=None):
+    run = subprocess.run(command, input=given, capture_output=True, text=True)
     if run.returncode != 0:
         sys.exit(f"porting: {' '.join(command)}: {run.stderr}")
     return run.stdout.splitlines()
@@ -41,6 +42,14 @@ def linked(path):
             sys.exit(f"porting: {path}: section {m[1]} can be written")
         total += int(m[2], 16)
     return total
+
+
+def up_to_sse2(archive):
+    """Fails where an archive has an instruction that not every x86-64 has: the assembler is to take all but jumps and what fills gaps."""
+    listed = said("objdump", "-d", "--no-show-raw-insn", archive)
+    found = {m[1] for line in listed if (m := re.match(r"\s+[0-9a-f]+:\t([^#<]+)", line))}
+    plain = sorted(i for i in found if not re.match(r"call|j|bnd |notrack |data16 |cs nop|nop", i))
+    said("as", "-march=generic64", "-o", os.devnull, "-", given="\n".join(plain) + "\n")
 
 
 def show_alone(archive):
@@ -62,6 +71,7 @@ def tables(header, archives):
     """The rows that are due below the two lines of headings."""
     sizes, depths = [], []
     for archive in archives:
+        up_to_sse2(archive)
         name, found = os.path.basename(archive), stack.functions(archive)
         needs = ", ".join(sorted(line.split()[-1] for line in said("nm", "-u", archive) if " U " in line)) or "nothing"
         zone = "used" if stack.in_red_zone(found) else "not used"

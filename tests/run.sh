@@ -20,7 +20,7 @@ prints() { # SCRIPT PROGRAM
 }
 
 # a check whose tool is missing has not passed
-for tool in rt gcc g++ rustc python3 ld nm objdump objcopy; do
+for tool in rt gcc g++ rustc python3 as ld nm objdump objcopy; do
     command -v "$tool" > /dev/null || fail "the tool $tool is missing"
 done
 

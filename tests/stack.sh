@@ -77,4 +77,8 @@ rows='^ \*   \(lib\|cue_\)'
 spoilt "$(grep -c "$rows" include/cue.h)" "/$rows/s/[0-9]\( \|\$\)/0&/"
 spoilt "$(grep -c "${rows}.*used\$" include/cue.h)" "/$rows/{s/not used\$/used/;t;s/used\$/not used/}"
 spoilt 1 '/^ \*   cue_expand_retraced /d'
+# an instruction of a later processor must be seen
+echo 'int cue_a(unsigned n) { return __builtin_popcount(n); }' > "$to/tried.c"
+gcc -O2 -mpopcnt -c "$to/tried.c" -o "$to/tried.o"
+! python3 tests/porting.py include/cue.h "${ours[@]}" "$to/tried.o" 2> "$to/spoilt" && grep -q 'popcnt' "$to/spoilt" || fail "a later instruction is taken"
 echo "stack: the header's tables of sizes and stack are those of the archives"
