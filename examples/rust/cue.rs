@@ -1,5 +1,8 @@
-//! Two functions of include/cue.h, safe to call: what a desk needs for a show. Put this file into your own crate, and link libcue.a
+//! Three functions of include/cue.h, safe to call: what a desk needs for a show. Put this file into your own crate, and link libcue.a
 //! (`rt staticlib cue` writes it to target/staticlib/).
+
+/// The version of the header from which this file was written: 65536 times the first number, and the second.
+pub const VERSION: u32 = 4 * 65536;
 
 /// The words to lend to an expansion: for the answer, and to work in.
 pub const TERM_WORDS: usize = 4096;
@@ -18,11 +21,18 @@ mod c {
     use super::Answer;
     #[link(name = "cue", kind = "static")]
     extern "C" {
+        pub fn cue_version() -> u32;
         pub fn cue_test_strategies(book: *const u16, book_words: usize) -> Answer;
         #[rustfmt::skip]
         pub fn cue_expand(book: *const u16, book_words: usize, term: *const u16, term_words: usize, limit: u32,
                           out: *mut u16, out_words: usize, work: *mut u16, work_words: usize) -> Answer;
     }
+}
+
+/// The version of the archive: anything but VERSION is another interface.
+pub fn version() -> u32 {
+    // safe: nothing is handed over
+    unsafe { c::cue_version() }
 }
 
 /// The order test, once for a book: 0 if every name passes, else 14 and the first name that does not; or what is wrong with the book.

@@ -13,6 +13,7 @@ const BOOK: [u16; 39] = [
 ];
 
 fn main() {
+    assert_eq!(cue::version(), cue::VERSION, "libcue.a is of another version than cue.rs");
     assert_eq!(cue::test_strategies(&BOOK).number, 0, "a name of the book fails the order test");
     let (mut out, mut work) = ([0; cue::TERM_WORDS], [0; cue::WORK_WORDS]);
     let a = cue::expand(&BOOK, &[2, 3, 4], 10, &mut out, &mut work);
