@@ -10,7 +10,7 @@ use lib.Seq.{take-append-le, drop-at, sets-eq}
 use borrow.Author.Tests.{le-leb, lt-leb}
 use Rattle.system.specs.Limits.{areaWords, termWords}
 use Rattle.buffers.specs.Words.{over, zeros}
-use Rattle.buffers.proofs.Pads.{length-zeros}
+use Rattle.buffers.proofs.Zeros.{length-zeros}
 use Rattle.system.specs.declared.Answer.{Answer}
 use Rattle.reader.specs.declared.Shape.{Shape}
 use Rattle.system.specs.Terms.{Whole, WellFormed}

@@ -1,7 +1,7 @@
 -- What the evaluator (01: the expander) answers and leaves in the lent buffers, for every input: without a record, and with one (02, F-3).
 use Prim.Native.Nat.{ℕ, zero, suc}
 use mathlib.Core.Bool.{true, false, _&&_}
-use mathlib.Core.List.{List, []}
+use mathlib.Core.List.{List}
 use lib.ListN.{length, take}
 use lib.Dec.{leb}
 use Rattle.buffers.specs.Words.{over, zeros}

@@ -13,7 +13,7 @@ use Rattle.system.specs.Limits.{variable, variables}
 use Rattle.system.specs.Signature.{Signature, span}
 use Rattle.system.specs.System.{Rule}
 use Rattle.system.specs.Terms.{Member, Numbered, end, symbol, next, again, WellFormedRule}
-use Rattle.system.proofs.Members.{member-getD, numbered-le, numbered-below}
+use Rattle.system.proofs.Members.{member-getD, numbered-le}
 use Rattle.matching.specs.Bindings.{Bindings, noBindings, consumed, value, taken, withBinding, bindings}
 use Rattle.matching.specs.rules.Searches.{reductLength, Within}
 use Rattle.matching.proofs.SameWords.{same-self, differ-same, same-words}
@@ -48,12 +48,6 @@ module _ (lengths : List ℕ) where
       let i : w - variable ≡ v = omega arith in
       let z = rw i at (length-variable lengths (w ∷ []) 0 (omega arith) w refl (omega arith)) in
       omega (arith, reduct-none)
-
-  -- before a variable stands a word at least, where the side starts with a symbol
-  reduct-first : (ls : List ℕ) (i : ℕ) → i < length ls → getD ls 0 variable < variable → variable ≤ getD ls i 0 → 0 < reductLength lengths (take i ls)
-  reduct-first [] i h l v = absurd (omega arith)
-  reduct-first (w ∷ ls) zero h l v = absurd (omega arith)
-  reduct-first (w ∷ ls) (suc i) h l v = omega (arith, length-symbol lengths (w ∷ take i ls) 0 (omega arith) w refl l)
 
 -- ---- a side that is bound to the words of t from number q on
 
@@ -239,10 +233,6 @@ module _ (g : Signature) (t : List ℕ) where
     pub placed-member : Member (variable + v) ls
     placed-member = subst (λ w. Member w ls) (p .word) (member-getD ls (p .index) (p .inside))
 
-    -- behind the first word, where that is a symbol
-    pub placed-later : getD ls 0 variable < variable → 0 < getD (a .starts) v 0
-    placed-later h = let z = reduct-first (a .lengths) ls (p .index) (p .inside) h (omega (arith, p .word)) in omega (arith, p .start)
-
   first-none : First noBindings 0
   first-none = record { within = within-none t; known = λ v h. absurd (omega arith); others = λ v h. none-length v }
 
@@ -250,9 +240,6 @@ module _ (g : Signature) (t : List ℕ) where
   module _ {r : Rule} (law : WellFormedRule g r) {a : Bindings} (e : bindings g t (r .lhs) 0 noBindings ≡ some a) where
     pub below-placed : (v : ℕ) → v < law .count → Placed a 0 (r .lhs) v
     below-placed v h = placed (law .numbered) (law .variableBound) 0 noBindings a first-none e v (omega arith) h
-
-    pub member-placed : (v : ℕ) → Member (variable + v) (r .lhs) → Placed a 0 (r .lhs) v
-    member-placed v st = below-placed v (let z = numbered-below (law .numbered) st in omega arith)
 
     -- every variable has such a stretch, or none
     pub any-placed : (v : ℕ) → Placed a 0 (r .lhs) v ⊎ ((getD (a .starts) v 0 ≡ 0) × (getD (a .lengths) v 0 ≡ 0))

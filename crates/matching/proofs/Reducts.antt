@@ -24,7 +24,7 @@ use Rattle.matching.specs.declared.FirstRule.the-variants.{Nothing, Firs
 use Rattle.reader.specs.Book.{systemOf, Accepted}
 use Rattle.matching.specs.Matching.{FirstMatch, Matches, bind, Contraction, contraction}
 use Rattle.matching.specs.Bindings.{Bindings, matchListed, matchOf, value, bindingsOf, contractionOf}
-use Rattle.matching.specs.rules.Searches.{reductLength, RightSideAt, Within}
+use Rattle.matching.specs.rules.Searches.{reductLength, Within}
 use Rattle.matching.proofs.Matched.{instance-nil, instance-symbol, instance-variable, instance-cong, instance-ground, bind-sound}
 use Rattle.matching.proofs.Computed.{Redex, computed-built, computed-rest, computed-value}
 use Rattle.matching.proofs.Firsts.{contraction-rest, fired, unfired}
@@ -90,10 +90,7 @@ module _ (b : List ℕ) (sh : Shape) (acc : Accepted b sh) where
     book-match : {n rhs size : ℕ} → m .rule ≡ First n rhs size → m ≡ matchListed s ws
     book-match f = e ∙ match-listed b sh acc ws (ap (λ y. y .rule) (sym e) ∙ f)
 
-    -- the right side of a listed rule, and the stretches of its variables
-    pub match-right : {n rhs size : ℕ} → m .rule ≡ First n rhs size → RightSideAt b rhs size
-    match-right {n} {rhs} {size} f = found b sh acc ws .right n rhs size (ap (λ y. y .rule) (sym (book-match f)) ∙ f)
-
+    -- the stretches of its variables
     pub match-within : Within ws (m .starts) (m .lengths)
     match-within = rw e (all-within b sh acc ws)
 
@@ -113,8 +110,6 @@ module _ (b : List ℕ) (sh : Shape) (acc : Accepted b sh) where
     pub match-word : {k w : ℕ} → m .rule ≡ Computed k w → contraction s ws ≡ some (record { number = k; reduct = w ∷ [] })
     unfolding contractionOf
     match-word f = sym match-redex ∙ rw (f, contractionOf)
-
-    -- the number of the rule that was found
 
     -- what a built-in rule puts there is a literal
     pub match-value : {k w : ℕ} → m .rule ≡ Computed k w → w < variable

@@ -6,16 +6,15 @@ use mathlib.Core.Path.{_≡_, refl, sym, ap, _∙_, subst}
 use mathlib.Core.Logic.{_⊎_, inl, inr}
 use mathlib.Core.Option.{Option, none, some}
 use mathlib.Core.List.{List, [], _∷_, _++_}
-use lib.ListN.{length, getD, take, drop, length-append, length-drop, take-append-drop}
-use lib.Seq.{take-append-le, drop-append-le}
+use lib.ListN.{length, getD, take, drop, length-append, take-append-drop}
 use Rattle.reader.specs.declared.Shape.{Shape}
 use Rattle.system.specs.Limits.{variable}
-use Rattle.system.specs.Signature.{Signature, Symbol, span}
+use Rattle.system.specs.Signature.{Signature, Symbol}
 use Rattle.system.specs.System.{System, Rule, rule, noRule, instance}
 use Rattle.system.specs.Terms.{Whole, Member, WellFormedRule}
 use Rattle.reader.specs.Format.{encodeStrategies, encodeRules}
 use Rattle.reader.specs.Book.{systemOf, Accepted}
-use Rattle.system.proofs.Signatures.{few-symbols, symbol-below}
+use Rattle.system.proofs.Signatures.{few-symbols}
 use Rattle.system.proofs.Members.{numbered-below}
 use Rattle.system.proofs.Forests.{Wholes}
 use Rattle.reader.proofs.Located.{RuleAt, rule-encoded}
@@ -30,7 +29,7 @@ use Rattle.matching.proofs.Words.{instance-append}
 use Rattle.matching.proofs.BindingsAgree.{Reads, Agree, neither, both, rule-agree}
 use Rattle.matching.proofs.Sources.{match-listed}
 use Rattle.matching.proofs.Reducts.{match-some, match-within, reduct-length}
-use Rattle.matching.proofs.Placed.{Placed, below-placed, member-placed, any-placed, placed-split, placed-inside, placed-member, placed-later}
+use Rattle.matching.proofs.Placed.{below-placed, any-placed, placed-split, placed-inside, placed-member}
 use Rattle.matching.proofs.rules.MatchSteps.{from-nil, from-here, from-next}
 
 -- ---- the rule that is found, with its left side's bindings and its right side's words
@@ -146,16 +145,6 @@ module _ (b : List ℕ) (sh : Shape) (acc : Accepted b sh) where
 
     -- ---- where the stretches lie
 
-    -- those of the left side's variables: one subterm each, behind the first word
-    placed : (v : ℕ) → Member (variable + v) lhs → Placed (s .arities) (u ++ d) a 0 lhs v
-    placed = member-placed (s .arities) (u ++ d) match-law match-bound
-
-    pub match-lengths : (v : ℕ) → Member (variable + v) lhs → getD (m .lengths) v 0 ≡ span (s .arities) (drop (getD (m .starts) v 0) (u ++ d)) 1
-    match-lengths v st = placed v st .spans
-
-    pub match-later : (v : ℕ) → Member (variable + v) lhs → 0 < getD (m .starts) v 0
-    match-later v st = placed-later (s .arities) (u ++ d) (placed v st) (symbol-below (s .arities) (getD lhs 0 variable) (few-symbols s (well b sh acc)) (match-law .headed))
-
     -- how long a side is, or a part of one, when it is filled
     pub side-length : (ls : List ℕ) → length (instance σ ls) ≡ reductLength (m .lengths) ls
     side-length = reduct-length (u ++ d) a (match-within b sh acc (u ++ d) m e)
@@ -179,18 +168,6 @@ module _ (b : List ℕ) (sh : Shape) (acc : Accepted b sh) where
           | inl p ↦ elim (placed-split (s .arities) (u ++ d) p j) [ inl h ↦ inl (omega arith) | inr h ↦ inr (omega arith) ]
           | inr z ↦ inl (omega arith)
         ]
-
-    -- what follows u does not count
-    pub match-same : (v : ℕ) → value (u ++ d) (bindingsOf m) v ≡ value u (bindingsOf m) v
-    unfolding value
-    match-same v =
-        let h = match-fits v in
-        let l = getD (m .lengths) v 0 in
-        let i = getD (m .starts) v 0 in
-        ap (take l) (drop-append-le i u d (omega arith)) ∙ take-append-le l (drop i u) d (rw (length-drop i u) (omega arith))
-
-    pub match-left-same : u ≡ instance (value u (bindingsOf m)) lhs
-    match-left-same = match-left ∙ instance-cong σ (value u (bindingsOf m)) lhs (λ w n st y. match-same n)
 
     -- ---- a cut of the left side: the subterm is what both parts are filled to
 

@@ -2,14 +2,14 @@
 use Prim.Native.Nat.{ℕ, suc, _+_, _-_, _≤_, _<_}
 use mathlib.Core.Path.{_≡_, refl, sym, ap, _∙_}
 use mathlib.Core.Option.{none}
-use mathlib.Core.List.{List, [], _∷_, _++_, append-assoc, append-nil}
+use mathlib.Core.List.{List, [], _∷_, _++_, append-assoc}
 use lib.ListN.{length, getD, take, drop, drop-of-length-le}
-use lib.Seq.{drop-cons, drop-drop, take-suc}
+use lib.Seq.{drop-cons, drop-drop}
 use Rattle.system.specs.Limits.{variable}
 use Rattle.system.specs.Signature.{Signature, span, subterm}
 use Rattle.system.specs.System.{instance}
 use Rattle.matching.specs.Matching.{bind}
-use Rattle.matching.proofs.Matched.{bind-symbol, bind-differ, bind-new, bind-same, bind-other, instance-nil, instance-symbol, instance-variable}
+use Rattle.matching.proofs.Matched.{bind-symbol, bind-differ, bind-new, bind-same, bind-other}
 
 module _ (g : Signature) where
   -- matching: word j of a side against word q of a term
@@ -67,11 +67,3 @@ pub instance-append : (σ : ℕ → List ℕ) (a b : List ℕ) → instance σ (
 unfolding instance
 instance-append σ [] b = refl
 instance-append σ (w ∷ a) b = simp (instance-append σ a b, append-assoc)
-
-module _ (σ : ℕ → List ℕ) (ls : List ℕ) (j : ℕ) (more : j < length ls) where
-  pub fill-symbol : getD ls j 0 < variable → instance σ (take (suc j) ls) ≡ instance σ (take j ls) ++ (getD ls j 0 ∷ [])
-  fill-symbol h = rw (take-suc ls j 0 more, instance-append σ (take j ls) (getD ls j 0 ∷ []), instance-symbol σ (getD ls j 0) [] h, instance-nil σ)
-
-  pub fill-variable : (n : ℕ) → getD ls j 0 ≡ variable + n → instance σ (take (suc j) ls) ≡ instance σ (take j ls) ++ σ n
-  fill-variable n e =
-      rw (take-suc ls j 0 more, instance-append σ (take j ls) (getD ls j 0 ∷ []), instance-variable σ (getD ls j 0) n [] e, instance-nil σ, append-nil (σ n))

@@ -84,11 +84,7 @@ module _ (g : Signature) (below : length g ≤ variable) where
       go (inl s) = head-listed g w (passes-symbol g Left true (suc due) known w c s)
       go (inr v) = let z : true ≡ false = left-variable true known w v .0 in let y : _≡_ {A = ℕ} 0 1 = cc in absurd (omega arith)
 
-  -- the right side: it teaches nothing, and each of its words is below the last variable known
-  pub taken-last : {start : Bool} {due known last : ℕ} {ws : List ℕ} → Taken g Right start due known last ws → last ≡ known
-  taken-last done = refl
-  taken-last (takes {known} {w} c t) = taken-last t ∙ learn-right Right known w refl
-
+  -- the right side: each of its words is below the last variable known
   pub taken-known : {start : Bool} {due known last : ℕ} {ws : List ℕ} → Taken g Right start due known last ws → (w : ℕ) → Member w ws → w < variable + known
   taken-known (takes {start} {due} {known} {w = v} c t) w first = go (passes-word g Right start due known v c)
     where

@@ -9,7 +9,6 @@ use mathlib.Core.Bool.{false}
 use mathlib.Core.Option.{some}
 use mathlib.Core.List.{List}
 use Rattle.reader.specs.declared.scan.sides.SideRole.the-variants.{Left}
-use Rattle.system.specs.Limits.{variable}
 use Rattle.system.specs.Numbers.{unbound}
 use Rattle.system.specs.Terms.{different, Numbered, end, symbol, next, again, InOrder}
 use Rattle.reader.specs.Parser.{variableFault, learnAll}

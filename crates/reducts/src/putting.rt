@@ -1,5 +1,4 @@
 // A reduct put in the place of words of the term.
-ghost use mathlib.Core.Path.{_≡_};
 ghost use Rattle.system.specs.Signature.{signatureOf};
 ghost use Rattle.reducts.specs.sides.Sides.{stretchesIn};
 ghost use Rattle.reducts.specs.putting.Replaced.{Removable, Aside, Puttable, Put};

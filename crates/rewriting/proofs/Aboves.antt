@@ -7,7 +7,6 @@ use lib.ListN.{length, getD, take}
 use Rattle.system.specs.System.{System}
 use Rattle.rewriting.specs.Machine.{down, position}
 use Rattle.rewriting.specs.levels.Lengths.{above}
-use Rattle.rewriting.proofs.Laws.{down-lt, position-le}
 
 module _ (s : System) (t : List ℕ) where
   pub above-none : (p : ℕ) → above s t [] p ≡ []
@@ -24,12 +23,6 @@ module _ (s : System) (t : List ℕ) where
   above-snoc [] c p = refl
   above-snoc (d ∷ cs) c p = ap (λ z. p ∷ z) (above-snoc cs c (down s t p d))
 
-  pub above-take : (cs : List ℕ) (p k : ℕ) → above s t (take k cs) p ≡ take k (above s t cs p)
-  unfolding above
-  above-take cs p zero = refl
-  above-take [] p (suc k) = refl
-  above-take (c ∷ cs) p (suc k) = ap (λ z. p ∷ z) (above-take cs (down s t p c) k)
-
   pub above-length : (cs : List ℕ) (p : ℕ) → length (above s t cs p) ≡ length cs
   unfolding above
   above-length [] p = refl
@@ -41,10 +34,3 @@ module _ (s : System) (t : List ℕ) where
   above-position [] p k h = absurd (omega arith)
   above-position (c ∷ cs) p zero h = refl
   above-position (c ∷ cs) p (suc k) h = above-position cs (down s t p c) k (omega arith)
-
-  -- each is before the position
-  pub above-before : (cs : List ℕ) (p k : ℕ) → k < length (above s t cs p) → getD (above s t cs p) k 0 < position s t cs p
-  unfolding above position
-  above-before [] p k h = absurd (omega arith)
-  above-before (c ∷ cs) p zero h = omega (arith, down-lt s t p c, position-le s t cs (down s t p c))
-  above-before (c ∷ cs) p (suc k) h = above-before cs (down s t p c) k (omega arith)

@@ -21,7 +21,8 @@ use Rattle.matching.proofs.Firsts.{fired, unfired}
 use Rattle.rewriting.proofs.Walks.{Walk, end, pass, fire, open′, evaluate-local}
 use Rattle.rewriting.proofs.Done.{walk-whole}
 use Rattle.rewriting.proofs.Actives.{argumentOf, argumentOf-at, Inherited, active-at}
-use Rattle.rewriting.proofs.Inert.{Inert, member-cases, member-nil, inert-rests}
+use Rattle.system.proofs.Members.{member-nil}
+use Rattle.rewriting.proofs.Inert.{Inert, member-cases, inert-rests}
 use Rattle.matching.proofs.Idle.{constructor-contraction, idle-contraction}
 use Rattle.system.proofs.Forests.{Node, node-whole, node-set}
 

@@ -16,6 +16,7 @@ use Rattle.matching.specs.Matching.{contraction}
 use Rattle.rewriting.specs.Evaluation.{Limits, Config, steps, Outcome, finished, stopped, andThen, follow, atRoot, evaluate}
 use Rattle.rewriting.specs.Trace.{Trace}
 use Rattle.system.specs.Numbers.{spent}
+use Rattle.system.proofs.Members.{member-nil}
 use Rattle.system.proofs.Forests.{focus-here, Node, node-whole, as-node}
 use Rattle.system.proofs.Places.{at-word, at-argument}
 use Rattle.matching.proofs.Firsts.{contraction-at}
@@ -35,9 +36,6 @@ Inert s l u = InertOn s l (strategy s (head u)) u
 pub member-cases : {e d : ℕ} {es : List ℕ} → Member e (d ∷ es) → (e ≡ d) ⊎ Member e es
 member-cases first = inl refl
 member-cases (later h) = inr h
-
-pub member-nil {ℓ} : {X : Type ℓ} {e : ℕ} → Member e [] → X
-member-nil h = elim h [ ]
 
 module _ (s : System) where
   abbrev g : Signature

@@ -32,17 +32,7 @@ module _ (d e : ℕ) where
   raise-length [] ls = refl
   raise-length (q ∷ qs) ls = raise-length qs (set ls q (getD ls q 0 - d + e)) ∙ length-set ls q (getD ls q 0 - d + e)
 
-  -- what stands behind a front that holds the indices stays
-  pub raise-front : (qs xs ys : List ℕ) → ((k : ℕ) → k < length qs → getD qs k 0 < length xs) → raise qs d e (xs ++ ys) ≡ raise qs d e xs ++ ys
-  unfolding raise
-  raise-front [] xs ys h = refl
-  raise-front (q ∷ qs) xs ys h =
-      let l : q < length xs = h 0 (omega arith) in
-      let x = getD xs q 0 - d + e in
-      ap (raise qs d e) (ap (λ z. set (xs ++ ys) q (z - d + e)) (List·getD-append xs ys 0 q l) ∙ set-append-left xs ys q x l)
-      ∙ raise-front qs (set xs q x) ys (λ k m. lt-length-set xs q x (h (suc k) (omega arith)))
-
-  -- the same, of a row's first n numbers and of those behind them
+  -- a row's first n numbers, where they hold the indices, and those behind them, which stay
   pub raise-take : (qs ls : List ℕ) (n : ℕ) → ((k : ℕ) → k < length qs → getD qs k 0 < n) → take n (raise qs d e ls) ≡ raise qs d e (take n ls)
   unfolding raise
   raise-take [] ls n h = refl

@@ -210,7 +210,7 @@ module _ (s : System) (wf : WellFormed s) where
       ap (spans g) changed ∙ x .row ∙ (λ j. x .equal [] refl j ++ (spans g v ++ tail j))
       ∙ (λ j. raise qs (sym n j) (length v) (front j) ++ (spans g v ++ drop (p + sym n j) (spans g t)))
 
-  -- its two sides: before the position, and from there on
+  -- before the position
   module _ (t cs v : List ℕ) (h : Whole g t) (o : Opened s t 0 cs) (hv : Whole g v) where
     abbrev p : ℕ
     p = position s t cs 0
@@ -225,6 +225,3 @@ module _ (s : System) (wf : WellFormed s) where
 
     pub spans-front : take p (spans g (replace g t p v)) ≡ raise (above s t cs 0) n (length v) (take p (spans g t))
     spans-front = ap (take p) (spans-rewrite t cs v h o hv) ∙ take-at (raise (above s t cs 0) n (length v) (take p (spans g t))) _ p raised-length
-
-    pub spans-behind : drop p (spans g (replace g t p v)) ≡ spans g v ++ drop (p + n) (spans g t)
-    spans-behind = ap (drop p) (spans-rewrite t cs v h o hv) ∙ drop-at (raise (above s t cs 0) n (length v) (take p (spans g t))) _ p raised-length

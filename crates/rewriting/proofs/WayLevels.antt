@@ -2,12 +2,12 @@
 -- may be longer than a machine has levels.)
 use Prim.Native.Nat.{ℕ, suc, _<_}
 use mathlib.Core.Path.{_≡_, refl, sym, ap, _∙_, subst}
-use mathlib.Core.List.{List, [], _∷_, _++_, append-assoc, append-nil}
+use mathlib.Core.List.{List, [], _∷_, _++_}
 use lib.ListN.{length, getD}
 use Rattle.system.specs.Signature.{argument}
 use Rattle.system.specs.System.{System}
 use Rattle.system.specs.Terms.{Member}
-use Rattle.system.proofs.Members.{member-getD, member-index}
+use Rattle.system.proofs.Members.{member-index}
 use Rattle.rewriting.specs.Machine.{others, strategyAt, down, position}
 use Rattle.rewriting.specs.Opened.{Opened, base, level}
 use Rattle.rewriting.specs.Ways.{Way, top}
@@ -28,17 +28,6 @@ entry-index : (e : ℕ) (es : List ℕ) → Member e es → (c : ℕ) × (c < le
 entry-index e es m = member-index (λ e. (c : ℕ) × (c < length es) × (getD es c 0 ≡ e)) es (λ c l. (c, l, refl)) e m
 
 module _ {s : System} {t : List ℕ} where
-  opened-further : {ps : List ℕ} {p : ℕ} {cs : List ℕ} → Way s t ps p → Opened s t p cs → Way s t (ps ++ above s t cs p) (position s t cs p)
-  unfolding above position down
-  opened-further {ps} {p} w base = subst (λ qs. Way s t qs p) (sym (append-nil ps)) w
-  opened-further {ps} w (level {p} {c} {i} {cs} h e o) =
-      let m : Member (suc i) (strategyAt s t p) = rw e at (member-getD (strategyAt s t p) c h) in
-      let w′ : Way s t (ps ++ p ∷ []) (down s t p (suc c)) = rw e (Way.down i w m) in
-      subst (λ qs. Way s t qs (position s t cs (down s t p (suc c)))) (append-assoc ps (p ∷ []) (above s t cs (down s t p (suc c)))) (opened-further w′ o)
-
-  pub way-opened : {cs : List ℕ} → Opened s t 0 cs → Way s t (above s t cs 0) (position s t cs 0)
-  way-opened o = opened-further top o
-
   pub way-levels : {ps : List ℕ} {p : ℕ} → Way s t ps p → Levels s t ps p
   unfolding above position down
   way-levels top = record { counts = []; opened = base; position = refl; above = refl }

@@ -2,7 +2,7 @@
 -- length of the new term, and each is read before it is changed.
 use Prim.Native.Nat.{ℕ, _+_, _-_, _≤_, _<_}
 use native.Mathlib.Omega.{arith}
-use mathlib.Core.Path.{_≡_, refl, sym, ap, _∙_, subst, subst₂}
+use mathlib.Core.Path.{_≡_, sym, ap, _∙_, subst₂}
 use mathlib.Core.List.{List, _++_}
 use lib.ListN.{length, getD, take, drop, length-drop}
 use lib.Seq.{getD-take}
@@ -18,12 +18,11 @@ use Rattle.rewriting.specs.levels.Lengths.{above}
 use Rattle.system.specs.Spans.{spans}
 use Rattle.system.proofs.Spans.{spans-at}
 use Rattle.rewriting.proofs.Raises.{raise-later}
-use Rattle.rewriting.proofs.Aboves.{above-length}
 use Rattle.rewriting.proofs.Below.{argument-shorter}
 use Rattle.rewriting.proofs.Contractions.{active-within}
-use Rattle.rewriting.proofs.RowEdits.{spans-rewrite, spans-front, spans-behind}
+use Rattle.rewriting.proofs.RowEdits.{spans-rewrite, spans-front}
 use Rattle.rewriting.proofs.Ways.{snoc-cases, way-active, way-before, way-rising}
-use Rattle.rewriting.proofs.WayLevels.{Levels, way-opened, way-levels}
+use Rattle.rewriting.proofs.WayLevels.{Levels, way-levels}
 
 module _ (s : System) (wf : WellFormed s) {t : List ℕ} (h : Whole (s .arities) t) where
   abbrev g : Signature
@@ -52,16 +51,11 @@ module _ (s : System) (wf : WellFormed s) {t : List ℕ} (h : Whole (s .arities)
           subst₂ (λ ps p. spans g (replace g t p v) ≡ raise ps (width p) (length v) (take p (spans g t)) ++ (spans g v ++ drop (p + width p) (spans g t)))
           (levels .above) (levels .position) (spans-rewrite s wf t (levels .counts) v h (levels .opened) hv)
 
-      -- its two sides: before p, and from there on
+      -- before p
       pub way-spans-front : take p (spans g (replace g t p v)) ≡ raise ps (width p) (length v) (take p (spans g t))
       way-spans-front =
           subst₂ (λ ps p. take p (spans g (replace g t p v)) ≡ raise ps (width p) (length v) (take p (spans g t)))
           (levels .above) (levels .position) (spans-front s wf t (levels .counts) v h (levels .opened) hv)
-
-      pub way-spans-behind : drop p (spans g (replace g t p v)) ≡ spans g v ++ drop (p + width p) (spans g t)
-      way-spans-behind =
-          subst (λ p. drop p (spans g (replace g t p v)) ≡ spans g v ++ drop (p + width p) (spans g t))
-          (levels .position) (spans-behind s wf t (levels .counts) v h (levels .opened) hv)
 
     -- ---- number by number, in a row whose numbers before p are those of t
 
@@ -84,18 +78,3 @@ module _ (s : System) (wf : WellFormed s) {t : List ℕ} (h : Whole (s .arities)
             let a = active-within s wf h (way-active w) in
             let fits : p + width p ≤ length t = omega (arith, span-le g (drop p t) 1, length-drop p t) in
             omega (arith, way-raise-read, way-raise-room, replace-length g t v p fits, span-le g (drop q t) 1, length-drop q t)
-
-  -- ---- the same for the open levels of a machine
-
-  module _ {cs : List ℕ} (o : Opened s t 0 cs) (k : ℕ) (l : k < length cs) (d e : ℕ) (wide : d ≡ width (position s t cs 0)) where
-    abbrev here : ℕ
-    here = getD (above s t cs 0) k 0
-
-    abbrev within : k < length (above s t cs 0)
-    within = subst (λ n. k < n) (sym (above-length s t cs 0)) l
-
-    pub raise-room : d ≤ getD (raise (take k (above s t cs 0)) d e (spans g t)) here 0
-    raise-room = way-raise-room (way-opened o) (spans g t) refl k within d e wide
-
-    pub raise-fits : (v : List ℕ) → e ≡ length v → getD (raise (take k (above s t cs 0)) d e (spans g t)) here 0 - d + e ≤ length (replace g t (position s t cs 0) v)
-    raise-fits = way-raise-fits (way-opened o) (spans g t) refl k within d e wide

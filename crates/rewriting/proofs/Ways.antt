@@ -25,13 +25,6 @@ snoc-cases P ps p k h first last =
           subst₂ P (sym (take-at ps (p ∷ []) k e)) (sym (getD-at ps p [] 0 k e)) last
     ]
 
--- one position less: the last one of the way, and the way to it
-pub record Back (s : System) (t ps : List ℕ) : Type 0 where
-  pub front : List ℕ
-  pub last : ℕ
-  pub equal : ps ≡ front ++ last ∷ []
-  pub way : Way s t front last
-
 module _ {s : System} {t : List ℕ} where
   pub way-active : {ps : List ℕ} {p : ℕ} → Way s t ps p → Active s t p
   way-active top = root
@@ -47,10 +40,6 @@ module _ {s : System} {t : List ℕ} where
   pub way-top : {ps : List ℕ} {p : ℕ} → Way s t ps p → length ps ≡ 0 → p ≡ 0
   way-top top e = refl
   way-top (down {ps} {p} i w m) e = absurd (omega (arith, length-append ps (p ∷ [])))
-
-  pub way-back : {ps : List ℕ} {p : ℕ} → Way s t ps p → 0 < length ps → Back s t ps
-  way-back top h = absurd (omega arith)
-  way-back (down {ps} {p} i w m) h = record { front = ps; last = p; equal = refl; way = w }
 
   -- a front of it is a way
   pub way-take : {ps : List ℕ} {p : ℕ} → Way s t ps p → (k : ℕ) → k < length ps → Way s t (take k ps) (getD ps k 0)
@@ -79,8 +68,3 @@ module _ {s : System} {t : List ℕ} where
 
   pub way-step : WellFormed s → Whole (s .arities) t → {ps : List ℕ} {p : ℕ} → Way s t ps p → (v : List ℕ) → Way s (replace (s .arities) t p v) ps p
   way-step wf h {p} w v = way-kept p v (active-within s wf h (way-active w)) (omega arith) w
-
-  -- to each active position there is one
-  pub active-way : {p : ℕ} → Active s t p → (ps : List ℕ) × Way s t ps p
-  active-way root = ([], top)
-  active-way (below {p} i act m) = let x = active-way act in (x .0 ++ p ∷ [], down i (x .1) m)

@@ -1,7 +1,6 @@
 -- The definitions on a case by hand: with z 0, s(x) 1 and add(x, y) 2, the lengths of add(s(z), z), and the same words with a gap of two before the third.
-use Prim.Native.Nat.{ℕ}
 use mathlib.Core.Path.{_≡_, refl}
-use mathlib.Core.List.{List, [], _∷_}
+use mathlib.Core.List.{[], _∷_}
 use Rattle.system.specs.Signature.{arity, span}
 use Rattle.rows.specs.Rows.{closed}
 use Rattle.rows.specs.gap.Gaps.{slotOf}

@@ -1,7 +1,7 @@
 // The lengths beside the words: read, and written from the end of the term to its front, so that those of a symbol's arguments stand there
 // already.
 ghost use mathlib.Core.Path.{_≡_};
-ghost use Prim.Native.Nat.{ℕ, _+_, _≤_, _<_};
+ghost use Prim.Native.Nat.{_+_, _≤_, _<_};
 ghost use mathlib.Core.List.{[], _∷_};
 ghost use lib.ListN.{length, drop};
 ghost use Rattle.buffers.specs.moves.Parts.{part};

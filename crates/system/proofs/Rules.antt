@@ -1,9 +1,9 @@
 -- The rules of a system, listed and built-in ones, and the strategies of both kinds of symbols: what is cited of BuiltIn, RuleOf and `strategy`.
 use Prim.Native.Nat.{ℕ, suc, _+_, _≤_, _<_}
 use native.Mathlib.Omega.{arith}
-use mathlib.Core.Path.{_≡_, refl, sym, ap, _∙_, subst}
+use mathlib.Core.Path.{_≡_, refl, _∙_, subst}
 use mathlib.Core.Logic.{inl}
-use mathlib.Core.List.{List, [], _∷_, _++_}
+use mathlib.Core.List.{List, [], _∷_}
 use lib.ListN.{length, getD, List·getD-eq-default}
 use Rattle.system.specs.Limits.{variable}
 use Rattle.system.specs.BuiltIns.{literal, literals, maximum, minimum, square, builtInArity, builtInStrategy}
@@ -32,17 +32,7 @@ built-number (max a b) = (omega arith, omega arith)
 built-number (min a b) = (omega arith, omega arith)
 built-number (sqr a) = (omega arith, omega arith)
 
--- their left sides are an operator and its arguments
-pub built-length : {k : ℕ} {r : Rule} → BuiltIn k r → length (r .lhs) ≡ suc (builtInArity (head (r .lhs)))
-built-length (max a b) = ap suc (sym (arity-two maximum (omega arith) (omega arith)))
-built-length (min a b) = ap suc (sym (arity-two minimum (omega arith) (omega arith)))
-built-length (sqr a) = ap suc (sym (arity-one square refl))
-
-pub built-front : {k : ℕ} {r : Rule} → BuiltIn k r → (ws : List ℕ) → head (r .lhs ++ ws) ≡ head (r .lhs)
-built-front (max a b) ws = refl
-built-front (min a b) ws = refl
-built-front (sqr a) ws = refl
-
+-- their left sides start with an operator
 pub built-head : {k : ℕ} {r : Rule} → BuiltIn k r → 0 < builtInArity (head (r .lhs))
 built-head (max a b) = rw (arity-two maximum (omega arith) (omega arith)) (omega arith)
 built-head (min a b) = rw (arity-two minimum (omega arith) (omega arith)) (omega arith)

@@ -6,7 +6,7 @@ use native.Mathlib.Omega.{arith}
 use mathlib.Core.Path.{_≡_, refl, sym, ap, _∙_}
 use mathlib.Core.List.{List, [], _∷_, _++_}
 use lib.ListN.{length, getD, take, drop, length-drop, take-append-drop}
-use lib.Seq.{take-append-seam, drop-append-seam, drop-drop, take-at, length-take-le}
+use lib.Seq.{drop-drop, take-at, length-take-le}
 use Rattle.system.specs.Signature.{Signature, arity, span, argument}
 use Rattle.system.specs.Terms.{Forest, empty, more, Whole}
 use Rattle.system.proofs.Forests.{span-zero}
@@ -79,12 +79,6 @@ module _ (g : Signature) where
     unfolding spans
     spans-append b empty = refl
     spans-append b (more {w} {k} {ws} h f) = (λ i. span-within b 1 (more {k = k} h f) (omega arith) i ∷ spans-append b f i)
-
-    -- the lengths of a whole subterm stand in the row of the term
-    pub spans-part : (a b : List ℕ) {u : List ℕ} → Forest g P 1 u → spans g u ≡ take (length u) (drop (length a) (spans g (a ++ (u ++ b))))
-    spans-part a b {u} f =
-        sym (ap (take (length u)) (sym (spans-drop (a ++ (u ++ b)) (length a)) ∙ ap (spans g) (drop-append-seam a (u ++ b)) ∙ spans-append b f)
-        ∙ ap (λ n. take n (spans g u ++ spans g b)) (sym (spans-length u)) ∙ take-append-seam (spans g u) (spans g b))
 
   -- the row of a whole stretch is that stretch of the row
   pub spans-stretch : (ws : List ℕ) (q n : ℕ) → q + n ≤ length ws → Whole g (take n (drop q ws)) → spans g (take n (drop q ws)) ≡ take n (drop q (spans g ws))

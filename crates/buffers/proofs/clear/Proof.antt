@@ -5,7 +5,7 @@ use native.Mathlib.Omega.{arith}
 use lib.ListN.{length, length-set}
 use Rattle.buffers.specs.Words.{over, zeros}
 use Rattle.buffers.proofs.Over.{over-snoc}
-use Rattle.buffers.proofs.Pads.{length-zeros, zeros-snoc}
+use Rattle.buffers.proofs.Zeros.{length-zeros, zeros-snoc}
 use borrow.Author.Needs.{needs}
 use Rattle.buffers.proofs.clear.Statement.{statement}
 use Rattle.buffers.proofs.clear.Tie as tie

@@ -1,6 +1,6 @@
 -- The machine's state in an area of words: what is read from it, and what a store among the counts leaves.
 -- Lengths that the code holds in numbers go in by equations.
-use Prim.Native.Nat.{ℕ, suc, _+_, _-_, _≤_, _<_}
+use Prim.Native.Nat.{ℕ, suc, _+_, _-_, _<_}
 use native.Mathlib.Omega.{arith}
 use mathlib.Core.Path.{_≡_, refl, sym, ap, _∙_, subst}
 use mathlib.Core.List.{List, [], _∷_, _++_, append-nil}

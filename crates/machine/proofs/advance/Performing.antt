@@ -131,9 +131,6 @@ module _ (τ : Taking) where
   here-is : p ≡ position s t outer base
   here-is = spot b (τ .shape) (τ .accepted) ws positions gap base level v
 
-  within : p < wordsIn gap
-  within = bounds b (τ .shape) (τ .accepted) ws positions gap base level v .within
-
   asked : Asks entries f c (τ .e)
   asked = subst (Asks entries f c)
       (ap (λ y. entryOf entries f y) (sym (τ .is))

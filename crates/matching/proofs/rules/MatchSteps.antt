@@ -7,8 +7,8 @@ use mathlib.Core.Path.{_≡_, refl, sym, _∙_}
 use mathlib.Core.Bool.{Bool, true, false, cond, _&&_, or-true}
 use mathlib.Core.Option.{none, some}
 use mathlib.Core.List.{List, [], _∷_}
-use lib.ListN.{length, getD, take, drop, set, drop-of-length-le, length-drop}
-use lib.Seq.{drop-cons, take-all}
+use lib.ListN.{length, getD, take, drop, set, drop-of-length-le}
+use lib.Seq.{drop-cons}
 use lib.Dec.{leb, ltb}
 use borrow.Author.Tests.{lt-ltb, le-ltb, eq-eqb, ne-eqb, le-leb, lt-leb}
 use Rattle.system.specs.Limits.{variable, variables}
@@ -22,10 +22,6 @@ use Rattle.matching.specs.rules.Searches.{Within}
 use Rattle.matching.proofs.Stretches.{none-length, within-set}
 
 -- ---- what a word takes
-
--- the part from q on
-pub tail : (ws : List ℕ) (q : ℕ) → take (length ws - q) (drop q ws) ≡ drop q ws
-tail ws q = take-all (length ws - q) (drop q ws) (rw (length-drop q ws) (omega arith))
 
 module _ (g : Signature) (l : ℕ) (ws : List ℕ) where
   pub consumed-end : length ws ≡ 0 → consumed g l ws ≡ 0

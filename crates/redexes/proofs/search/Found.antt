@@ -74,14 +74,6 @@ module _ (b : List ℕ) (sh : Shape) (acc : Accepted b sh) (ws : List ℕ) (r : 
       go (Computed k w) q = (_, match-word b sh acc ws (matchOf s ws) refl q)
 
   -- its number
-  pub redex-unnumbered : contraction s ws ≡ none → r .number ≡ unnumbered
-  redex-unnumbered z = go (matchOf s ws .rule) refl
-    where
-      go : (o : FirstRule) → matchOf s ws .rule ≡ o → r .number ≡ unnumbered
-      go Nothing q = number-is q
-      go (First n rhs size) q = absurd (let y = match-some b sh acc ws (matchOf s ws) refl q in let z : _≡_ {A = ℕ} 0 1 = cc in omega arith)
-      go (Computed k w) q = absurd (let y = match-word b sh acc ws (matchOf s ws) refl q in let z : _≡_ {A = ℕ} 0 1 = cc in omega arith)
-
   pub redex-number : (x : Contraction) → contraction s ws ≡ some x → r .number ≡ x .number
   redex-number x z = go (matchOf s ws .rule) refl
     where

@@ -6,7 +6,7 @@ use mathlib.Core.List.{List, _++_, append-nil}
 use lib.ListN.{length, getD, take, drop, length-drop, take-append-drop, drop-of-length-le}
 use lib.Seq.{sets-eq}
 use Rattle.buffers.specs.Words.{over, zeros}
-use Rattle.buffers.proofs.Pads.{length-zeros}
+use Rattle.buffers.proofs.Zeros.{length-zeros}
 use Rattle.reader.specs.declared.Shape.{Shape}
 use Rattle.layout.specs.declared.rules.RuleSpan.{RuleSpan}
 use Rattle.system.specs.Limits.{variables}

@@ -1,6 +1,6 @@
 -- A row without its gap: its length, its words, and its two parts. Assumes nothing.
 use mathlib.Core.Path.{_≡_, refl, sym, ap, _∙_}
-use mathlib.Core.List.{List, _++_}
+use mathlib.Core.List.{List}
 use mathlib.Core.Bool.{Bool, true, false, cond}
 use Prim.Native.Nat.{ℕ, _+_, _-_, _≤_, _<_}
 use native.Mathlib.Omega.{arith}
@@ -73,25 +73,11 @@ slot-bound g i lies h = at (ltb i (g .front)) refl
     at true e = rw (slot-before g i (ltb-true i (g .front) e)) (omega (arith, ltb-true i (g .front) e, lies .low, lies .high))
     at false e = rw (slot-after g i (ltb-false i (g .front) e)) (omega (arith, ltb-false i (g .front) e, lies .low, lies .high))
 
--- a gap before which no word stands
-pub closed-open : (b : ℕ) (row : List ℕ) → closed (behind b) row ≡ drop b row
-unfolding closed
-closed-open b row = refl
-
-pub term-behind : (ws : List ℕ) (b : ℕ) → termIn ws (behind b) ≡ drop b (wordRow ws)
-term-behind ws b = closed-open b (wordRow ws)
-
-pub lengths-behind : (ws : List ℕ) (b : ℕ) → lengthsIn ws (behind b) ≡ drop b (lengthRow ws)
-lengths-behind ws b = closed-open b (lengthRow ws)
-
 -- ---- over an area
 
 module _ (ws : List ℕ) (g : Gap) (h : Gapped ws g) where
   pub closed-length : length (termIn ws g) ≡ wordsIn g
   closed-length = closed-row-length g (wordRow ws) (h .lies) (word-row-length ws (h .room))
-
-  pub lengths-length : length (lengthsIn ws g) ≡ wordsIn g
-  lengths-length = closed-row-length g (lengthRow ws) (h .lies) (length-row-length ws (h .room))
 
   pub term-at : (i : ℕ) → i < wordsIn g → getD ws (slotOf g i) 0 ≡ getD (termIn ws g) i 0
   term-at i b =

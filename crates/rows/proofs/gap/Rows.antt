@@ -5,7 +5,7 @@ use Prim.Native.Nat.{ℕ, suc, _+_, _≤_, _<_}
 use native.Mathlib.Omega.{arith}
 use native.Mathlib.Nat.{add-suc}
 use lib.ListN.{length, take, drop, getD, set, length-take, length-drop}
-use lib.Seq.{sets, take-set-le, take-set-lt, drop-set-add, take-take, drop-drop, getD-take, getD-drop}
+use lib.Seq.{sets, take-set-lt, drop-set-add, take-take, drop-drop, getD-take, getD-drop}
 use Rattle.buffers.specs.Words.{over}
 use Rattle.buffers.specs.moves.Parts.{part}
 use Rattle.buffers.proofs.Over.{part-slice, take-over, drop-over, part-above}
@@ -50,37 +50,6 @@ word-row-part ws a n h = part-take termWords ws a n h
 pub length-row-part : (ws : List ℕ) (a n : ℕ) → a + n ≤ termWords → part a n (lengthRow ws) ≡ part (termWords + a) n ws
 length-row-part ws a n h = part-take termWords (drop termWords ws) a n h ∙ ap (λ (l : List ℕ). take n l) (drop-drop a termWords ws)
 
--- ---- areas with the same rows
-
-pub record SameRows (ws ws′ : List ℕ) : Type 0 where
-  pub words : wordRow ws′ ≡ wordRow ws
-  pub lengths : lengthRow ws′ ≡ lengthRow ws
-
-pub same-term : {ws ws′ : List ℕ} → SameRows ws ws′ → (g : Gap) → termIn ws′ g ≡ termIn ws g
-same-term s g = ap (λ (row : List ℕ). closed g row) (s .words)
-
-pub same-lengths : {ws ws′ : List ℕ} → SameRows ws ws′ → (g : Gap) → lengthsIn ws′ g ≡ lengthsIn ws g
-same-lengths s g = ap (λ (row : List ℕ). closed g row) (s .lengths)
-
--- a row of an area is one of its first words
-pub word-row-in : (ws : List ℕ) → wordRow ws ≡ wordRow (take countsAt ws)
-word-row-in ws = sym (take-take termWords countsAt ws (omega arith))
-
-pub length-row-in : (ws : List ℕ) → lengthRow ws ≡ drop termWords (take countsAt ws)
-length-row-in ws = part-slice termWords termWords ws
-
-pub rows-same : (ws ws′ : List ℕ) → take countsAt ws ≡ take countsAt ws′ → SameRows ws ws′
-rows-same ws ws′ e = record {
-  words = word-row-in ws′ ∙ ap (λ (l : List ℕ). wordRow l) (sym e) ∙ sym (word-row-in ws);
-  lengths = length-row-in ws′ ∙ ap (λ (l : List ℕ). drop termWords l) (sym e) ∙ sym (length-row-in ws);
-}
-
-pub rows-set : (ws : List ℕ) (i x : ℕ) → countsAt ≤ i → SameRows ws (set ws i x)
-rows-set ws i x h = rows-same ws (set ws i x) (sym (take-set-le countsAt ws i x h))
-
-pub rows-over : (ws : List ℕ) (i : ℕ) (xs : List ℕ) → countsAt ≤ i → SameRows ws (over ws i xs)
-rows-over ws i xs h = rows-same ws (over ws i xs) (sym (take-over countsAt ws i xs h))
-
 -- ---- a store in one of the rows: what becomes of the three
 
 pub record RowsOf (ws words lengths counts : List ℕ) : Type 0 where
@@ -103,9 +72,6 @@ length-over-row ws i xs h = record {
   lengths-are = ap (λ (l : List ℕ). take termWords l) (drop-over-add termWords ws i xs) ∙ take-over-lt termWords (drop termWords ws) i xs h;
   counts-are = drop-over countsAt ws (termWords + i) xs (omega arith);
 }
-
-pub word-set-row : (ws : List ℕ) (q x : ℕ) → q < termWords → RowsOf (set ws q x) (set (wordRow ws) q x) (lengthRow ws) (drop countsAt ws)
-word-set-row ws q x h = word-over-row ws q (x ∷ []) (omega arith)
 
 pub length-set-row : (ws : List ℕ) (q x : ℕ) → q < termWords →
     RowsOf (set ws (termWords + q) x) (wordRow ws) (set (lengthRow ws) q x) (drop countsAt ws)

@@ -14,14 +14,9 @@ use Rattle.rows.specs.gap.Gaps.{wordsIn, behind, Moved}
 use Rattle.system.specs.Spans.{spans}
 use Rattle.rows.specs.Measured.{Measured}
 use Rattle.system.proofs.Spans.{spans-drop, spans-at}
+use Rattle.rows.proofs.gap.Rows.{word-row-length, length-row-length}
 
 -- ---- a row around a gap
-
-pub word-row-length : (ws : List ℕ) → countsAt ≤ length ws → length (wordRow ws) ≡ termWords
-word-row-length ws h = length-take-le termWords ws (omega arith)
-
-pub length-row-length : (ws : List ℕ) → countsAt ≤ length ws → length (lengthRow ws) ≡ termWords
-length-row-length ws h = length-take-le termWords (drop termWords ws) (let z = length-drop termWords ws in omega arith)
 
 pub row-behind : (b : ℕ) (row : List ℕ) → closed (behind b) row ≡ drop b row
 unfolding closed

@@ -19,7 +19,8 @@ use Rattle.system.specs.Spans.{spans}
 use Rattle.rows.specs.Measured.{Measured}
 use Rattle.rows.specs.lengths.Written.{Written, Copyable, Apart, Laid}
 use Rattle.system.proofs.Spans.{spans-drop, spans-word, spans-append}
-use Rattle.rows.proofs.lengths.Measures.{word-row-length, length-row-length, row-behind, words-length}
+use Rattle.rows.proofs.gap.Rows.{word-row-length, length-row-length}
+use Rattle.rows.proofs.lengths.Measures.{row-behind, words-length}
 
 -- ---- written over a list, as the front and the rest of it see it
 

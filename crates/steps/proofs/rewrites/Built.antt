@@ -2,11 +2,10 @@
 use Prim.Native.Nat.{ℕ, zero, suc, _+_, _≤_, _<_}
 use native.Mathlib.Omega.{arith}
 use mathlib.Core.Path.{_≡_, refl, sym, ap, _∙_, subst}
-use mathlib.Core.Option.{some}
 use mathlib.Core.List.{List, [], _∷_, _++_, append-assoc}
 use lib.ListN.{length, getD, take, drop}
 use Rattle.system.specs.Limits.{variable, variables, termWords}
-use Rattle.system.specs.Signature.{Signature, replace}
+use Rattle.system.specs.Signature.{replace}
 use Rattle.system.specs.System.{System, instance}
 use Rattle.system.specs.Terms.{Member, first, later}
 use Rattle.system.specs.Signature.{signatureOf}
@@ -17,7 +16,7 @@ use Rattle.rows.specs.declared.gap.Gap.{Gap}
 use Rattle.rows.specs.Rows.{termIn}
 use Rattle.redexes.specs.declared.search.Redex.{Redex}
 use Rattle.matching.specs.declared.FirstRule.the-variants.{Computed}
-use Rattle.matching.specs.Matching.{Contraction, contraction}
+use Rattle.matching.specs.Matching.{Contraction}
 use Rattle.matching.proofs.Matched.{instance-nil, instance-symbol}
 use Rattle.matching.proofs.Reducts.{match-word, match-value}
 use Rattle.reducts.specs.declared.putting.Reduced.{Reduced}

@@ -1,19 +1,18 @@
 -- A rewrite by a listed rule: the front of the redex is replaced by the front of the right side, and what both sides end with stays.
 use Prim.Native.Nat.{ℕ, _+_, _-_, _≤_, _<_}
 use native.Mathlib.Omega.{arith}
-use mathlib.Core.Path.{_≡_, refl, sym, ap, _∙_, subst}
-use mathlib.Core.Logic.{_⊎_}
+use mathlib.Core.Path.{_≡_, sym, ap, _∙_, subst}
 use mathlib.Core.Option.{some}
 use mathlib.Core.List.{List, _++_, append-assoc}
-use lib.ListN.{length, getD, take, drop, length-append, take-append-drop}
-use lib.Seq.{drop-drop, drop-at, getD-take, length-take-le}
-use Rattle.system.specs.Limits.{sideWords, variable, variables, termWords}
+use lib.ListN.{length, getD, take, drop, take-append-drop}
+use lib.Seq.{drop-drop, drop-at}
+use Rattle.system.specs.Limits.{variable}
 use Rattle.system.specs.Signature.{Signature, replace}
 use Rattle.system.specs.System.{System, instance, rule}
 use Rattle.system.specs.Terms.{Member, WellFormedRule, Whole}
 use Rattle.system.specs.Signature.{signatureOf}
 use Rattle.reader.specs.Book.{systemOf}
-use Rattle.system.proofs.Members.{member-front, member-getD}
+use Rattle.system.proofs.Members.{member-front}
 use Rattle.layout.proofs.Books.{signature}
 use Rattle.rows.specs.declared.gap.Gap.{Gap}
 use Rattle.rows.specs.Rows.{termIn}

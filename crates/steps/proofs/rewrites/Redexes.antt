@@ -2,8 +2,7 @@
 use Prim.Native.Nat.{ℕ, _+_, _≤_, _<_}
 use native.Mathlib.Omega.{arith}
 use mathlib.Core.Path.{_≡_, refl, sym, ap, _∙_, subst}
-use mathlib.Core.Option.{some}
-use mathlib.Core.List.{List, [], _++_}
+use mathlib.Core.List.{List, _++_}
 use lib.ListN.{length, getD, take, drop, length-append, length-drop}
 use lib.Seq.{drop-drop, drop-at, take-at, length-take-le}
 use Rattle.system.specs.Signature.{Signature, Symbol, span}
@@ -23,7 +22,6 @@ use Rattle.matching.specs.declared.Match.{Match}
 use Rattle.redexes.specs.declared.search.Redex.{Redex}
 use Rattle.matching.specs.declared.FirstRule.the-variants.{First}
 use Rattle.matching.specs.rules.Searches.{unnumbered}
-use Rattle.matching.specs.Matching.{Contraction}
 use Rattle.matching.specs.Bindings.{matchOf, value, bindingsOf}
 use Rattle.matching.proofs.Reducts.{match-within}
 use Rattle.redexes.proofs.search.Found.{redex-none}
@@ -31,7 +29,7 @@ use Rattle.reducts.specs.declared.putting.Subterm.{Subterm}
 use Rattle.reducts.specs.sides.Sides.{stretchesIn}
 use Rattle.reducts.specs.putting.Replaced.{filling}
 use Rattle.rewriting.proofs.Actives.{At, at-parted, whole-at}
-use Rattle.steps.specs.rewrites.Rewritten.{Contracts, Reducible}
+use Rattle.steps.specs.rewrites.Rewritten.{Reducible}
 
 module _ {book index ws : List ℕ} {gap : Gap} {u : Subterm} {m : Redex} {bs : List ℕ} (asked : Reducible book index ws gap u m bs) where
   abbrev s : System

@@ -1,10 +1,10 @@
 -- A rewrite by a listed rule, in the words of the book where its sides stand.
-use Prim.Native.Nat.{ℕ, _+_, _-_, _≤_, _<_}
+use Prim.Native.Nat.{ℕ, _+_, _-_, _≤_}
 use native.Mathlib.Omega.{arith}
-use mathlib.Core.Path.{_≡_, refl, sym, ap, _∙_, subst}
-use mathlib.Core.List.{List, _++_}
+use mathlib.Core.Path.{_≡_, sym, ap, _∙_, subst}
+use mathlib.Core.List.{List}
 use lib.ListN.{length, getD, take, drop, length-drop, take-append-drop}
-use lib.Seq.{drop-drop, take-take, take-all, length-take-le}
+use lib.Seq.{drop-drop, take-take, length-take-le}
 use Rattle.buffers.proofs.Over.{part-slice}
 use Rattle.system.specs.System.{System, rule}
 use Rattle.system.specs.Terms.{Member}

@@ -7,7 +7,7 @@ use mathlib.Core.Bool.{Bool, true, false}
 use mathlib.Core.List.{List, _++_}
 use lib.ListN.{length, getD, take, drop, length-append, length-drop}
 use lib.Seq.{ext-getD, getD-take, length-take-le}
-use Rattle.system.specs.Limits.{areaWords, levels, termWords}
+use Rattle.system.specs.Limits.{levels, termWords}
 use Rattle.system.specs.Signature.{Signature, span}
 use Rattle.system.specs.System.{System}
 use Rattle.system.specs.Terms.{WellFormed}

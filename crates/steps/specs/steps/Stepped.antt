@@ -5,7 +5,7 @@ use mathlib.Core.Option.{some}
 use mathlib.Core.List.{List, [], _∷_, _++_}
 use lib.ListN.{length, getD, drop}
 use Rattle.reader.specs.declared.Shape.{Shape}
-use Rattle.system.specs.Limits.{areaWords, levels, termWords}
+use Rattle.system.specs.Limits.{levels, termWords}
 use Rattle.system.specs.Signature.{replace}
 use Rattle.system.specs.System.{System}
 use Rattle.reader.specs.Book.{systemOf, Accepted}

@@ -8,7 +8,7 @@ use Rattle.system.specs.Signature.{signatureOf}
 use Rattle.reader.specs.Book.{systemOf}
 use Rattle.matching.proofs.Computed.{computed-words}
 use Rattle.matching.proofs.Sources.{match-low, match-words}
-use Rattle.matching.proofs.rules.MatchSteps.{tail}
+use Rattle.system.proofs.words.SpanSteps.{tail}
 use Rattle.matching.proofs.rules.Searches.{Searched, Walked, search-starts, search-ends, given-up, root-differs, walk-starts, matches-here}
 use Rattle.matching.proofs.rules.Searches.{word-unequal, word-fits, symbol-matched, variable-new, variable-again, variable-unlike}
 use Rattle.layout.proofs.Books.{Turn, room, turn-of}
