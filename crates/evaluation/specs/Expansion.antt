@@ -24,14 +24,14 @@ abbrev pub result : Answer → List ℕ → List ℕ → Expansion
 result r out work = record { numbers = r; answer = out; work = work }
 
 -- "On 0 the answer stands in the first words of the answer buffer and the rest is unchanged; otherwise that buffer is unchanged."
--- "On 11 to 13 and on 0 the first 8,192 words of the expander's work buffer are zero and the rest unchanged"; 16 leaves "the buffers as 11 does".
--- (02, F-5: "Number 10 and the zeroing use 12,288 for the work buffer")
+-- "On 11 to 13 and on 0 the first .. words of the expander's work buffer are zero and the rest unchanged"; 16 leaves "the buffers as 11 does".
+-- 02, F-5: "Number 10 and the zeroing use 12,288 for the work buffer".
 abbrev pub expansionOf : List ℕ → List ℕ → Outcome → Expansion
 expansionOf out work (finished r) =
     result (record { number = numberOf taken; place = length (r .term); steps = steps r }) (over out 0 (r .term)) (over work 0 (zeros areaWords))
 expansionOf out work (stopped n h) = result (record { number = limitNumber n; place = 0; steps = length h }) out (over work 0 (zeros areaWords))
 
--- 10: "answer buffer below 4,096 words, or work buffer below 8,192", which are 12,288 since F-5
+-- 10: "answer buffer below 4,096 words, or work buffer below" 12,288 (02, F-5)
 unfoldable pub room : ℕ → ℕ → Answer
 room out work =
     elim (leb termWords out && leb areaWords work) [

@@ -3,7 +3,7 @@ ghost use mathlib.Core.Path.{_≡_};
 ghost use mathlib.Core.Bool.{true};
 ghost use Prim.Native.Nat.{_+_, _*_, _≤_, _<_};
 ghost use lib.ListN.{length};
-ghost use Rattle.system.specs.Limits.{maxSteps};
+ghost use Rattle.system.specs.Limits.{maxWord, maxSteps};
 ghost use Rattle.records.specs.recording.Kept.{limitsOf, met, paired};
 use system::numbers::FULL;
 use system::numbers::SPENT;
@@ -34,7 +34,7 @@ pub fn limit_met(bounds: Bounds, words: usize, k: u32) -> u32
 
 // Writes the pair of a step behind those of k others, where a record is lent.
 pub fn put_pair(record: &mut [u16], bounds: Bounds, k: u32, at: usize, number: usize)
-    requires { ⌜ (bounds .recorded ≡ true → 2 * k + 2 ≤ length (now «record»)) × (at ≤ 65535) × (number ≤ 65535) ⌝ }
+    requires { ⌜ (bounds .recorded ≡ true → 2 * k + 2 ≤ length (now «record»)) × (at ≤ maxWord) × (number ≤ maxWord) ⌝ }
     ensures { λ _. ⌜ now («record» .exit) ≡ paired (bounds .recorded) (now («record» .entry)) k at number ⌝ }
 {
     if bounds.recorded {

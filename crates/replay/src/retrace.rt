@@ -3,7 +3,7 @@ ghost use mathlib.Core.Path.{_≡_};
 ghost use Prim.Native.Nat.{_≤_};
 ghost use lib.ListN.{length};
 ghost use Rattle.reader.specs.Book.{systemOf, Accepted};
-ghost use Rattle.system.specs.Limits.{areaWords, termWords};
+ghost use Rattle.system.specs.Limits.{areaWords, maxWord, termWords};
 ghost use Rattle.system.specs.Numbers.{taken, numberOf};
 ghost use Rattle.rows.specs.Measured.{Measured};
 ghost use Rattle.layout.specs.index.Index.{Indexed};
@@ -79,7 +79,7 @@ fn follow(
     pair: Pair,
 ) -> Followed
     requires { ⌜ Accepted (now book) shape × Indexed (now book) shape (now index) × PointsIn (systemOf (now book)) (now area) from
-        × (pair .number ≤ 65535) ⌝ }
+        × (pair .number ≤ maxWord) ⌝ }
     ensures followed { λ r. ⌜ Follows (systemOf (now (book .entry))) (termIn (now (area .entry)) (from .gap)) pair r (now (area .exit)) ⌝ }
     ensures measured { λ r. ⌜ (r .number ≡ numberOf taken → Measured (systemOf (now (book .entry)) .arities) (now (area .exit)) (r .finger .gap)) ⌝ }
 {

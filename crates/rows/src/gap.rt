@@ -2,7 +2,7 @@
 ghost use mathlib.Core.Path.{_≡_};
 ghost use Prim.Native.Nat.{_≤_, _<_};
 ghost use lib.ListN.{getD};
-ghost use Rattle.system.specs.Limits.{termWords};
+ghost use Rattle.system.specs.Limits.{maxWord, termWords};
 ghost use Rattle.rows.specs.Rows.{Lies, Gapped, termIn, lengthsIn};
 ghost use Rattle.rows.specs.gap.Gaps.{wordsIn, slotOf, Moved};
 use buffers::move_words;
@@ -45,7 +45,7 @@ pub fn word_at(area: &[u16], gap: Gap, i: usize) -> u16
 // The length that stands beside it.
 pub fn length_at(area: &[u16], gap: Gap, i: usize) -> usize
     requires { ⌜ Gapped (now area) gap × (i < wordsIn gap) ⌝ }
-    ensures { λ r. ⌜ (r ≡ getD (lengthsIn (now (area .entry)) gap) i 0) × (r ≤ 65535) ⌝ }
+    ensures { λ r. ⌜ (r ≡ getD (lengthsIn (now (area .entry)) gap) i 0) × (r ≤ maxWord) ⌝ }
 {
     wide(area[TERM_WORDS + slot(gap, i)])
 }

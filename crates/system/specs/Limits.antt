@@ -1,6 +1,10 @@
 -- The bounds that 01 and 02 set.
 use Prim.Native.Nat.{ℕ}
 
+-- "A word is an unsigned 16-bit number": the largest
+abbrev pub maxWord : ℕ
+maxWord = 65535
+
 -- "a count S, 1 to 256, then S argument counts, each 0 to 8"
 abbrev pub maxSymbols : ℕ
 maxSymbols = 256

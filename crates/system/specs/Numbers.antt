@@ -41,7 +41,7 @@ pub data Verdict : Type 0 where
   faulty : Fault → Verdict
   -- "the cue is not whole"
   broken : Verdict
-  -- "answer buffer below 4,096 words, or work buffer below 8,192", for which 02 (F-5) has 12,288
+  -- "answer buffer below 4,096 words, or work buffer below" 12,288 (02, F-5)
   cramped : Verdict
   stopping : Limit → Verdict
   -- "the order test failed"

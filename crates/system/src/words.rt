@@ -2,13 +2,14 @@
 ghost use mathlib.Core.Path.{_≡_};
 ghost use Prim.Native.Nat.{_≤_};
 ghost use lib.ListN.{length};
+ghost use Rattle.system.specs.Limits.{maxWord};
 ghost use Rattle.system.specs.Signature.{isSymbol, arity, span};
 ghost use Rattle.system.specs.Signature.{signatureOf};
 use crate::built_ins::built_in_arity;
 use crate::built_ins::is_built_in;
 
 pub fn wide(x: u16) -> usize
-    ensures { λ r. ⌜ (r ≡ x) × (r ≤ 65535) ⌝ }
+    ensures { λ r. ⌜ (r ≡ x) × (r ≤ maxWord) ⌝ }
 {
     x as usize
 }
@@ -40,7 +41,7 @@ pub fn is_symbol(book: &[u16], w: u16) -> bool
 
 // How many arguments w takes.
 pub fn arity(book: &[u16], w: u16) -> usize
-    ensures { λ r. ⌜ (r ≡ arity (signatureOf (now (book .entry))) w) × (r ≤ 65535) ⌝ }
+    ensures { λ r. ⌜ (r ≡ arity (signatureOf (now (book .entry))) w) × (r ≤ maxWord) ⌝ }
 {
     let i = wide(w);
     if i < symbols(book) {

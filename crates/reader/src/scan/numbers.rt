@@ -2,6 +2,7 @@
 ghost use mathlib.Core.Path.{_≡_};
 ghost use Prim.Native.Nat.{_≤_, _<_};
 ghost use lib.ListN.{length};
+ghost use Rattle.system.specs.Limits.{maxWord};
 ghost use Rattle.system.specs.Numbers.{Fault, faultNumber};
 ghost use Rattle.reader.specs.Parser.{times, number};
 ghost use Rattle.reader.specs.scan.Sections.{sectionOf, Inside};
@@ -36,7 +37,7 @@ pub fn check(book: &[u16], at: usize, low: usize, high: usize, otherwise: u32) -
 
 // n numbers from 0 to `high`.
 pub fn read_numbers(book: &[u16], at: usize, n: usize, high: usize, otherwise: u32) -> Section
-    requires { ⌜ (at ≤ length (now book)) × (n ≤ 65535) × (0 < otherwise) ⌝ }
+    requires { ⌜ (at ≤ length (now book)) × (n ≤ maxWord) × (0 < otherwise) ⌝ }
     ensures { λ r. ⌜ ((f : Fault) → faultNumber f ≡ otherwise → r ≡ sectionOf (times n (number (now (book .entry)) f 0 high) at)) ⌝ }
     ensures within { λ r. ⌜ r .place ≤ length (now (book .entry)) ⌝ }
 {

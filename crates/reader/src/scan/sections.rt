@@ -2,6 +2,7 @@
 ghost use mathlib.Core.Path.{_≡_};
 ghost use Prim.Native.Nat.{_≤_};
 ghost use lib.ListN.{length};
+ghost use Rattle.system.specs.Limits.{maxWord};
 ghost use Rattle.reader.specs.Parser.{read, times, each, readStrategy, readRule, readRules};
 ghost use Rattle.system.specs.Signature.{signatureOf};
 ghost use Rattle.reader.specs.scan.Sections.{sectionOf, sectionsOf};
@@ -89,7 +90,7 @@ fn read_rule(book: &[u16], at: usize) -> Section
 
 // n rules.
 fn read_rules(book: &[u16], at: usize, n: usize) -> Section
-    requires { ⌜ (at ≤ length (now book)) × (n ≤ 65535) ⌝ }
+    requires { ⌜ (at ≤ length (now book)) × (n ≤ maxWord) ⌝ }
     ensures { λ r. ⌜ r ≡ sectionOf (times n (readRule (now (book .entry)) (signatureOf (now (book .entry)))) at) ⌝ }
     ensures within { λ r. ⌜ r .place ≤ length (now (book .entry)) ⌝ }
 {

@@ -3,7 +3,7 @@ ghost use mathlib.Core.Path.{_≡_};
 ghost use mathlib.Core.Bool.{true};
 ghost use Prim.Native.Nat.{_+_, _≤_};
 ghost use lib.ListN.{length};
-ghost use Rattle.system.specs.Limits.{sideWords};
+ghost use Rattle.system.specs.Limits.{maxWord, sideWords};
 ghost use Rattle.reader.specs.Parser.{readWords, readSide, sideFault, symbolFault, variableFault, learn};
 ghost use Rattle.system.specs.Signature.{signatureOf};
 ghost use Rattle.reader.specs.scan.Sections.{sideOf, numberOr0};
@@ -100,7 +100,7 @@ fn side_fault(book: &[u16], role: SideRole, first: bool, due: usize, known: usiz
 
 // How many different variables are known after word w.
 fn learn(role: SideRole, known: usize, w: u16) -> usize
-    requires { ⌜ known ≤ 65535 ⌝ }
+    requires { ⌜ known ≤ maxWord ⌝ }
     ensures { λ r. ⌜ (r ≡ learn role known w) × (r ≤ known + 1) ⌝ }
 {
     match role {

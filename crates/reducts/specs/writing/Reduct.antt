@@ -7,7 +7,7 @@ use mathlib.Core.List.{List}
 use lib.ListN.{length, getD}
 use lib.Dec.{ltb}
 use Rattle.buffers.specs.moves.Parts.{part}
-use Rattle.system.specs.Limits.{variable, variables, termWords}
+use Rattle.system.specs.Limits.{maxWord, variable, variables, termWords}
 use Rattle.system.specs.Signature.{Signature}
 use Rattle.system.specs.System.{instance}
 use Rattle.system.specs.Terms.{Whole, Member}
@@ -56,8 +56,8 @@ pub record Writable (g : Signature) (side ws : List ℕ) (back : ℕ) (c : Stret
   pub sided : Sided side
   pub starts : length (c .starts) ≡ variables
   pub lengths : length (c .lengths) ≡ variables
-  pub based : source .base ≤ 65535
-  pub later : source .later ≤ 65535
+  pub based : source .base ≤ maxWord
+  pub later : source .later ≤ maxWord
   pub room : reductLength (c .lengths) side ≤ back
   pub stays : (v : ℕ) → Member (variable + v) side →
       Stays g ws (back - reductLength (c .lengths) side) back (stretchAt source (getD (c .starts) v 0)) (getD (c .lengths) v 0) (source .crowded)

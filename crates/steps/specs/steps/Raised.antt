@@ -3,7 +3,7 @@ use Prim.Native.Nat.{ℕ, zero, suc, _+_, _-_, _≤_, _<_}
 use mathlib.Core.Path.{_≡_}
 use mathlib.Core.List.{List, [], _∷_, _++_}
 use lib.ListN.{length, getD, take, drop}
-use Rattle.system.specs.Limits.{termWords}
+use Rattle.system.specs.Limits.{maxWord, termWords}
 use Rattle.rows.specs.Rows.{countsAt, wordRow, lengthRow}
 use Rattle.rewriting.specs.Ways.{raise}
 
@@ -12,7 +12,7 @@ pub record Raisable (ws qs : List ℕ) (d e : ℕ) : Type 0 where
   pub room : countsAt ≤ length ws
   pub within : (j : ℕ) → j < length qs → getD qs j 0 < termWords
   pub less : (j : ℕ) → j < length qs → d ≤ getD (raise (take j qs) d e (lengthRow ws)) (getD qs j 0) 0
-  pub fits : (j : ℕ) → j < length qs → getD (raise (take j qs) d e (lengthRow ws)) (getD qs j 0) 0 - d + e ≤ 65535
+  pub fits : (j : ℕ) → j < length qs → getD (raise (take j qs) d e (lengthRow ws)) (getD qs j 0) 0 - d + e ≤ maxWord
 
 -- the row of lengths then; nothing else has changed
 pub record Raised (ws qs : List ℕ) (d e : ℕ) (ws′ : List ℕ) : Type 0 where
