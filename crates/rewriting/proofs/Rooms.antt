@@ -88,7 +88,7 @@ module _ (s : System) (limit n : ℕ) where
   evaluate-cut : (levels p : ℕ) → Cuts (evaluate s roomy levels p) (evaluate s free levels p)
   unfolding evaluate
   evaluate-cut zero p r = same (stopped nested (r .trace))
-  evaluate-cut (suc levels) p r = atRoot-cut (evaluate s roomy levels) (evaluate s free levels) (evaluate-cut levels) limit p r
+  evaluate-cut (suc left) p r = atRoot-cut (evaluate s roomy left) (evaluate s free left) (evaluate-cut left) limit p r
 
   -- the form with a record answers what the plain one does, or 16
   pub evaluation-cut : (t : List ℕ) → Cut limit n (evaluation s roomy t) (evaluation s free t)

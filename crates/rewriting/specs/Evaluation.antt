@@ -92,10 +92,10 @@ module _ (s : System) (limits : Limits) where
   atRoot inner zero p r = follow inner (λ p′ r′. stopped spent (r′ .trace)) (strategy s (getD (r .term) p 0)) p r
   atRoot inner (suc left) p r = follow inner (atRoot inner left) (strategy s (getD (r .term) p 0)) p r
 
-  -- evaluate the subterm at p, with `levels` levels left, its own among them; "from level 64 this is 13, whatever the argument"
+  -- evaluate the subterm at p, with so many levels left, its own among them; "from level 64 this is 13, whatever the argument"
   unfoldable pub evaluate : ℕ → ℕ → Config → Outcome
   evaluate zero p r = stopped nested (r .trace)
-  evaluate (suc levels) p r = atRoot (evaluate levels) (limits .steps) p r
+  evaluate (suc left) p r = atRoot (evaluate left) (limits .steps) p r
 
 -- "The whole cue starts at level 1", and there are 64
 unfoldable pub evaluation : System → Limits → List ℕ → Outcome
