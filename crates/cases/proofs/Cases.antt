@@ -1,7 +1,7 @@
 -- All starred cases, computed: one fact for the whole table.
 use mathlib.Core.Path.{refl}
 use Rattle.buffers.specs.Words.{zeros}
-use Rattle.system.specs.BuiltIns.{isLiteral, isBuiltIn, isBinary, builtInArity, builtInStrategy, larger, smaller, squareLaw}
+use Rattle.system.specs.BuiltIns.{isLiteral, isBuiltIn, isBinary, isUnary, builtInArity, builtInStrategy, larger, smaller, squareLaw}
 use Rattle.system.specs.Signature.{isSymbol, arity, span, argument, replace}
 use Rattle.system.specs.System.{strategy, instance}
 use Rattle.reader.specs.Parser.{read, readSystem, readRules, readEnd, readRule, readSide, readWords, readStrategy, number, word, learn, sideFault, symbolFault, variableFault, outside, each, times}
@@ -25,7 +25,7 @@ pub starred-cases : Hold starred
 unfolding starred readerCases strategyCases evaluatorCases testAnswer firstFailing passes every closes idles idleTest heldOnce occurs constructs
     expanding bookB zeros afterChecks room earlier evaluation evaluate atRoot follow rewrite hasRoom systemOf contraction firstMatch bind sameWords instance
     span argument replace strategy read readSystem readRules readEnd readRule readSide readWords readStrategy number word learn sideFault
-    symbolFault variableFault outside each times termFault termAnswer isSymbol arity isLiteral isBuiltIn isBinary builtInArity builtInStrategy
+    symbolFault variableFault outside each times termFault termAnswer isSymbol arity isLiteral isBuiltIn isBinary isUnary builtInArity builtInStrategy
     computed applied operation squared larger smaller squareLaw
 starred-cases = refl
 
@@ -36,6 +36,6 @@ unfolding requestCases literalCases recordCases squareCases repeatCases sameBook
     expanding recording following bookB zeros afterChecks recordAfter keep inOrder replay toldBy activeAt pending flags among
     room earlier evaluation evaluate atRoot follow rewrite hasRoom systemOf contraction firstMatch bind sameWords instance
     span argument replace strategy read readSystem readRules readEnd readRule readSide readWords readStrategy number word learn sideFault
-    symbolFault variableFault outside each times termFault termAnswer isSymbol arity isLiteral isBuiltIn isBinary builtInArity builtInStrategy
+    symbolFault variableFault outside each times termFault termAnswer isSymbol arity isLiteral isBuiltIn isBinary isUnary builtInArity builtInStrategy
     computed applied operation squared larger smaller squareLaw
 request-cases = refl

@@ -2,7 +2,7 @@
 use mathlib.Core.Path.{_≡_, refl}
 use mathlib.Core.List.{[], _∷_}
 use lib.ListN.{replicate, set}
-use Rattle.system.specs.BuiltIns.{isBuiltIn, isBinary, builtInArity, builtInStrategy}
+use Rattle.system.specs.BuiltIns.{isBuiltIn, isBinary, isUnary, builtInArity, builtInStrategy}
 use Rattle.system.specs.Signature.{isSymbol, arity, span, argument}
 use Rattle.system.specs.System.{strategy}
 use Rattle.system.specs.Terms.{occurs}
@@ -35,5 +35,5 @@ pub verdict-cases :
 unfolding check wordsOf decimalIn decimal refusalLine takenLine orderLine bookText textOf bookB
     testAnswer firstFailing passes every closes idles idleTest heldOnce occurs constructs strategy span argument
     read readSystem readRules readEnd readRule readSide readWords readStrategy number word learn sideFault symbolFault variableFault outside each times isSymbol arity
-    isBuiltIn isBinary builtInArity builtInStrategy
+    isBuiltIn isBinary isUnary builtInArity builtInStrategy
 verdict-cases = (refl, refl, refl, refl, refl, refl, refl, refl, refl, refl)

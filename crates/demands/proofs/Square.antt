@@ -47,7 +47,7 @@ square-argument g n = refl
 
 module _ (g : Signature) (few : length g ≤ literal) where
   square-arity : arity g square ≡ 1
-  square-arity = arity-unlisted g square (omega arith) ∙ arity-one square refl
+  square-arity = arity-unlisted g square (omega arith) ∙ arity-one square (omega arith) (omega arith)
 
   level-arity : (n : ℕ) → n < literals → arity g (literal + n) ≡ 0
   level-arity n h = arity-unlisted g (literal + n) (omega arith) ∙ arity-none (literal + n) (inl (omega arith))
@@ -68,7 +68,7 @@ module _ (g : Signature) (few : length g ≤ literal) where
 
 module _ (s : System) (wf : WellFormed s) where
   square-strategy : strategy s square ≡ 1 ∷ 0 ∷ []
-  square-strategy = strategy-unlisted s square (omega arith) ∙ strategy-eager square ∙ ap eager (arity-one square refl)
+  square-strategy = strategy-unlisted s square (omega arith) ∙ strategy-eager square ∙ ap eager (arity-one square (omega arith) (omega arith))
 
   level-strategy : (n : ℕ) → n < literals → strategy s (literal + n) ≡ []
   level-strategy n h = strategy-unlisted s (literal + n) (omega arith) ∙ strategy-eager (literal + n) ∙ ap eager (arity-none (literal + n) (inl (omega arith)))

@@ -2,7 +2,7 @@
 use mathlib.Core.Path.{_≡_, refl}
 use mathlib.Core.List.{[], _∷_}
 use lib.ListN.{set}
-use Rattle.system.specs.BuiltIns.{isBuiltIn, isBinary, builtInArity, builtInStrategy}
+use Rattle.system.specs.BuiltIns.{isBuiltIn, isBinary, isUnary, builtInArity, builtInStrategy}
 use Rattle.system.specs.Signature.{isSymbol, arity, span, argument}
 use Rattle.system.specs.System.{strategy}
 use Rattle.system.specs.Terms.{occurs}
@@ -15,7 +15,7 @@ pub strategy-cases : Hold strategyCases
 unfolding strategyCases bookB
     testAnswer firstFailing passes every closes idles idleTest heldOnce occurs constructs strategy span argument
     read readSystem readRules readEnd readRule readSide readWords readStrategy number word learn sideFault symbolFault variableFault outside each times isSymbol arity
-    isBuiltIn isBinary builtInArity builtInStrategy
+    isBuiltIn isBinary isUnary builtInArity builtInStrategy
 strategy-cases = refl
 
 -- rest's order 0 1 too (words 14 and 15): head and rest fail, and the lower is told; then rest's alone
@@ -23,5 +23,5 @@ pub two-fail : (testing (set (set earlyB 14 0) 15 1) ≡ 14 ∷ 2 ∷ 0 ∷ []) 
 unfolding bookB
     testAnswer firstFailing passes every closes idles idleTest heldOnce occurs constructs strategy span argument
     read readSystem readRules readEnd readRule readSide readWords readStrategy number word learn sideFault symbolFault variableFault outside each times isSymbol arity
-    isBuiltIn isBinary builtInArity builtInStrategy
+    isBuiltIn isBinary isUnary builtInArity builtInStrategy
 two-fail = (refl, refl)

@@ -11,7 +11,7 @@ use mathlib.Core.List.{List, [], _∷_, _++_}
 use lib.ListN.{length, getD, List·getD-append}
 use borrow.Author.Tests.{eq-eqb, ne-eqb}
 use Rattle.system.specs.Limits.{variable}
-use Rattle.system.specs.BuiltIns.{literal, literals, maximum, minimum, square, isLiteral, larger, smaller, squareLaw}
+use Rattle.system.specs.BuiltIns.{literal, literals, maximum, minimum, square, lastBuiltIn, isLiteral, larger, smaller, squareLaw}
 use Rattle.system.specs.Signature.{Signature, Symbol, arity}
 use Rattle.system.specs.System.{Rule, head}
 use Rattle.system.specs.Rules.{BuiltIn, max, min, sqr, maximumRule, minimumRule, squareRule}
@@ -227,7 +227,7 @@ module _ (g : Signature) (few : length g ≤ literal) where
           two-literals (under (arity-unlisted g w (omega arith) ∙ arity-two w l h)) u v ∙ (λ i. number-of a u .0 i ∷ number-of b v .0 i ∷ [])
 
       one : w ≡ square → isLiteral a ≡ true → ws ≡ (literal + (a - literal)) ∷ []
-      one q u = one-literal (under (arity-unlisted g w (omega arith) ∙ arity-one w q)) u ∙ (λ i. number-of a u .0 i ∷ [])
+      one q u = one-literal (under (arity-unlisted g w (omega arith) ∙ arity-one w (omega arith) (omega arith))) u ∙ (λ i. number-of a u .0 i ∷ [])
 
       by : {k v : ℕ} {r : Rule} → BuiltIn k r → x ≡ record { number = k; word = v } → v ∷ [] ≡ r .rhs → w ∷ ws ≡ r .lhs → Redex (w ∷ ws) x
       by {r} d e q l =
@@ -247,14 +247,15 @@ module _ (g : Signature) (few : length g ≤ literal) where
         computed-binary (w ∷ ws ++ b) (λ e. omega arith)
         ∙ (λ i. applied w (List·getD-append ws b 0 0 (omega arith) i) (List·getD-append ws b 0 1 (omega arith) i))
         ∙ sym (computed-binary (w ∷ ws) (λ e. omega arith))
-    | unary q ↦
+    | unary l h ↦
         let k = forest-length f in
-        let one = arity-unlisted g w (omega arith) ∙ arity-one w q in
+        let q : w ≡ square = omega arith in
+        let one = arity-unlisted g w (omega arith) ∙ arity-one w l h in
         computed-unary (w ∷ ws ++ b) q ∙ ap squared (List·getD-append ws b 0 0 (omega arith)) ∙ sym (computed-unary (w ∷ ws) q)
     | nullary n ↦ nothing n (w ∷ ws ++ b) refl ∙ sym (nothing n (w ∷ ws) refl)
   ]
     where
-      nothing : (w < maximum) ⊎ (square < w) → (us : List ℕ) → getD us 0 0 ≡ w → computed us ≡ none
+      nothing : (w < maximum) ⊎ (lastBuiltIn < w) → (us : List ℕ) → getD us 0 0 ≡ w → computed us ≡ none
       nothing (inl l) us q = computed-plain us (λ e. omega arith) (λ e. omega arith) (λ e. omega arith)
       nothing (inr l) us q = computed-plain us (λ e. omega arith) (λ e. omega arith) (λ e. omega arith)
 

@@ -8,10 +8,9 @@ use mathlib.Core.Logic.{inl, inr}
 use mathlib.Core.Bool.{Bool, true, false, cond}
 use mathlib.Core.List.{List, [], _∷_, _++_, append-assoc, append-nil, map}
 use lib.ListN.{length, getD, length-append, length-map, List·getD-map}
-use lib.Dec.{eqb}
 use Rattle.system.specs.Limits.{maxEntries}
 use Rattle.system.specs.Signature.{Signature, arity, argument}
-use Rattle.system.specs.BuiltIns.{square, isBinary, builtInArity, builtInStrategy}
+use Rattle.system.specs.BuiltIns.{isBinary, isUnary, builtInArity, builtInStrategy}
 use Rattle.system.specs.System.{System, strategy}
 use Rattle.system.specs.Terms.{Member, first, later, Whole, WellFormed}
 use Rattle.system.proofs.Members.{member-nil, member-getD, member-front, member-back, member-snoc}
@@ -76,7 +75,7 @@ module _ (s : System) where
   -- the built-in words follow all of their arguments
   built : (f i : ℕ) → i < builtInArity f → Member (suc i) (builtInStrategy f)
   unfolding builtInArity builtInStrategy
-  built f i h = go (isBinary f) (eqb f square) i h
+  built f i h = go (isBinary f) (isUnary f) i h
     where
       go : (a b : Bool) (i : ℕ) → i < cond a 2 (cond b 1 0) → Member (suc i) (cond a (1 ∷ 2 ∷ 0 ∷ []) (cond b (1 ∷ 0 ∷ []) []))
       go true b zero h = first

@@ -7,10 +7,11 @@ use mathlib.Core.Logic.{_⊎_, inl, inr}
 use mathlib.Core.Bool.{Bool, true, false, _&&_}
 use mathlib.Core.List.{List, [], _∷_}
 use lib.ListN.{length}
-use lib.Dec.{ltb, leb, eqb}
+use lib.Dec.{ltb, leb}
 use borrow.Author.Tests.{lt-ltb, le-ltb, ltb-true, le-leb, lt-leb, leb-true, eq-eqb, ne-eqb}
 use Rattle.system.specs.Limits.{maxEntries}
-use Rattle.system.specs.BuiltIns.{literal, literals, maximum, minimum, square, isLiteral, isBuiltIn, isBinary, builtInArity, builtInStrategy, larger, smaller}
+use Rattle.system.specs.BuiltIns.{literal, literals, maximum, minimum, square, lastBuiltIn}
+use Rattle.system.specs.BuiltIns.{isLiteral, isBuiltIn, isBinary, isUnary, builtInArity, builtInStrategy, larger, smaller}
 use Rattle.system.specs.Terms.{Member, first, later}
 
 -- both of two tests
@@ -31,21 +32,21 @@ clash e q = let z : _≡_ {A = ℕ} 0 1 = cc in omega arith
 -- between the first literal and the last operator
 pub record BuiltInWord (w : ℕ) : Type 0 where
   pub low : literal ≤ w
-  pub high : w ≤ square
+  pub high : w ≤ lastBuiltIn
 
 pub builtin-range : (w : ℕ) → isBuiltIn w ≡ true → BuiltInWord w
 unfolding isBuiltIn
-builtin-range w e = let c = both _ _ e in record { low = leb-true literal w (c .0); high = leb-true w square (c .1) }
+builtin-range w e = let c = both _ _ e in record { low = leb-true literal w (c .0); high = leb-true w lastBuiltIn (c .1) }
 
-pub range-builtin : (w : ℕ) → literal ≤ w → w ≤ square → isBuiltIn w ≡ true
+pub range-builtin : (w : ℕ) → literal ≤ w → w ≤ lastBuiltIn → isBuiltIn w ≡ true
 unfolding isBuiltIn
-range-builtin w l h = rw (le-leb literal w l, le-leb w square h)
+range-builtin w l h = rw (le-leb literal w l, le-leb w lastBuiltIn h)
 
 pub below-builtin : (w : ℕ) → w < literal → isBuiltIn w ≡ false
 unfolding isBuiltIn
 below-builtin w h = rw (lt-leb literal w h)
 
-pub above-builtin : (w : ℕ) → literal ≤ w → isBuiltIn w ≡ leb w square
+pub above-builtin : (w : ℕ) → literal ≤ w → isBuiltIn w ≡ leb w lastBuiltIn
 unfolding isBuiltIn
 above-builtin w h = rw (le-leb literal w h)
 
@@ -73,19 +74,19 @@ number-of w e = let c = is-literal w e in (omega arith, omega arith)
 
 -- ---- how many arguments they take
 
--- the three cases: an operator on two literals, that on one, and all other words
+-- the three cases: an operator on two literals, one on one, and all other words
 pub data Operands (w : ℕ) : Type 0 where
   binary : maximum ≤ w → w ≤ minimum → Operands w
-  unary : w ≡ square → Operands w
-  nullary : (w < maximum) ⊎ (square < w) → Operands w
+  unary : minimum < w → w ≤ lastBuiltIn → Operands w
+  nullary : (w < maximum) ⊎ (lastBuiltIn < w) → Operands w
 
 pub operands : (w : ℕ) → Operands w
 operands w = elim (decLt w maximum) [
   | yes l ↦ nullary (inl l)
   | no a ↦
-      elim (decLt w square) [
-        | yes l ↦ binary (omega arith) (omega arith)
-        | no b ↦ elim (ℕ-discrete w square) [ yes e ↦ unary e | no c ↦ nullary (inr (omega arith)) ]
+      elim (decLt minimum w) [
+        | yes l ↦ elim (decLt lastBuiltIn w) [ yes h ↦ nullary (inr h) | no h ↦ unary l (omega arith) ]
+        | no b ↦ binary (omega arith) (omega arith)
       ]
 ]
 
@@ -105,19 +106,28 @@ module _ (w : ℕ) where
   not-binary (inl h) = rw (ne-eqb w maximum (λ e. omega arith), ne-eqb w minimum (λ e. omega arith))
   not-binary (inr h) = rw (ne-eqb w maximum (λ e. omega arith), ne-eqb w minimum (λ e. omega arith))
 
-  no-operator : (w < maximum) ⊎ (square < w) → (isBinary w ≡ false) × (eqb w square ≡ false)
-  no-operator (inl h) = (not-binary (inl h), ne-eqb w square (λ e. omega arith))
-  no-operator (inr h) = (not-binary (inr (omega arith)), ne-eqb w square (λ e. omega arith))
+  is-unary : minimum < w → w ≤ lastBuiltIn → isUnary w ≡ true
+  unfolding isUnary
+  is-unary l h = rw (eq-eqb w square (omega arith))
+
+  not-unary : (w < maximum) ⊎ (lastBuiltIn < w) → isUnary w ≡ false
+  unfolding isUnary
+  not-unary (inl h) = rw (ne-eqb w square (λ e. omega arith))
+  not-unary (inr h) = rw (ne-eqb w square (λ e. omega arith))
+
+  no-operator : (w < maximum) ⊎ (lastBuiltIn < w) → (isBinary w ≡ false) × (isUnary w ≡ false)
+  no-operator (inl h) = (not-binary (inl h), not-unary (inl h))
+  no-operator (inr h) = (not-binary (inr (omega arith)), not-unary (inr h))
 
   pub arity-two : maximum ≤ w → w ≤ minimum → builtInArity w ≡ 2
   unfolding builtInArity
   arity-two l h = rw (is-binary l h)
 
-  pub arity-one : w ≡ square → builtInArity w ≡ 1
+  pub arity-one : minimum < w → w ≤ lastBuiltIn → builtInArity w ≡ 1
   unfolding builtInArity
-  arity-one e = rw (not-binary (inr (omega arith)), eq-eqb w square e)
+  arity-one l h = rw (not-binary (inr l), is-unary l h)
 
-  pub arity-none : (w < maximum) ⊎ (square < w) → builtInArity w ≡ 0
+  pub arity-none : (w < maximum) ⊎ (lastBuiltIn < w) → builtInArity w ≡ 0
   unfolding builtInArity
   arity-none h = rw (no-operator h .0, no-operator h .1)
 
@@ -125,14 +135,14 @@ module _ (w : ℕ) where
   unfolding builtInStrategy
   strategy-eager = elim (operands w) [
     | binary l h ↦ rw (arity-two l h, is-binary l h)
-    | unary e ↦ rw (arity-one e, not-binary (inr (omega arith)), eq-eqb w square e)
+    | unary l h ↦ rw (arity-one l h, not-binary (inr l), is-unary l h)
     | nullary h ↦ rw (arity-none h, no-operator h .0, no-operator h .1)
   ]
 
   pub builtin-narrow : builtInArity w ≤ 2
   builtin-narrow = elim (operands w) [
     | binary l h ↦ rw (arity-two l h) (omega arith)
-    | unary e ↦ rw (arity-one e) (omega arith)
+    | unary l h ↦ rw (arity-one l h) (omega arith)
     | nullary h ↦ rw (arity-none h) (omega arith)
   ]
 

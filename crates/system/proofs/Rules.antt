@@ -1,12 +1,12 @@
 -- The rules of a system, listed and built-in ones, and the strategies of both kinds of symbols: what is cited of BuiltIn, RuleOf and `strategy`.
 use Prim.Native.Nat.{ℕ, suc, _+_, _≤_, _<_}
 use native.Mathlib.Omega.{arith}
-use mathlib.Core.Path.{_≡_, refl, _∙_, subst}
+use mathlib.Core.Path.{_≡_, _∙_, subst}
 use mathlib.Core.Logic.{inl}
 use mathlib.Core.List.{List, [], _∷_}
 use lib.ListN.{length, getD, List·getD-eq-default}
 use Rattle.system.specs.Limits.{variable}
-use Rattle.system.specs.BuiltIns.{literal, literals, maximum, minimum, square, builtInArity, builtInStrategy}
+use Rattle.system.specs.BuiltIns.{literal, literals, maximum, minimum, square, lastBuiltIn, builtInArity, builtInStrategy}
 use Rattle.system.specs.Signature.{Signature, Listed}
 use Rattle.system.specs.System.{System, Rule, rule, head, strategy}
 use Rattle.system.specs.Rules.{BuiltIn, max, min, sqr, RuleOf, listed, builtIn, maximumRule, squareRule}
@@ -27,7 +27,11 @@ strategy-unlisted s f h = List·getD-eq-default (s .strategies) (builtInStrategy
 
 -- ---- the built-in rules
 
-pub built-number : {k : ℕ} {r : Rule} → BuiltIn k r → (maximumRule ≤ k) × (k ≤ squareRule)
+-- the last of them
+abbrev pub lastRule : ℕ
+lastRule = squareRule
+
+pub built-number : {k : ℕ} {r : Rule} → BuiltIn k r → (maximumRule ≤ k) × (k ≤ lastRule)
 built-number (max a b) = (omega arith, omega arith)
 built-number (min a b) = (omega arith, omega arith)
 built-number (sqr a) = (omega arith, omega arith)
@@ -36,7 +40,7 @@ built-number (sqr a) = (omega arith, omega arith)
 pub built-head : {k : ℕ} {r : Rule} → BuiltIn k r → 0 < builtInArity (head (r .lhs))
 built-head (max a b) = rw (arity-two maximum (omega arith) (omega arith)) (omega arith)
 built-head (min a b) = rw (arity-two minimum (omega arith) (omega arith)) (omega arith)
-built-head (sqr a) = rw (arity-one square refl) (omega arith)
+built-head (sqr a) = rw (arity-one square (omega arith) (omega arith)) (omega arith)
 
 -- no word of them is a variable
 one-below : {a w : ℕ} → a < variable → Member w (a ∷ []) → w < variable
@@ -77,7 +81,7 @@ module _ (g : Signature) (few : length g ≤ literal) where
   alone h = literal-more h empty
 
   -- an operator before its literals, and the literal that is put there
-  ground-formed : {w v n : ℕ} {ws : List ℕ} → maximum ≤ w → w ≤ square → builtInArity w ≡ n → Forest g (Word g) n ws → length ws ≤ 2 →
+  ground-formed : {w v n : ℕ} {ws : List ℕ} → maximum ≤ w → w ≤ lastBuiltIn → builtInArity w ≡ n → Forest g (Word g) n ws → length ws ≤ 2 →
       ((u : ℕ) → Member u (w ∷ ws) → u < variable) → v < literals → WellFormedRule g (record { lhs = w ∷ ws; rhs = (literal + v) ∷ [] })
   ground-formed {w} {v} {ws} l h takes f short ground c =
       let known = symbol-builtin g w (range-builtin w (omega arith) h) in
@@ -105,7 +109,7 @@ module _ (g : Signature) (few : length g ≤ literal) where
       go : {k : ℕ} {r : Rule} → BuiltIn k r → ((u : ℕ) → Member u (r .lhs) → u < variable) → WellFormedRule g r
       go (max {m} {n} a b) = two maximum (omega arith) (omega arith) a b (larger-below m n literals a b)
       go (min {m} {n} a b) = two minimum (omega arith) (omega arith) a b (smaller-below m n literals a b)
-      go (sqr {n} a) = λ ground. ground-formed (omega arith) (omega arith) (arity-one square refl) (alone a) (omega arith) ground (square-below n a)
+      go (sqr {n} a) = λ ground. ground-formed (omega arith) (omega arith) (arity-one square (omega arith) (omega arith)) (alone a) (omega arith) ground (square-below n a)
 
 -- ---- all rules
 
@@ -116,7 +120,7 @@ module _ (s : System) (wf : WellFormed s) where
   rule-formed (builtIn b) = built-formed (s .arities) (few-listed s wf) b
 
   -- the numbers go up to that of the last built-in rule
-  pub rule-bound : {k : ℕ} {r : Rule} → RuleOf s k r → k ≤ squareRule
+  pub rule-bound : {k : ℕ} {r : Rule} → RuleOf s k r → k ≤ lastRule
   rule-bound (listed h) = let z = wf .ruleBound in omega arith
   rule-bound (builtIn b) = built-number b .1
 

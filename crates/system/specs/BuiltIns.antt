@@ -22,21 +22,29 @@ minimum = 16641
 abbrev pub square : ℕ
 square = 16642
 
+-- the last of them
+abbrev pub lastBuiltIn : ℕ
+lastBuiltIn = square
+
 unfoldable pub isLiteral : ℕ → Bool
 isLiteral w = leb literal w && ltb w maximum
 
--- a literal, or one of the three operators behind the literals
+-- a literal, or one of the operators behind the literals
 unfoldable pub isBuiltIn : ℕ → Bool
-isBuiltIn w = leb literal w && leb w square
+isBuiltIn w = leb literal w && leb w lastBuiltIn
 
+-- the operators with two arguments, and those with one
 unfoldable pub isBinary : ℕ → Bool
 isBinary w = eqb w maximum || eqb w minimum
 
+unfoldable pub isUnary : ℕ → Bool
+isUnary w = eqb w square
+
 unfoldable pub builtInArity : ℕ → ℕ
-builtInArity w = cond (isBinary w) 2 (cond (eqb w square) 1 0)
+builtInArity w = cond (isBinary w) 2 (cond (isUnary w) 1 0)
 
 unfoldable pub builtInStrategy : ℕ → List ℕ
-builtInStrategy w = cond (isBinary w) (1 ∷ 2 ∷ 0 ∷ []) (cond (eqb w square) (1 ∷ 0 ∷ []) [])
+builtInStrategy w = cond (isBinary w) (1 ∷ 2 ∷ 0 ∷ []) (cond (isUnary w) (1 ∷ 0 ∷ []) [])
 
 -- "the larger or smaller level"
 unfoldable pub larger : ℕ → ℕ → ℕ

@@ -14,6 +14,9 @@ pub const MINIMUM: usize = 16641;
 
 pub const SQUARE: usize = 16642;
 
+// The last of them.
+pub const LAST_BUILT_IN: usize = SQUARE;
+
 // The numbers of their rules.
 pub const MAXIMUM_RULE: usize = 128;
 
@@ -39,7 +42,7 @@ pub fn is_built_in(w: u16) -> bool
     if x < LITERAL {
         return false;
     }
-    x <= SQUARE
+    x <= LAST_BUILT_IN
 }
 
 // How many arguments w takes.

@@ -1,6 +1,6 @@
 -- The cases of the test by weights, computed: one fact for the whole table.
 use mathlib.Core.Path.{refl}
-use Rattle.system.specs.BuiltIns.{isLiteral, isBuiltIn, isBinary, builtInArity, smaller}
+use Rattle.system.specs.BuiltIns.{isLiteral, isBuiltIn, isBinary, isUnary, builtInArity, smaller}
 use Rattle.system.specs.Signature.{isSymbol, arity}
 use Rattle.reader.specs.Parser.{read, readSystem, readRules, readEnd, readRule, readSide, readWords, readStrategy, number, word, learn, sideFault, symbolFault, variableFault, outside, each, times}
 use Rattle.reader.specs.Cases.{Hold, bookB}
@@ -13,5 +13,5 @@ use Rattle.termination.specs.Cases.{withRules, weightCases}
 pub weight-cases : Hold weightCases
 unfolding weightCases withRules bookB weightsAnswer systemAnswer weighs inRange firstFailing falls below keepsAt occurs weight wordWeight builtInWeight weightLimit
     read readSystem readRules readEnd readRule readSide readWords readStrategy number word learn sideFault
-    symbolFault variableFault outside each times isSymbol arity isLiteral isBuiltIn isBinary builtInArity smaller
+    symbolFault variableFault outside each times isSymbol arity isLiteral isBuiltIn isBinary isUnary builtInArity smaller
 weight-cases = refl

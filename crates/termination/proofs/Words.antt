@@ -9,7 +9,7 @@ use lib.ListN.{length, getD, take}
 use lib.Seq.{take-suc}
 use borrow.Author.Tests.{lt-ltb, le-ltb, lt-leb}
 use Rattle.system.specs.Limits.{variable, maxSteps}
-use Rattle.system.specs.BuiltIns.{literal, maximum, square, isLiteral, isBuiltIn}
+use Rattle.system.specs.BuiltIns.{literal, maximum, lastBuiltIn, isLiteral, isBuiltIn}
 use Rattle.system.proofs.BuiltIns.{above-literal, above-builtin, smaller-first, smaller-second}
 use Rattle.termination.specs.Weights.{Weights, builtInWeight, wordWeight, weight}
 use Rattle.termination.specs.WeightTest.{weightLimit}
@@ -45,7 +45,7 @@ module _ (w : ℕ) where
 pub weight-variable : (m : Weights) (w : ℕ) → variable ≤ w → wordWeight m w ≡ 0
 weight-variable m w l =
     weight-builtin m w (omega arith)
-    ∙ builtin-none w (above-literal w (omega arith) ∙ le-ltb w maximum (omega arith)) (above-builtin w (omega arith) ∙ lt-leb w square (omega arith))
+    ∙ builtin-none w (above-literal w (omega arith) ∙ le-ltb w maximum (omega arith)) (above-builtin w (omega arith) ∙ lt-leb w lastBuiltIn (omega arith))
 
 -- ---- what words weigh
 

@@ -15,7 +15,7 @@ returns-2 : tie.Need-returns-2
 returns-2 c = let b = c .before in (sym (arity-two (b .before .args .w) (omega arith) (omega arith)), omega arith)
 
 returns-3 : tie.Need-returns-3
-returns-3 c = let b = c .before .before in (sym (arity-one (b .before .args .w) (c .if3 .taken)), omega arith)
+returns-3 c = let b = c .before .before in (sym (arity-one (b .before .args .w) (omega arith) (omega arith)), omega arith)
 
 returns-4 : tie.Need-returns-4
 returns-4 c =
