@@ -8,7 +8,8 @@ use Rattle.reader.specs.Parser.{read, readSystem, readRules, readEnd, readRule,
 use Rattle.system.specs.TermCheck.{termFault}
 use Rattle.reader.specs.Answers.{termAnswer}
 use Rattle.reader.specs.Book.{systemOf}
-use Rattle.matching.specs.StrategyTest.{passes, every, closes, idles, idleTest, heldOnce, constructs, firstFailing, testAnswer}
+use Rattle.system.specs.FirstFailing.{firstFailing}
+use Rattle.matching.specs.StrategyTest.{passes, every, closes, idles, idleTest, heldOnce, constructs, testAnswer}
 use Rattle.matching.specs.Cases.{strategyCases}
 use Rattle.matching.specs.Matching.{sameWords, bind, firstMatch, operation, applied, squared, computed, contraction}
 use Rattle.reader.specs.Cases.{Hold, bookB, readerCases}

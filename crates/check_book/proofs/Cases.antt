@@ -8,7 +8,8 @@ use Rattle.system.specs.System.{strategy}
 use Rattle.system.specs.Terms.{occurs}
 use Rattle.reader.specs.Parser.{read, readSystem, readRules, readEnd, readRule, readSide, readWords, readStrategy, number, word, learn, sideFault, symbolFault, variableFault, outside, each, times}
 use Rattle.reader.specs.Cases.{bookB, cutB, longB, twiceB, earlyB}
-use Rattle.matching.specs.StrategyTest.{passes, every, closes, idles, idleTest, heldOnce, constructs, firstFailing, testAnswer}
+use Rattle.system.specs.FirstFailing.{firstFailing}
+use Rattle.matching.specs.StrategyTest.{passes, every, closes, idles, idleTest, heldOnce, constructs, testAnswer}
 use Rattle.printing.specs.Text.{ascii, decimalIn, decimal}
 use Rattle.files.specs.Words.{wordsOf}
 use Rattle.files.specs.Files.{absent, bytes, check}

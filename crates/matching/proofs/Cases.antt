@@ -8,7 +8,8 @@ use Rattle.system.specs.System.{strategy}
 use Rattle.system.specs.Terms.{occurs}
 use Rattle.reader.specs.Parser.{read, readSystem, readRules, readEnd, readRule, readSide, readWords, readStrategy, number, word, learn, sideFault, symbolFault, variableFault, outside, each, times}
 use Rattle.reader.specs.Cases.{Hold, bookB, earlyB}
-use Rattle.matching.specs.StrategyTest.{passes, every, closes, idles, idleTest, heldOnce, constructs, firstFailing, testAnswer}
+use Rattle.system.specs.FirstFailing.{firstFailing}
+use Rattle.matching.specs.StrategyTest.{passes, every, closes, idles, idleTest, heldOnce, constructs, testAnswer}
 use Rattle.matching.specs.Cases.{testing, strategyCases}
 
 pub strategy-cases : Hold strategyCases

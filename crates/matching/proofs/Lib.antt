@@ -16,7 +16,6 @@ pub mod Splits
 -- The strategy test
 pub mod Idle
 pub mod SafetyTest
-pub mod FirstFailing
 pub mod Tests
 -- A variable twice on a left side
 pub mod Repeats

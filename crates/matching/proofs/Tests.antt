@@ -24,7 +24,7 @@ use Rattle.reader.specs.Book.{systemOf}
 use Rattle.layout.proofs.Accepting.{reads-system, scan-accepted}
 use Rattle.matching.specs.Safety.{Passes, Safe, FailsFirst, SafeBook, UnsafeBook, Tells}
 use Rattle.matching.specs.StrategyTest.{passes, firstUnsafe, safetyAnswer, testAnswer, PassedBook}
-use Rattle.matching.proofs.FirstFailing.{none-all, all-none, some-lowest, lowest-some}
+use Rattle.system.proofs.FirstFailing.{none-all, all-none, some-lowest, lowest-some}
 use Rattle.matching.proofs.SafetyTest.{passes-sound, passes-complete, builtin-passes, listed-plain}
 
 -- ---- of a system

@@ -2,7 +2,7 @@
 use Prim.Native.Nat.{ℕ, zero, suc}
 use mathlib.Core.Path.{_≡_}
 use mathlib.Core.List.{List, [], _∷_}
-use mathlib.Core.Bool.{Bool, true, false, not, _&&_, _||_, cond}
+use mathlib.Core.Bool.{Bool, true, false, not, _&&_, _||_}
 use mathlib.Core.Option.{Option, none, some}
 use lib.ListN.{length}
 use lib.Dec.{leb, eqb}
@@ -12,6 +12,7 @@ use Rattle.system.specs.Limits.{variable}
 use Rattle.system.specs.Signature.{Signature}
 use Rattle.system.specs.System.{System, Rule, strategy, head}
 use Rattle.system.specs.Terms.{occurs}
+use Rattle.system.specs.FirstFailing.{firstFailing}
 use Rattle.reader.specs.Parser.{ok, fault, read}
 use Rattle.reader.specs.Answers.{answerOf}
 use Rattle.matching.specs.Safety.{argumentWord}
@@ -50,11 +51,6 @@ unfoldable pub passes : System → ℕ → Bool
 passes s f = constructs s f || closes (idleTest s f) (strategy s f)
 
 -- ---- what the test answers
-
--- the lowest of the n numbers from k on that fails a test; none where all pass
-unfoldable pub firstFailing : (ℕ → Bool) → ℕ → ℕ → Option ℕ
-firstFailing test k zero = none
-firstFailing test k (suc n) = cond (test k) (firstFailing test (suc k) n) (some k)
 
 -- "the lowest-numbered name that fails" (02, F-1)
 abbrev pub firstUnsafe : System → Option ℕ

@@ -13,3 +13,5 @@ pub mod Spans
 -- The check of a term
 pub mod TermChecks
 pub mod FaultNumbers
+-- The lowest number that fails a test
+pub mod FirstFailing

@@ -7,3 +7,4 @@ pub mod Rules
 pub mod Terms
 pub mod Spans
 pub mod TermCheck
+pub mod FirstFailing

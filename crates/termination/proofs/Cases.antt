@@ -4,7 +4,7 @@ use Rattle.system.specs.BuiltIns.{isLiteral, isBuiltIn, isBinary, isUnary, buil
 use Rattle.system.specs.Signature.{isSymbol, arity}
 use Rattle.reader.specs.Parser.{read, readSystem, readRules, readEnd, readRule, readSide, readWords, readStrategy, number, word, learn, sideFault, symbolFault, variableFault, outside, each, times}
 use Rattle.reader.specs.Cases.{Hold, bookB}
-use Rattle.matching.specs.StrategyTest.{firstFailing}
+use Rattle.system.specs.FirstFailing.{firstFailing}
 use Rattle.termination.specs.Weights.{builtInWeight, wordWeight, weight}
 use Rattle.system.specs.Terms.{occurs}
 use Rattle.termination.specs.WeightTest.{keepsAt, below, falls, inRange, weighs, systemAnswer, weightsAnswer, weightLimit}

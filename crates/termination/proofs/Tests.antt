@@ -18,7 +18,7 @@ use Rattle.reader.specs.Book.{systemOf}
 use Rattle.system.proofs.BuiltIns.{refuted, clash}
 use Rattle.system.proofs.FaultNumbers.{fault-range, fault-not-zero}
 use Rattle.layout.proofs.Accepting.{reads-system}
-use Rattle.matching.proofs.FirstFailing.{none-all, all-none, some-lowest, lowest-some}
+use Rattle.system.proofs.FirstFailing.{none-all, all-none, some-lowest, lowest-some}
 use Rattle.termination.specs.Weights.{Weights, Falls, Falling, RisesFirst, Weighs}
 use Rattle.termination.specs.WeightTest.{falls, weighs, firstRising, fallAnswer, misweighedAnswer, systemAnswer, weightsAnswer, PassedWeights}
 use Rattle.termination.specs.Tells.{FallingBook, RisingBook, MisweighedBook, TellsWeights}

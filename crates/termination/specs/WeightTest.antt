@@ -13,7 +13,7 @@ use Rattle.system.specs.BuiltIns.{smaller}
 use Rattle.system.specs.System.{System, Rule, rule}
 use Rattle.reader.specs.Parser.{ok, fault, read}
 use Rattle.reader.specs.Answers.{answerOf}
-use Rattle.matching.specs.StrategyTest.{firstFailing}
+use Rattle.system.specs.FirstFailing.{firstFailing}
 use Rattle.termination.specs.Weights.{Weights, weight}
 use Rattle.system.specs.Terms.{occurs}
 

@@ -19,11 +19,12 @@ use Rattle.system.specs.Signature.{signatureOf}
 use Rattle.layout.specs.declared.rules.RuleSpan.{RuleSpan}
 use Rattle.reader.specs.Book.{systemOf, Accepted}
 use Rattle.layout.specs.index.Accepted.{StrategyAt, SuffixAt}
-use Rattle.matching.specs.StrategyTest.{every, heldOnce, idleTest, idles, closes, constructs, passes, firstFailing, firstUnsafe, safetyAnswer}
+use Rattle.system.specs.FirstFailing.{firstFailing}
+use Rattle.matching.specs.StrategyTest.{every, heldOnce, idleTest, idles, closes, constructs, passes, firstUnsafe, safetyAnswer}
 use Rattle.system.proofs.words.SpanSteps.{tail}
 use Rattle.layout.proofs.Books.{Rest, Turn, rule-count, symbol-count, first-rest, signature}
 use Rattle.layout.proofs.Suffixes.{suffix-strategy, suffix-start, suffix-next}
-use Rattle.matching.proofs.FirstFailing.{sought, sought-starts, sought-ends, sought-passes, sought-fails}
+use Rattle.system.proofs.FirstFailing.{sought, sought-starts, sought-ends, sought-passes, sought-fails}
 
 -- ---- whether an argument is a variable that is held once
 

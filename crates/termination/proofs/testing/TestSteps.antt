@@ -23,7 +23,7 @@ use Rattle.system.proofs.BuiltIns.{both}
 use Rattle.system.proofs.Members.{member-getD, numbered-below}
 use Rattle.layout.proofs.Accepting.{scan-accepted}
 use Rattle.layout.proofs.Books.{Rest, turn-of, sides-at, rule-count, symbol-count, signature, first-rest}
-use Rattle.matching.proofs.FirstFailing.{sought, sought-starts, sought-ends, sought-passes, sought-fails}
+use Rattle.system.proofs.FirstFailing.{sought, sought-starts, sought-ends, sought-passes, sought-fails}
 use Rattle.termination.specs.Weights.{Weights}
 use Rattle.termination.specs.WeightTest.{falls, weighs, inRange, firstRising, fallAnswer, misweighedAnswer, weightsAnswer}
 use Rattle.matching.specs.rules.Searches.{NumberedSide}

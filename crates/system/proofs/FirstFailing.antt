@@ -9,8 +9,8 @@ use mathlib.Core.Bool.{Bool, true, false, cond}
 use mathlib.Core.Option.{Option, none, some}
 use lib.Dec.{ltb}
 use borrow.Author.Tests.{lt-ltb, le-ltb}
+use Rattle.system.specs.FirstFailing.{firstFailing}
 use Rattle.system.proofs.BuiltIns.{clash}
-use Rattle.matching.specs.StrategyTest.{firstFailing}
 
 -- what was found, or else `first` where it is below n
 abbrev pub orFirst : ℕ → ℕ → Option ℕ → Option ℕ
