@@ -179,6 +179,7 @@ pub fn first_redex(
     if LITERAL <= wide(head) {
         return redex_for(computed_at(area, gap, head, p));
     }
+    let mut found = UNNUMBERED;
     let mut k = first_of(book, shape, index, head);
     'rules: while k < shape.rules {
         let r = rule_at(book, rule_start(book, shape, index, k));
@@ -196,10 +197,11 @@ pub fn first_redex(
             q += n;
             j += 1;
         }
-        return Redex { number: k, word: 0 };
+        found = k;
+        break 'rules;
     }
     Redex {
-        number: UNNUMBERED,
+        number: found,
         word: 0,
     }
 }

@@ -46,9 +46,10 @@ clear-lengths = refl
 
 -- ---- the loops
 
--- the search has come to rule k
-pub record Searching (b : List ℕ) (sh : Shape) (ws bs : List ℕ) (k : ℕ) : Type 0 where
+-- the search has come to rule k, and found none yet
+pub record Searching (b : List ℕ) (sh : Shape) (ws bs : List ℕ) (found k : ℕ) : Type 0 where
   pub sized : length bs ≡ bindingWords
+  pub none-found : found ≡ unnumbered
   pub along : Along b sh ws k
 
 -- the first j words of the left side of rule `of` have taken the words of the term t from p to q

@@ -1,7 +1,7 @@
 -- `redexes::first_redex` meets its contract.
 use Prim.Native.Nat.{ℕ, _+_, _-_, _≤_, _<_}
 use native.Mathlib.Omega.{arith}
-use mathlib.Core.Path.{_≡_, sym, ap, _∙_}
+use mathlib.Core.Path.{_≡_, refl, sym, ap, _∙_}
 use mathlib.Core.List.{List}
 use lib.ListN.{length, getD, drop}
 use Rattle.system.specs.Limits.{termWords}
@@ -22,16 +22,16 @@ use Rattle.redexes.proofs.search.first_redex.Statement.{statement}
 use Rattle.redexes.proofs.search.first_redex.Tie as tie
 
 abbrev Inv-words : tie.InvT-words
-Inv-words book shape index area spot bindings₀ p head k₀ lhs width j₀ q₀ bindings k j q = Trying book (termIn area (spot .gap)) p k₀ width k bindings j q
+Inv-words book shape index area spot bindings₀ p head found k₀ lhs width j₀ q₀ bindings k j q = Trying book (termIn area (spot .gap)) p k₀ width k bindings j q
 
 abbrev μ-words : tie.MeasureT-words
-μ-words book shape index area spot bindings₀ p head k₀ lhs width j₀ q₀ bindings k j q = width - j
+μ-words book shape index area spot bindings₀ p head found k₀ lhs width j₀ q₀ bindings k j q = width - j
 
 abbrev Inv-rules : tie.InvT-rules
-Inv-rules book shape index area spot bindings₀ p head k₀ bindings k = Searching book shape (drop p (termIn area (spot .gap))) bindings k
+Inv-rules book shape index area spot bindings₀ p head found₀ k₀ bindings found k = Searching book shape (drop p (termIn area (spot .gap))) bindings found k
 
 abbrev μ-rules : tie.MeasureT-rules
-μ-rules book shape index area spot bindings₀ p head k₀ bindings k = shape .rules - k
+μ-rules book shape index area spot bindings₀ p head found₀ k₀ bindings found k = shape .rules - k
 
 -- ---- the places of the code that are behind others: the entry, the head of the rules' loop, the rule read, the word met
 
@@ -113,6 +113,7 @@ rules-holds c =
     let at = word-from (term s) (s .args .spot .at) 0 (s .args .spot .at) (omega arith) (w .before .word-at .ensures) in
     record {
       sized = s .pre .4;
+      none-found = refl;
       along = along-starts (s .pre .0) (drop (s .args .spot .at) (term s)) (c .first-of .ensures .0 ∙ ap (λ w. ruleFrom (systemOf (s .args .book .now)) 0 (bucket w)) at);
     }
 
@@ -177,6 +178,7 @@ rules-again c =
     let fails = try-fails (turn r) (term s) (s .args .spot .at) (w .inv) (met k .words-test .taken) (took k) (c .before .if3 .taken) in
     record {
       sized = k .bind .kept .1 .1 .0 ∙ w .inv .sized;
+      none-found = h .rules .inv .none-found;
       along = along-next (s .pre .0) (drop (s .args .spot .at) (term s)) (h .rules .inv .along) (r .before .before .if2 .taken) fails (rw (w .inv .same) at (c .next-of .ensures .0));
     }
 
@@ -197,25 +199,27 @@ words-again c =
     let much = c .if3 .left in
     try-goes (turn (read k)) (term s) (s .args .spot .at) o (met k .words-test .taken) (took k) much (k .bind .kept .1 .1 .0 ∙ o .sized) (k .bind .ensures .1 .0 much)
 
+-- no rule of the list is left
 same-length : tie.Need-same-length Inv-words μ-words Inv-rules μ-rules
-same-length c = let s = entry (head (cleared (c .before .before))) in c .before .words .inv .sized ∙ sym (s .pre .4)
-
-same-length-2 : tie.Need-same-length-2 Inv-words μ-words Inv-rules μ-rules
-same-length-2 c = let h = c .before .before in h .rules .inv .sized ∙ sym (entry h .pre .4)
+same-length c = let h = c .before .before in h .rules .inv .sized ∙ sym (entry h .pre .4)
 
 returns-2 : tie.Need-returns-2 Inv-words μ-words Inv-rules μ-rules
 returns-2 c =
+    let h = c .before .before in
+    let s = entry h in
+    rw (h .rules .inv .none-found) (finds-nothing (s .pre .0) (term s) (s .args .spot .at) (low h) (h .rules .inv .along) (c .if2 .left))
+
+-- all words of a left side are matched
+same-length-2 : tie.Need-same-length-2 Inv-words μ-words Inv-rules μ-rules
+same-length-2 c = let s = entry (head (cleared (c .before .before))) in c .before .words .inv .sized ∙ sym (s .pre .4)
+
+returns-3 : tie.Need-returns-3 Inv-words μ-words Inv-rules μ-rules
+returns-3 c =
     let r = cleared (c .before .before) in
     let h = head r in
     let s = entry h in
     finds-rule (s .pre .0) (term s) (s .args .spot .at) (low h) (h .rules .inv .along) (turn r) (r .before .rule-start .ensures .0) (r .rule-at .ensures)
     (c .before .words .inv) (c .words-test .left)
-
-returns-3 : tie.Need-returns-3 Inv-words μ-words Inv-rules μ-rules
-returns-3 c =
-    let h = c .before .before in
-    let s = entry h in
-    finds-nothing (s .pre .0) (term s) (s .args .spot .at) (low h) (h .rules .inv .along) (c .if2 .left)
 
 pub first-redex-spec : {M : Type 1} → statement M
 first-redex-spec =
