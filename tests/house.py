@@ -14,8 +14,7 @@ FILE = 300  # lines of a file of proofs
 BODY = 40  # lines of a function's body
 CHAIN = 5  # places of the code that a proof goes back by `.before` in one go: further back, they are named
 PARAMETERS = 6
-# document 01 asks for both loops in one function; two pairs of buffers are lent to one call, or a record beside one pair
-LONG_BODY = {"first_rule"}
+# two pairs of buffers are lent to one call, or a record beside one pair
 MANY = {"expand_twice", "cue_expand_twice", "expand_within", "expand_retraced", "cue_expand_retraced", "expand_squares", "expand_weighed_recorded"}
 # functions of a crate that has must-fail edits: an edit takes the time of its whole crate, and that is the number of its functions
 FUNCTIONS = 16
@@ -102,7 +101,7 @@ def main():
             if part == "proofs" and len(lines) - 1 > FILE:
                 over.append(f"{path}: {len(lines) - 1} lines, {FILE} at most")
             for name, parameters, body in functions(text) if part == "src" else []:
-                if body > BODY and name not in LONG_BODY:
+                if body > BODY:
                     over.append(f"{path}: {name} has {body} lines, {BODY} at most")
                 if len(parameters) > PARAMETERS and name not in MANY:
                     over.append(f"{path}: {name} has {len(parameters)} parameters, {PARAMETERS} at most")

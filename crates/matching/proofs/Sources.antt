@@ -127,7 +127,7 @@ module _ (b : List ℕ) (sh : Shape) (acc : Accepted b sh) where
         go (from-book _ q) = sym q
         go (from-words z q) = z ∙ sym (computed-nothing (computed-low ws h)) ∙ sym q
 
-    match-high : literal ≤ getD ws 0 0 → matchComputed ws ≡ matchOf s ws
+    pub match-high : literal ≤ getD ws 0 0 → matchComputed ws ≡ matchOf s ws
     match-high h = go comes
       where
         go : {m : Match} → Comes m → matchComputed ws ≡ m

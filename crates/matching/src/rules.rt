@@ -1,11 +1,13 @@
 // The inner interface for the layers above: matching against an accepted book whose shape is known.
 ghost use mathlib.Core.Path.{_≡_};
-ghost use Prim.Native.Nat.{_+_, _≤_};
+ghost use Prim.Native.Nat.{_+_, _≤_, _<_};
 ghost use lib.ListN.{length, getD, take, drop};
+ghost use Rattle.system.specs.Limits.{variable, variables};
 ghost use Rattle.system.specs.Signature.{signatureOf};
 ghost use Rattle.reader.specs.Book.{systemOf, Accepted};
 ghost use Rattle.matching.specs.Matching.{sameWords};
-ghost use Rattle.matching.specs.Bindings.{consumed, matchOf};
+ghost use Rattle.matching.specs.Bindings.{consumed, taken, withBinding, noMatch, matchComputed, matchOf};
+ghost use Rattle.matching.specs.rules.Searches.{stretches, Within};
 use crate::FirstRule;
 use crate::Match;
 use crate::operators::computed;
@@ -71,24 +73,78 @@ fn word_of(ws: &[u16], i: usize) -> u16
     ws[i]
 }
 
+// How many words of ws word l of a left side takes, from word q on; 0, and no binding, where the words are unequal. A variable that has no
+// stretch yet has this one then. One that has takes the same words again (02, F-7).
+fn bind(
+    book: &[u16],
+    ws: &[u16],
+    starts: &mut [usize],
+    lengths: &mut [usize],
+    l: u16,
+    q: usize,
+) -> usize
+    requires { ⌜ (q ≤ length (now ws)) × (l < variable + variables) × Within (now ws) (now starts) (now lengths) ⌝ }
+    ensures taken { λ r. ⌜ r ≡ taken (signatureOf (now (book .entry))) (now (ws .entry)) l q
+        (stretches (now (starts .entry)) (now (lengths .entry))) ⌝ }
+    ensures bound { λ r. ⌜ ((r ≡ 0 → ⊥) → stretches (now (starts .exit)) (now (lengths .exit)) ≡
+        withBinding l q r (stretches (now (starts .entry)) (now (lengths .entry)))) ⌝ }
+    ensures unbound { λ r. ⌜ (r ≡ 0 → (now (starts .exit) ≡ now (starts .entry)) × (now (lengths .exit) ≡ now (lengths .entry))) ⌝ }
+{
+    let n = consumed(book, l, &ws[q..]);
+    let w = wide(l);
+    if w < VARIABLE {
+        return n;
+    }
+    if n == 0 {
+        return 0;
+    }
+    let v = w - VARIABLE;
+    let p = starts[v];
+    let m = lengths[v];
+    if m == 0 {
+        starts[v] = q;
+        lengths[v] = n;
+        return n;
+    }
+    if !same_parts(ws, p, m, q, n) {
+        return 0;
+    }
+    n
+}
+
+// No rule matches.
+pub fn no_match() -> Match
+    ensures { λ r. ⌜ r ≡ noMatch ⌝ }
+{
+    Match {
+        rule: FirstRule::Nothing,
+        starts: [0; VARIABLES],
+        lengths: [0; VARIABLES],
+    }
+}
+
+// The built-in rule that matches.
+fn computed_match(ws: &[u16]) -> Match
+    ensures { λ r. ⌜ r ≡ matchComputed (now (ws .entry)) ⌝ }
+{
+    Match {
+        rule: computed(word_of(ws, 0), word_of(ws, 1), word_of(ws, 2)),
+        starts: [0; VARIABLES],
+        lengths: [0; VARIABLES],
+    }
+}
+
 // The first rule that matches the subterm at the front of ws; what follows the subterm does not count. A listed left side starts below the
 // literals, a built-in one above them, so that one look at the first word tells which rules there may be. Most listed rules start with
-// another symbol: they are given up before the stretches are cleared. A variable that the left side repeats has its first stretch, and fits if
-// the others have the same words (02, F-7).
+// another symbol: they are given up before the stretches are cleared.
 pub fn first_rule(book: &[u16], shape: Shape, ws: &[u16]) -> Match
     requires { ⌜ Accepted (now book) shape ⌝ }
     ensures { λ r. ⌜ r ≡ matchOf (systemOf (now (book .entry))) (now (ws .entry)) ⌝ }
 {
     if LITERAL <= wide(word_of(ws, 0)) {
-        return Match {
-            rule: computed(word_of(ws, 0), word_of(ws, 1), word_of(ws, 2)),
-            starts: [0; VARIABLES],
-            lengths: [0; VARIABLES],
-        };
+        return computed_match(ws);
     }
-    let mut found = FirstRule::Nothing;
-    let mut starts = [0usize; VARIABLES];
-    let mut lengths = [0usize; VARIABLES];
+    let mut found = no_match();
     let mut k = 0;
     let mut at = shape.first_rule;
     'rules: while k < shape.rules {
@@ -106,38 +162,23 @@ pub fn first_rule(book: &[u16], shape: Shape, ws: &[u16]) -> Match
         let mut j = 0;
         let mut q = 0;
         'words: while j < width {
-            let w = book[lhs + j];
-            let n = consumed(book, w, &ws[q..]);
+            let n = bind(book, ws, &mut s, &mut l, book[lhs + j], q);
             if n == 0 {
                 continue 'rules;
-            }
-            let v = wide(w);
-            if VARIABLE <= v {
-                let x = v - VARIABLE;
-                let p = s[x];
-                let m = l[x];
-                if m == 0 {
-                    s[x] = q;
-                    l[x] = n;
-                } else if !same_parts(ws, p, m, q, n) {
-                    continue 'rules;
-                }
             }
             q += n;
             j += 1;
         }
-        found = FirstRule::First {
-            number: this,
-            rhs: r.rhs,
-            size: r.size,
+        found = Match {
+            rule: FirstRule::First {
+                number: this,
+                rhs: r.rhs,
+                size: r.size,
+            },
+            starts: s,
+            lengths: l,
         };
-        starts = s;
-        lengths = l;
         break 'rules;
     }
-    Match {
-        rule: found,
-        starts: starts,
-        lengths: lengths,
-    }
+    found
 }

@@ -1,34 +1,29 @@
 -- The search for the first rule that matches: what its two loops keep, and each way out of a turn.
-use Prim.Native.Nat.{ℕ, _+_, _-_, _≤_, _<_}
+use Prim.Native.Nat.{ℕ, _+_, _≤_, _<_}
 use native.Mathlib.Omega.{arith}
 use mathlib.Core.Path.{_≡_, refl, sym, ap, _∙_, subst}
-use mathlib.Core.Bool.{true, false}
 use mathlib.Core.Option.{none, some}
 use mathlib.Core.List.{List}
-use lib.ListN.{length, getD, take, drop, set, length-drop}
+use lib.ListN.{length, getD, drop, length-drop}
 use Rattle.reader.specs.declared.Shape.{Shape}
-use Rattle.system.specs.Limits.{variable}
 use Rattle.system.specs.System.{Rule, rule}
 use Rattle.system.specs.Signature.{signatureOf}
-use Rattle.matching.specs.declared.FirstRule.{FirstRule}
-use Rattle.matching.specs.declared.FirstRule.the-variants.{Nothing, First}
+use Rattle.matching.specs.declared.Match.{Match}
+use Rattle.matching.specs.declared.FirstRule.the-variants.{First}
 use Rattle.layout.specs.declared.rules.RuleSpan.{RuleSpan}
 use Rattle.reader.specs.Book.{systemOf, Accepted}
-use Rattle.matching.specs.Matching.{sameWords}
-use Rattle.matching.specs.Bindings.{Bindings, noBindings, consumed, value, taken, withBinding, bindings, matchFrom, matchListed}
-use Rattle.matching.specs.rules.Searches.{Within}
+use Rattle.matching.specs.Bindings.{Bindings, noBindings, consumed, taken, withBinding, bindings, noMatch, matchFrom, matchListed}
+use Rattle.matching.specs.rules.Searches.{stretches, Within}
 use Rattle.layout.proofs.Books.{Rest, Here, Turn, signature, rule-count, first-index, first-rest}
 use Rattle.matching.proofs.Stretches.{within-none}
-use Rattle.matching.proofs.rules.MatchSteps.{consumed-le, withBinding-symbol, withBinding-old, withBinding-new, within-binding}
-use Rattle.matching.proofs.rules.MatchSteps.{taken-symbol, taken-new, taken-again, taken-unlike, taken-some, taken-none, taken-first}
+use Rattle.matching.proofs.rules.MatchSteps.{consumed-le, within-binding}
+use Rattle.matching.proofs.rules.MatchSteps.{taken-some, taken-first}
 use Rattle.matching.proofs.rules.MatchSteps.{words-end, words-stop, words-next, rules-end, rules-next, rules-here}
 
 -- no rule before number k matched
-pub record Searched (b : List ℕ) (sh : Shape) (ws : List ℕ) (found : FirstRule) (starts lengths : List ℕ) (k at : ℕ) : Type 0 where
+pub record Searched (b : List ℕ) (sh : Shape) (ws : List ℕ) (found : Match) (k at : ℕ) : Type 0 where
   pub inside : k ≤ sh .rules
-  pub none-found : found ≡ Nothing
-  pub no-starts : starts ≡ noBindings .starts
-  pub no-lengths : lengths ≡ noBindings .lengths
+  pub none-found : found ≡ noMatch
   pub rest : Rest b k at
   pub goes : matchFrom (signatureOf b) (drop k (systemOf b .rules)) k at ws ≡ matchListed (systemOf b) ws
 
@@ -46,14 +41,12 @@ module _ {b : List ℕ} {sh : Shape} (acc : Accepted b sh) where
   unfolding matchListed
   match-start ws = rw (first-index b sh acc, ← signature b sh acc)
 
-  pub search-starts : (ws : List ℕ) → Searched b sh ws Nothing (noBindings .starts) (noBindings .lengths) 0 (sh .«first_rule»)
-  search-starts ws = record { inside = omega arith; none-found = refl; no-starts = refl; no-lengths = refl; rest = first-rest b sh acc; goes = match-start ws }
+  pub search-starts : (ws : List ℕ) {found : Match} → found ≡ noMatch → Searched b sh ws found 0 (sh .«first_rule»)
+  search-starts ws e = record { inside = omega arith; none-found = e; rest = first-rest b sh acc; goes = match-start ws }
 
-  pub search-ends : {ws : List ℕ} {found : FirstRule} {starts lengths : List ℕ} {k at : ℕ} → Searched b sh ws found starts lengths k at → sh .rules ≤ k →
-      record { rule = found; starts = starts; lengths = lengths } ≡ matchListed (systemOf b) ws
+  pub search-ends : {ws : List ℕ} {found : Match} {k at : ℕ} → Searched b sh ws found k at → sh .rules ≤ k → found ≡ matchListed (systemOf b) ws
   search-ends {ws} {k} {at} so h =
-      rw (so .none-found, so .no-starts, so .no-lengths)
-      (sym (rules-end (signatureOf b) (systemOf b .rules) k at ws (omega (arith, rule-count b sh acc))) ∙ so .goes)
+      so .none-found ∙ sym (rules-end (signatureOf b) (systemOf b .rules) k at ws (omega (arith, rule-count b sh acc))) ∙ so .goes
 
 module _ {b : List ℕ} {sh : Shape} {k at : ℕ} {p : RuleSpan} (t : Turn b sh k at p) where
   abbrev h : Here b k at p
@@ -69,7 +62,7 @@ module _ {b : List ℕ} {sh : Shape} {k at : ℕ} {p : RuleSpan} (t : Turn b sh 
 
   module _ {ws : List ℕ} {j q : ℕ} {s l : List ℕ} (wo : Walked b ws k (p .width) j q s l) where
     abbrev y : Bindings
-    y = record { starts = s; lengths = l }
+    y = stretches s l
 
     -- the word of this turn
     abbrev w : ℕ
@@ -103,66 +96,20 @@ module _ {b : List ℕ} {sh : Shape} {k at : ℕ} {p : RuleSpan} (t : Turn b sh 
               ∙ sym (words-next (signatureOf b) ws (r .lhs) j q y (omega (arith, h .width)) w (h .word j here) n takes (omega arith)) ∙ wo .goes;
         }
 
-      -- what the word takes by itself
-      module _ {n : ℕ} (takes : n ≡ consumed (signatureOf b) w (drop q ws)) where
-        pub word-unequal : n ≡ 0 → bindings (signatureOf b) ws (r .lhs) 0 noBindings ≡ none
-        word-unequal z = walk-stops (taken-none (signatureOf b) ws w q y (sym takes ∙ z))
-
-        pub word-fits : q + n ≤ length ws
-        word-fits =
-            let i = wo .within in
-            let m = consumed-le (signatureOf b) w (drop q ws) in
-            let k = length-drop q ws in
-            omega arith
-
-        module _ {v : ℕ} (is : v ≡ w) where
-          pub symbol-matched : (n ≡ 0 → ⊥) → v < variable → Walked b ws k (p .width) (j + 1) (q + n) s l
-          symbol-matched much low =
-              let low′ : w < variable = omega arith in
-              walk-goes (takes ∙ sym (taken-symbol (signatureOf b) ws w q y low′)) much (withBinding-symbol w y q n low′)
-
-          -- a variable that has no stretch yet
-          module _ (high : variable ≤ v) where
-            number : v - variable ≡ w - variable
-            number = omega arith
-
-            pub variable-new : (n ≡ 0 → ⊥) → getD l (v - variable) 0 ≡ 0 → Walked b ws k (p .width) (j + 1) (q + n) (set s (v - variable) q) (set l (v - variable) n)
-            variable-new much new =
-                let new′ : getD l (w - variable) 0 ≡ 0 = rw number at new in
-                walk-goes (takes ∙ sym (taken-new (signatureOf b) ws w q y new′)) much
-                (withBinding-new w y q n (omega arith) new′ ∙ (λ i. record { starts = set s (sym number i) q; lengths = set l (sym number i) n }))
-
-            -- one that has a stretch, of the same words or of others
-            module _ (old : 0 < getD l (v - variable) 0) where
-              old′ : 0 < getD l (w - variable) 0
-              old′ = rw number at old
-
-              alike : sameWords (value ws y (v - variable)) (take n (drop q ws)) ≡ sameWords (value ws y (w - variable)) (take (consumed (signatureOf b) w (drop q ws)) (drop q ws))
-              alike = ap (λ u. sameWords (value ws y u) (take n (drop q ws))) number ∙ ap (λ m. sameWords (value ws y (w - variable)) (take m (drop q ws))) takes
-
-              pub variable-again : (n ≡ 0 → ⊥) → sameWords (value ws y (v - variable)) (take n (drop q ws)) ≡ true → Walked b ws k (p .width) (j + 1) (q + n) s l
-              variable-again much e =
-                  walk-goes (takes ∙ sym (taken-again (signatureOf b) ws w q y (omega arith) old′ (sym alike ∙ e))) much (withBinding-old w y q n (omega arith) old′)
-
-              pub variable-unlike : sameWords (value ws y (v - variable)) (take n (drop q ws)) ≡ false → bindings (signatureOf b) ws (r .lhs) 0 noBindings ≡ none
-              variable-unlike e = walk-stops (taken-unlike (signatureOf b) ws w q y (omega arith) old′ (sym alike ∙ e))
-
   -- ---- the rules
 
-  module _ {ws : List ℕ} {found : FirstRule} {starts lengths : List ℕ} (so : Searched b sh ws found starts lengths k at) where
+  module _ {ws : List ℕ} {found : Match} (so : Searched b sh ws found k at) where
     -- the rule was given up
-    pub given-up : bindings (signatureOf b) ws (r .lhs) 0 noBindings ≡ none → Searched b sh ws found starts lengths (k + 1) (p .next)
+    pub given-up : bindings (signatureOf b) ws (r .lhs) 0 noBindings ≡ none → Searched b sh ws found (k + 1) (p .next)
     given-up e = record {
       inside = (let l = t .inside in omega arith);
       none-found = so .none-found;
-      no-starts = so .no-starts;
-      no-lengths = so .no-lengths;
       rest = h .rest;
       goes = sym (rules-next (signatureOf b) (systemOf b .rules) k at ws (t .more) e (p .next) (h .next)) ∙ so .goes;
     }
 
     -- at its first word
-    pub root-differs : {n : ℕ} → n ≡ consumed (signatureOf b) (getD b (p .lhs) 0) ws → n ≡ 0 → Searched b sh ws found starts lengths (k + 1) (p .next)
+    pub root-differs : {n : ℕ} → n ≡ consumed (signatureOf b) (getD b (p .lhs) 0) ws → n ≡ 0 → Searched b sh ws found (k + 1) (p .next)
     root-differs {n} e z =
         given-up (words-stop (signatureOf b) ws (r .lhs) 0 0 noBindings (let w = h .some in omega (arith, h .width)) (getD b (p .lhs) 0) (h .head) n
         (e ∙ sym (taken-first (signatureOf b) ws (getD b (p .lhs) 0) 0)) z)

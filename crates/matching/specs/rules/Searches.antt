@@ -6,6 +6,7 @@ use mathlib.Core.Bool.{cond}
 use lib.ListN.{length, getD, take, drop}
 use lib.Dec.{ltb}
 use Rattle.system.specs.Limits.{sideWords, variable, variables}
+use Rattle.matching.specs.Bindings.{Bindings}
 
 -- told where no rule was found: the number of no rule, and no word
 abbrev pub unnumbered : ℕ
@@ -28,7 +29,11 @@ pub record RightSideAt (book : List ℕ) (rhs size : ℕ) : Type 0 where
   pub fits : rhs + size ≤ length book
   pub right : NumberedSide (take size (drop rhs book))
 
--- the stretches lie in ws
+-- the stretches of the variables, by where they start and how many words they have
+abbrev pub stretches : List ℕ → List ℕ → Bindings
+stretches starts lengths = record { starts = starts; lengths = lengths }
+
+-- they lie in ws
 pub record Within (ws starts lengths : List ℕ) : Type 0 where
   pub size-starts : length starts ≡ variables
   pub size-lengths : length lengths ≡ variables

@@ -1,37 +1,30 @@
 -- `rules::first_rule` meets its contract.
-use mathlib.Core.Path.{_≡_, sym, ap, _∙_}
-use mathlib.Core.Logic.{⊎-elim}
-use mathlib.Core.List.{[], _∷_}
-use lib.ListN.{length, getD, drop}
-use Rattle.system.specs.Limits.{variable, variables}
+use mathlib.Core.Path.{_≡_, sym, _∙_}
+use lib.ListN.{getD}
 use Rattle.system.specs.Signature.{signatureOf}
 use Rattle.reader.specs.Book.{systemOf}
-use Rattle.matching.proofs.Computed.{computed-words}
-use Rattle.matching.proofs.Sources.{match-low, match-words}
-use Rattle.system.proofs.words.SpanSteps.{tail}
-use Rattle.matching.proofs.rules.Searches.{Searched, Walked, search-starts, search-ends, given-up, root-differs, walk-starts, matches-here}
-use Rattle.matching.proofs.rules.Searches.{word-unequal, word-fits, symbol-matched, variable-new, variable-again, variable-unlike}
+use Rattle.matching.proofs.Sources.{match-low, match-high}
+use Rattle.matching.proofs.rules.Searches.{Searched, Walked, search-starts, search-ends, given-up, root-differs, walk-starts, walk-stops, walk-fits, walk-goes, matches-here}
 use Rattle.layout.proofs.Books.{Turn, room, turn-of}
 use native.Mathlib.Omega.{arith}
-use Prim.Native.Nat.{_+_, _-_, _≤_, _<_}
-use Rattle.matching.specs.Matching.{computed}
-use Rattle.matching.specs.Bindings.{Bindings, noBindings, consumed, value, computedRule, matchListed, matchOf}
-use borrow.Author.Tests.{not-true, not-false}
+use Prim.Native.Nat.{_+_, _-_}
+use Rattle.matching.specs.Bindings.{noBindings, taken, matchListed, matchOf}
+use Rattle.matching.specs.rules.Searches.{stretches}
 use borrow.Author.Needs.{needs}
 use Rattle.matching.proofs.rules.first_rule.Statement.{statement}
 use Rattle.matching.proofs.rules.first_rule.Tie as tie
 
 abbrev Inv-words : tie.InvT-words
-Inv-words book shape ws found starts lengths k at this r lhs width s₀ l₀ j₀ q₀ s l j q = Walked book ws this width j q s l
+Inv-words book shape ws found k at this r lhs width s₀ l₀ j₀ q₀ s l j q = Walked book ws this width j q s l
 
 abbrev μ-words : tie.MeasureT-words
-μ-words book shape ws found starts lengths k at this r lhs width s₀ l₀ j₀ q₀ s l j q = width - j
+μ-words book shape ws found k at this r lhs width s₀ l₀ j₀ q₀ s l j q = width - j
 
 abbrev Inv-rules : tie.InvT-rules
-Inv-rules book shape ws found₀ starts₀ lengths₀ k₀ at₀ found starts lengths k at = Searched book shape ws found starts lengths k at
+Inv-rules book shape ws found₀ k₀ at₀ found k at = Searched book shape ws found k at
 
 abbrev μ-rules : tie.MeasureT-rules
-μ-rules book shape ws found₀ starts₀ lengths₀ k₀ at₀ found starts lengths k at = shape .rules - k
+μ-rules book shape ws found₀ k₀ at₀ found k at = shape .rules - k
 
 -- ---- the places of the code that are behind others: the entry, the head of the rules' loop, the rule read, the word met
 
@@ -39,7 +32,7 @@ abbrev start : tie.After-wide Inv-words μ-words Inv-rules μ-rules → tie.Star
 start c = c .before .before .before .before
 
 abbrev entry : tie.At-rules Inv-words μ-words Inv-rules μ-rules → tie.Start Inv-words μ-words Inv-rules μ-rules
-entry c = start (c .before .before)
+entry c = start (c .before .before .before)
 
 abbrev head : tie.After-rule-at Inv-words μ-words Inv-rules μ-rules → tie.At-rules Inv-words μ-words Inv-rules μ-rules
 head c = c .before .before .before
@@ -47,8 +40,8 @@ head c = c .before .before .before
 abbrev read : tie.At-words Inv-words μ-words Inv-rules μ-rules → tie.After-rule-at Inv-words μ-words Inv-rules μ-rules
 read c = c .before .before .before .before
 
-abbrev met : tie.After-consumed2 Inv-words μ-words Inv-rules μ-rules → tie.In-words Inv-words μ-words Inv-rules μ-rules
-met c = c .before .before .before
+abbrev met : tie.After-bind Inv-words μ-words Inv-rules μ-rules → tie.In-words Inv-words μ-words Inv-rules μ-rules
+met c = c .before .before .before .before
 
 -- the rule of this turn
 turn : (c : tie.After-rule-at Inv-words μ-words Inv-rules μ-rules) →
@@ -64,42 +57,32 @@ first c = c .wide .ensures .0 ∙ c .before .word-of .ensures
 all-listed : (c : tie.At-rules Inv-words μ-words Inv-rules μ-rules) →
     let a = entry c .args in matchListed (systemOf (a .book .now)) (a .ws .now) ≡ matchOf (systemOf (a .book .now)) (a .ws .now)
 all-listed c =
-    let e = c .before in
+    let e = c .before .before in
     let a = entry c .args in
     let is = first (e .before) in
     match-low (a .book .now) (a .shape) (entry c .pre) (a .ws .now) (let l = e .if1 .left in omega arith)
 
--- the first three words tell which built-in rule there is
-three : (c : tie.After-computed Inv-words μ-words Inv-rules μ-rules) → c .computed .result ≡ computedRule (computed (start (c .before .before .before .before .before) .args .ws .now))
-three c =
-    let w = c .before in
-    let ws = start (w .before .before .before .before) .args .ws .now in
-    c .computed .ensures
-    ∙ ap computedRule
-    ((λ i. computed (w .before .before .word-of2 .ensures i ∷ w .before .word-of3 .ensures i ∷ w .word-of4 .ensures i ∷ [])) ∙ sym (computed-words ws))
-
 -- what the word of this turn takes
-took : (c : tie.After-consumed2 Inv-words μ-words Inv-rules μ-rules) →
+took : (c : tie.After-bind Inv-words μ-words Inv-rules μ-rules) →
     let m = met c in
+    let w = m .before .words in
     let r = read (m .before) in
     let a = entry (head r) .args in
-    c .consumed2 .result ≡ consumed (signatureOf (a .book .now)) (getD (a .book .now) (r .rule-at .result .lhs + m .before .words .j) 0) (drop (m .before .words .q) (a .ws .now))
-took c = rw (tail (entry (head (read (met c .before))) .args .ws .now) (met c .before .words .q)) at (c .consumed2 .ensures .0)
+    c .bind .result ≡ taken (signatureOf (a .book .now)) (a .ws .now) (getD (a .book .now) (r .rule-at .result .lhs + w .j) 0) (w .q) (stretches (w .s) (w .l))
+took c = c .bind .ensures .0
 
 -- ---- the needs
 
 returns : tie.Need-returns Inv-words μ-words Inv-rules μ-rules
-unfolding noBindings
 returns c =
-    let t = c .before .before .before .before in
+    let t = c .before in
     let s = start (t .before) in
     let a = s .args in
     let is = first (t .before) in
-    match-words (a .book .now) (a .shape) (s .pre) (a .ws .now) (three c) (let h = t .if1 .taken in omega arith)
+    c .computed-match .ensures ∙ match-high (a .book .now) (a .shape) (s .pre) (a .ws .now) (let h = t .if1 .taken in omega arith)
 
 rules-holds : tie.Need-rules-holds Inv-words μ-words Inv-rules μ-rules
-unfolding noBindings
-rules-holds c = let s = start (c .before) in search-starts (s .pre) (s .args .ws .now)
+rules-holds c = let s = start (c .before .before) in search-starts (s .pre) (s .args .ws .now) (c .no-match .ensures)
 
 rule-at-requires : tie.Need-rule-at-requires Inv-words μ-words Inv-rules μ-rules
 rule-at-requires c κs = let h = c .before .before in room (entry h .pre) (c .if2 .taken) (h .rules .inv .rest)
@@ -117,85 +100,50 @@ words-holds : tie.Need-words-holds Inv-words μ-words Inv-rules μ-rules
 unfolding noBindings
 words-holds c = let r = c .before .before .before in walk-starts (turn r) (entry (head r) .args .ws .now)
 
-add-w : tie.Need-add-w Inv-words μ-words Inv-rules μ-rules
-add-w c = let w = turn (read (c .before)) .here in omega arith
+-- both arrays are lent whole
+slice-aggregate-bind : tie.Need-slice-aggregate-bind Inv-words μ-words Inv-rules μ-rules
+slice-aggregate-bind c = sym (c .before .before .words .inv .lies .size-starts)
 
-mul-w : tie.Need-mul-w Inv-words μ-words Inv-rules μ-rules
-mul-w c = let w = turn (read (c .before)) .here in omega arith
+slice-aggregate-bind-2 : tie.Need-slice-aggregate-bind-2 Inv-words μ-words Inv-rules μ-rules
+slice-aggregate-bind-2 c = sym (c .before .before .before .words .inv .lies .size-lengths)
 
-shared-slice-read-w : tie.Need-shared-slice-read-w Inv-words μ-words Inv-rules μ-rules
-shared-slice-read-w c = let w = turn (read (c .before .before)) .here in omega arith
+add-bind : tie.Need-add-bind Inv-words μ-words Inv-rules μ-rules
+add-bind c = let w = turn (read (c .before .before .before)) .here in omega arith
+
+mul-bind : tie.Need-mul-bind Inv-words μ-words Inv-rules μ-rules
+mul-bind c = let w = turn (read (c .before .before .before)) .here in omega arith
+
+shared-slice-read-bind : tie.Need-shared-slice-read-bind Inv-words μ-words Inv-rules μ-rules
+shared-slice-read-bind c = let w = turn (read (c .before .before .before .before)) .here in omega arith
+
+bind-requires : tie.Need-bind-requires Inv-words μ-words Inv-rules μ-rules
+bind-requires c κs =
+    let m = c .before .before .before in
+    let o = m .before .words .inv in
+    (o .within, turn (read (m .before)) .here .low (m .before .words .j) (m .words-test .taken), o .lies)
 
 rules-again-2 : tie.Need-rules-again-2 Inv-words μ-words Inv-rules μ-rules
 rules-again-2 c =
-    let m = met (c .before) in
-    let r = read (m .before) in
-    given-up (turn r) (head r .rules .inv) (word-unequal (turn r) (m .before .words .inv) (m .words-test .taken) (took (c .before)) (c .if4 .taken))
-
--- a variable: its number, and that its stretch and the words that it meets are words of ws
-few : (c : tie.After-wide2 Inv-words μ-words Inv-rules μ-rules) → c .wide2 .result - variable < variables
-few c =
-    let m = met (c .before .before) in
-    let v = c .wide2 .ensures .0 in
-    let w = turn (read (m .before)) .here in omega (arith, w .low (m .before .words .j) (m .words-test .taken))
-
-abbrev stretches : (c : tie.After-wide2 Inv-words μ-words Inv-rules μ-rules) → Bindings
-stretches c = let l = met (c .before .before) .before .words in record { starts = l .s; lengths = l .l }
-
-stretch : (c : tie.After-wide2 Inv-words μ-words Inv-rules μ-rules) →
-    let a = stretches c in
-    let x = c .wide2 .result - variable in
-    getD (a .starts) x 0 + getD (a .lengths) x 0 ≤ length (entry (head (read (met (c .before .before) .before))) .args .ws .now)
-stretch c = met (c .before .before) .before .words .inv .lies .inside (c .wide2 .result - variable)
-
-fits : (c : tie.After-consumed2 Inv-words μ-words Inv-rules μ-rules) →
-    let l = met c .before in l .words .q + c .consumed2 .result ≤ length (entry (head (read l)) .args .ws .now)
-fits c = let m = met c in word-fits (turn (read (m .before))) (m .before .words .inv) (m .words-test .taken) (took c)
-
-array-read-p : tie.Need-array-read-p Inv-words μ-words Inv-rules μ-rules
-array-read-p c = few (c .before)
-
-array-read-m : tie.Need-array-read-m Inv-words μ-words Inv-rules μ-rules
-array-read-m c = few (c .before)
-
-array-write-s : tie.Need-array-write-s Inv-words μ-words Inv-rules μ-rules
-array-write-s c = few (c .before .before)
-
-array-write-l : tie.Need-array-write-l Inv-words μ-words Inv-rules μ-rules
-array-write-l c = few (c .before .before)
-
-same-parts-requires : tie.Need-same-parts-requires Inv-words μ-words Inv-rules μ-rules
-same-parts-requires c κs = let v = c .before .before in (stretch v, fits (v .before .before))
-
-rules-again-3 : tie.Need-rules-again-3 Inv-words μ-words Inv-rules μ-rules
-rules-again-3 c =
-    let e = c .before .before in
-    let v = e .before .before in
-    let k = v .before .before in
+    let k = c .before .before .before in
     let m = met k in
     let r = read (m .before) in
-    given-up (turn r) (head r .rules .inv)
-    (variable-unlike (turn r) (m .before .words .inv) (m .words-test .taken) (took k) (v .wide2 .ensures .0) (e .before .if5 .taken)
-    (let z = e .if6 .left in omega arith) (unfold value in sym (c .before .same-parts .ensures) ∙ not-true _ (c .if7 .taken)))
+    given-up (turn r) (head r .rules .inv) (walk-stops (turn r) (m .before .words .inv) (m .words-test .taken) (sym (took k) ∙ c .if4 .taken))
+
+add-q : tie.Need-add-q Inv-words μ-words Inv-rules μ-rules
+add-q c =
+    let k = c .before .before .before in
+    let m = met k in
+    let r = read (m .before) in
+    let f = walk-fits (turn r) (m .before .words .inv) (m .words-test .taken) (took k) (c .if4 .left) in
+    let g = entry (head r) .good in
+    omega arith
 
 words-again : tie.Need-words-again Inv-words μ-words Inv-rules μ-rules
 words-again c =
-    let v = c .before in
-    let k = v .before .before in
+    let k = c .before .before .before in
     let m = met k in
-    let t = turn (read (m .before)) in
-    let o = m .before .words .inv in
-    let here = m .words-test .taken in
-    let is = v .wide2 .ensures .0 in
-    let much = v .before .if4 .left in
-    ⊎-elim
-    (λ e. rw (e .2, e .3) (variable-new t o here (took k) is (e .0 .taken) much (e .1 .taken)))
-    (⊎-elim
-    (λ e.
-    rw (e .4, e .5)
-    (variable-again t o here (took k) is (e .0 .taken) (let z = e .1 .left in omega arith) much (unfold value in sym (e .2 .ensures) ∙ not-false _ (e .3 .left))))
-    (λ e. rw (e .1, e .2) (symbol-matched t o here (took k) is much (e .0 .left))))
-    (c .if5 .came)
+    let much = c .if4 .left in
+    walk-goes (turn (read (m .before))) (m .before .words .inv) (m .words-test .taken) (took k) much (sym (k .bind .ensures .1 .0 much))
 
 returns-2 : tie.Need-returns-2 Inv-words μ-words Inv-rules μ-rules
 returns-2 c = let h = c .before .before in search-ends (entry h .pre) (h .rules .inv) (c .if2 .left) ∙ all-listed h
@@ -209,10 +157,7 @@ pub first-rule-spec : {M : Type 1} → statement M
 first-rule-spec =
     tie.close
     (tie.spec
-    Inv-words μ-words Inv-rules μ-rules (λ c κs. search needs) (λ c κs. search needs) (λ c κs. search needs) (λ c κs. search needs) (λ c κs. search needs)
-    (λ c κs. search needs) returns rules-holds rule-at-requires (λ c. search needs) mul-consumed shared-slice-read-consumed
-    (λ c κs. search needs) (λ c. search needs) rules-again words-holds add-w mul-w shared-slice-read-w (λ c. search needs)
-    (λ c. search needs) (λ c. search needs) (λ c. search needs) (λ c κs. search needs) (λ c. search needs) rules-again-2
-    (λ c κs. search needs) (λ c. search needs) array-read-p (λ c. search needs) array-read-m (λ c. search needs) array-write-s
-    (λ c. search needs) array-write-l same-parts-requires
-    (λ c. search needs) rules-again-3 (λ c. search needs) (λ c. search needs) (λ c. search needs) words-again returns-2 returns-3)
+    Inv-words μ-words Inv-rules μ-rules (λ c κs. search needs) (λ c κs. search needs) (λ c κs. search needs) returns (λ c κs. search needs) rules-holds
+    rule-at-requires (λ c. search needs) mul-consumed shared-slice-read-consumed (λ c κs. search needs) (λ c. search needs) rules-again words-holds
+    slice-aggregate-bind slice-aggregate-bind-2 add-bind mul-bind shared-slice-read-bind bind-requires (λ c. search needs) rules-again-2 add-q
+    (λ c. search needs) (λ c. search needs) words-again returns-2 returns-3)
