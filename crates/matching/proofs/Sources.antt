@@ -11,10 +11,10 @@ use Rattle.system.specs.BuiltIns.{literal}
 use Rattle.system.specs.System.{System, instance}
 use Rattle.system.specs.Signature.{signatureOf}
 use Rattle.reader.specs.declared.scan.Scan.{Scan}
-use Rattle.reader.specs.Parser.{Parsed, ok, fault, read}
+use Rattle.reader.specs.Parser.{ok, fault, read}
 use Rattle.reader.specs.scan.Sections.{scanOf}
 use Rattle.reader.specs.Book.{systemOf, Accepted}
-use Rattle.layout.proofs.Accepting.{scan-accepted}
+use Rattle.layout.proofs.Accepting.{scan-accepted, scan-fault}
 use Rattle.layout.proofs.Books.{well, signature, first-rest, wellFormedRules, rule-count}
 use Rattle.matching.specs.declared.Match.{Match}
 use Rattle.matching.specs.declared.FirstRule.{FirstRule}
@@ -171,11 +171,7 @@ module _ (b : List ℕ) where
 -- of a book that was scanned
 module _ (b : List ℕ) (s : Scan) (is : s ≡ scanOf (read b)) where
   pub scan-refuses : (s .answer .number ≡ 0 → ⊥) → (ws : List ℕ) → noMatch ≡ matchIn b ws
-  scan-refuses bad ws = go (read b) refl
-    where
-      go : (o : Parsed System) → read b ≡ o → noMatch ≡ matchIn b ws
-      go (ok x i) e = absurd (bad (ap (λ y. y .answer .number) (is ∙ ap scanOf e)))
-      go (fault f i) e = sym (match-refused b e ws)
+  scan-refuses bad ws = sym (match-refused b (scan-fault b s is bad .2) ws)
 
   pub scan-matches : s .answer .number ≡ 0 → (ws : List ℕ) → matchOf (systemOf b) ws ≡ matchIn b ws
   scan-matches good ws = sym (match-accepted b (scan-accepted b s is good .accepted) ws)

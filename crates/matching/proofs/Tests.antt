@@ -148,12 +148,5 @@ module _ (b : List ℕ) where
 -- ---- of a book that was scanned
 
 module _ (b : List ℕ) (s : Scan) (is : s ≡ scanOf (read b)) where
-  pub scan-refused : (s .answer .number ≡ 0 → ⊥) → s .answer ≡ testAnswer b
-  scan-refused bad = go (read b) refl
-    where
-      go : (o : Parsed System) → read b ≡ o → s .answer ≡ testAnswer b
-      go (ok x i) e = absurd (bad (ap (λ y. y .answer .number) (is ∙ ap scanOf e)))
-      go (fault f i) e = ap (λ y. y .answer) (is ∙ ap scanOf e) ∙ sym (test-refused b e)
-
   pub scan-tested : s .answer .number ≡ 0 → {r : Answer} → r ≡ safetyAnswer (firstUnsafe (systemOf b)) → r ≡ testAnswer b
   scan-tested good e = e ∙ sym (test-accepted b (scan-accepted b s is good .accepted))

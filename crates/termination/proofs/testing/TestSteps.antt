@@ -1,7 +1,7 @@
 -- The test by weights, rule by rule, in the terms of its loop; and how it ends for a book that was scanned.
 use Prim.Native.Nat.{ℕ, _+_, _-_, _≤_, _<_}
 use native.Mathlib.Omega.{arith}
-use mathlib.Core.Path.{_≡_, refl, sym, ap, _∙_}
+use mathlib.Core.Path.{_≡_, sym, ap, _∙_}
 use mathlib.Core.Bool.{Bool, true, false, cond}
 use mathlib.Core.Option.{none, some}
 use mathlib.Core.List.{List}
@@ -13,9 +13,9 @@ use Rattle.system.specs.declared.Answer.{Answer}
 use Rattle.reader.specs.declared.scan.Scan.{Scan}
 use Rattle.layout.specs.declared.rules.RuleSpan.{RuleSpan}
 use Rattle.system.specs.Signature.{Signature}
-use Rattle.system.specs.System.{System, Rule, rule}
+use Rattle.system.specs.System.{Rule, rule}
 use Rattle.system.specs.Terms.{WellFormedRule}
-use Rattle.reader.specs.Parser.{Parsed, ok, fault, read}
+use Rattle.reader.specs.Parser.{read}
 use Rattle.reader.specs.Book.{systemOf, Accepted}
 use Rattle.layout.specs.rules.Rules.{ruleSpan}
 use Rattle.reader.specs.scan.Sections.{scanOf}
@@ -27,7 +27,7 @@ use Rattle.system.proofs.FirstFailing.{sought, sought-starts, sought-ends, soug
 use Rattle.termination.specs.Weights.{Weights}
 use Rattle.termination.specs.WeightTest.{falls, weighs, inRange, firstRising, fallAnswer, misweighedAnswer, weightsAnswer}
 use Rattle.matching.specs.rules.Searches.{NumberedSide}
-use Rattle.termination.proofs.Tests.{weights-refused, weights-misweighed, weights-tested}
+use Rattle.termination.proofs.Tests.{weights-misweighed, weights-tested}
 
 -- ---- the rules, one after the other
 
@@ -134,13 +134,6 @@ module _ {b : List ℕ} {sh : Shape} (m : Weights) (acc : Accepted b sh) where
 -- ---- of a book that was scanned
 
 module _ (b : List ℕ) (m : Weights) (s : Scan) (is : s ≡ scanOf (read b)) where
-  pub scan-refused : (s .answer .number ≡ 0 → ⊥) → s .answer ≡ weightsAnswer b m
-  scan-refused bad = go (read b) refl
-    where
-      go : (o : Parsed System) → read b ≡ o → s .answer ≡ weightsAnswer b m
-      go (ok x i) e = absurd (bad (ap (λ y. y .answer .number) (is ∙ ap scanOf e)))
-      go (fault f i) e = ap (λ y. y .answer) (is ∙ ap scanOf e) ∙ sym (weights-refused b m e)
-
   module _ (good : s .answer .number ≡ 0) {x : Bool} (found : x ≡ weighs m (s .shape .symbols)) where
     accepted : Accepted b (s .shape)
     accepted = scan-accepted b s is good

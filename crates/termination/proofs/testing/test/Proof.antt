@@ -1,8 +1,9 @@
 -- `testing::test` meets its contract.
 use borrow.Author.Needs.{needs}
 use borrow.Author.Tests.{not-true, not-false}
-use Rattle.layout.proofs.Accepting.{scan-accepted}
-use Rattle.termination.proofs.testing.TestSteps.{scan-refused, scan-misweighed, scan-range, scan-tested}
+use Rattle.layout.proofs.Accepting.{scan-accepted, scan-refused}
+use Rattle.termination.proofs.Tests.{weights-refused}
+use Rattle.termination.proofs.testing.TestSteps.{scan-misweighed, scan-range, scan-tested}
 use Rattle.termination.proofs.testing.test.Statement.{statement}
 use Rattle.termination.proofs.testing.test.Tie as tie
 
@@ -19,7 +20,7 @@ accepted c = c .before .before
 returns : tie.Need-returns
 returns c =
     let s = entry (c .before) in
-    let a = s .args in scan-refused (a .book .now) (a .weights .now) (a .scan) (s .pre) (c .if1 .taken)
+    let a = s .args in scan-refused (a .book .now) (a .scan) (s .pre) (c .if1 .taken) (λ f i e. weights-refused (a .book .now) (a .weights .now) e)
 
 returns-2 : tie.Need-returns-2
 returns-2 c =
