@@ -18,7 +18,7 @@ use Rattle.rewriting.specs.Stopped.{Stopped}
 use Rattle.rewriting.proofs.Done.{theorem-path}
 use Rattle.rewriting.proofs.Stopped.{stopped-path}
 use Rattle.records.proofs.Records.{keep-cut, keep-rest}
-use Rattle.evaluation.specs.Expansion.{Expansion, result, expansionOf, expansion, checked, handedBack, recordAfter}
+use Rattle.evaluation.specs.Expansion.{Expansion, result, expansionOf, expansion, checked, recordAfter}
 use Rattle.evaluation.proofs.Expanding.{checks, checks-well, Passed, passed, evaluates, Course, narrow, wrong, runs, course, record-refused, record-told}
 use Rattle.evaluation.proofs.Handed.{limit-number, handed, handed-checks, handed-done, handed-numbers, handed-words}
 use Rattle.demands.specs.Demand1.{Early, book, term, buffers}

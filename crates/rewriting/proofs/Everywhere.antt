@@ -12,11 +12,11 @@ use Rattle.system.specs.Limits.{maxEntries}
 use Rattle.system.specs.Signature.{Signature, arity, argument}
 use Rattle.system.specs.BuiltIns.{isBinary, isUnary, builtInArity, builtInStrategy}
 use Rattle.system.specs.System.{System, strategy}
-use Rattle.system.specs.Terms.{Member, first, later, Whole, WellFormed}
+use Rattle.system.specs.Terms.{Member, first, later, WellFormed}
 use Rattle.system.proofs.Members.{member-nil, member-getD, member-front, member-back, member-snoc}
 use Rattle.rewriting.specs.Machine.{strategyAt, down, position}
 use Rattle.rewriting.specs.Opened.{Opened, base, level}
-use Rattle.rewriting.specs.Ways.{Way, top, upTo, everyArgument}
+use Rattle.rewriting.specs.Ways.{Way, upTo, everyArgument}
 use Rattle.rewriting.specs.levels.Lengths.{above}
 
 up-to-member : (n i : ℕ) → i < n → Member (suc i) (upTo n)

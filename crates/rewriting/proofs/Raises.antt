@@ -3,8 +3,8 @@ use Prim.Native.Nat.{ℕ, suc, _+_, _-_, _<_}
 use native.Mathlib.Omega.{arith}
 use mathlib.Core.Path.{_≡_, refl, sym, ap, _∙_}
 use mathlib.Core.List.{List, [], _∷_, _++_}
-use lib.ListN.{length, getD, set, take, drop, length-set, List·getD-append}
-use lib.Seq.{set-append-left, getD-set-other, take-set-lt, drop-set-lt, getD-take, lt-length-set}
+use lib.ListN.{length, getD, set, take, drop, length-set}
+use lib.Seq.{getD-set-other, take-set-lt, drop-set-lt, getD-take}
 use Rattle.rewriting.specs.Ways.{raise}
 
 module _ (d e : ℕ) where

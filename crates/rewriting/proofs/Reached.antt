@@ -1,5 +1,5 @@
 -- Where the machine comes to tells what is left to do: the induction on which its theorem (`run-evaluates`, Runs.antt) rests.
-use Prim.Native.Nat.{ℕ, zero, suc, _+_, _<_}
+use Prim.Native.Nat.{ℕ, zero, suc, _<_}
 use native.Mathlib.Omega.{arith}
 use native.Mathlib.Decide.{decLt}
 use mathlib.Core.Path.{_≡_, refl, sym, ap, _∙_, subst}

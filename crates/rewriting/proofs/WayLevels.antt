@@ -9,7 +9,7 @@ use Rattle.system.specs.System.{System}
 use Rattle.system.specs.Terms.{Member}
 use Rattle.system.proofs.Members.{member-index}
 use Rattle.rewriting.specs.Machine.{others, strategyAt, down, position}
-use Rattle.rewriting.specs.Opened.{Opened, base, level}
+use Rattle.rewriting.specs.Opened.{Opened, base}
 use Rattle.rewriting.specs.Ways.{Way, top}
 use Rattle.rewriting.specs.levels.Lengths.{above}
 use Rattle.rewriting.proofs.Laws.{position-snoc}

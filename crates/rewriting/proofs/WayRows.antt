@@ -12,7 +12,6 @@ use Rattle.system.specs.Terms.{Whole, WellFormed}
 use Rattle.system.proofs.Places.{replace-length}
 use Rattle.system.proofs.words.SpanSteps.{span-le}
 use Rattle.rewriting.specs.Machine.{position}
-use Rattle.rewriting.specs.Opened.{Opened}
 use Rattle.rewriting.specs.Ways.{raise, Way, top, down}
 use Rattle.rewriting.specs.levels.Lengths.{above}
 use Rattle.system.specs.Spans.{spans}

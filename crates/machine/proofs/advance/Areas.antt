@@ -11,7 +11,6 @@ use Rattle.system.specs.Signature.{Signature}
 use Rattle.system.specs.System.{System}
 use Rattle.rows.specs.declared.gap.Gap.{Gap}
 use Rattle.rows.specs.Rows.{countsAt, termIn}
-use Rattle.rows.specs.Measured.{Measured}
 use Rattle.rows.proofs.lengths.Measures.{measured-counts, term-counts}
 use Rattle.rewriting.specs.Machine.{position}
 use Rattle.reducts.specs.putting.Replaced.{Kept}

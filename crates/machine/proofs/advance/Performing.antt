@@ -23,7 +23,6 @@ use Rattle.rows.specs.Measured.{Measured}
 use Rattle.rewriting.specs.Machine.{strategyAt, down, position}
 use Rattle.rows.specs.declared.gap.Gap.{Gap}
 use Rattle.rows.specs.Rows.{countsAt, termIn}
-use Rattle.rows.specs.gap.Gaps.{wordsIn}
 use Rattle.machine.specs.advance.Area.{outerIn, countIn, lastWords, Stands, Valid, Positioned, Tracks}
 use Rattle.layout.specs.entries.Entries.{entryOf}
 use Rattle.machine.specs.advance.Transition as to

@@ -10,7 +10,7 @@ use lib.Dec.{ltb}
 use borrow.Author.Tests.{lt-ltb, le-ltb, ltb-true, ltb-false}
 use Rattle.system.specs.Limits.{termWords}
 use Rattle.rows.specs.Rows.{wordRow, lengthRow, Lies, Gapped, closed, termIn, lengthsIn}
-use Rattle.rows.specs.gap.Gaps.{wordsIn, slotOf, behind}
+use Rattle.rows.specs.gap.Gaps.{wordsIn, slotOf}
 use Rattle.rows.specs.declared.gap.Gap.{Gap}
 use Rattle.rows.proofs.gap.Rows.{word-row-length, length-row-length, word-row-at, length-row-at}
 

@@ -10,8 +10,7 @@ use Rattle.buffers.specs.Words.{over}
 use Rattle.buffers.specs.moves.Parts.{part}
 use Rattle.buffers.proofs.Over.{part-slice, take-over, drop-over, part-above}
 use Rattle.system.specs.Limits.{termWords}
-use Rattle.rows.specs.Rows.{countsAt, wordRow, lengthRow, closed, termIn, lengthsIn}
-use Rattle.rows.specs.declared.gap.Gap.{Gap}
+use Rattle.rows.specs.Rows.{countsAt, wordRow, lengthRow}
 
 -- ---- stores and a cut, for any list
 

@@ -1,8 +1,8 @@
 -- A run from the start of a term: what it asks for, and that it comes to what the evaluation does.
-use Prim.Native.Nat.{ℕ, zero, suc, _+_, _≤_}
+use Prim.Native.Nat.{ℕ, zero, suc, _≤_}
 use native.Mathlib.Omega.{arith}
 use mathlib.Core.Path.{_≡_, refl, sym, ap, _∙_, subst, subst₂}
-use mathlib.Core.List.{List, [], _∷_, _++_}
+use mathlib.Core.List.{List, [], _∷_}
 use lib.ListN.{length, getD, take, set, drop-of-length-le, length-take}
 use Rattle.reader.specs.declared.Shape.{Shape}
 use Rattle.system.specs.System.{System}
@@ -22,7 +22,7 @@ use Rattle.rewriting.specs.Machine.{position}
 use Rattle.rewriting.specs.Runs.{Came, ended, sunk, barred, waits, configOf, outcomeOf, run}
 use Rattle.rewriting.specs.Ways.{Way, top, everyArgument}
 use Rattle.rewriting.proofs.Runs.{run-evaluates}
-use Rattle.machine.specs.advance.Area.{baseOf, outerIn, countIn, Stands, frameWords, Tracks}
+use Rattle.machine.specs.advance.Area.{baseOf, Stands, frameWords, Tracks}
 use Rattle.machine.proofs.advance.Areas.{stands-set, held-count, holds, tracks-first}
 use Rattle.machine.proofs.advance.States.{valid-start}
 use Rattle.steps.proofs.steps.Kept.{way-none}

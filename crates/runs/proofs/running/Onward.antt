@@ -33,7 +33,7 @@ use Rattle.records.proofs.Records.{kept-next}
 use Rattle.runs.specs.declared.running.Reached.{Reached}
 use Rattle.runs.proofs.running.Running.{limits, stepsLeft, Earlier, goal, Running, positions-kept}
 use Rattle.runs.proofs.running.Rounds.{Round, Answers, there, told, formed, soFar, few, keeps, Before}
-use Rattle.runs.proofs.running.Steps.{s, b, t, level, outer, c, p, x, r, valid, place, after, next, after-is, stops, stepping}
+use Rattle.runs.proofs.running.Steps.{s, b, t, level, outer, c, p, x, r, valid, place, after, after-is, stops, stepping}
 
 -- a pair leaves the record as long as it was
 paired-length : (b : Bool) (words : List ℕ) (k at number : ℕ) → length (paired b words k at number) ≡ length words

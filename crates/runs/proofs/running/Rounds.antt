@@ -23,7 +23,7 @@ use Rattle.machine.specs.declared.advance.State.{State}
 use Rattle.machine.specs.declared.advance.Advanced.{Advanced}
 use Rattle.machine.specs.declared.advance.Stop.{Stop}
 use Rattle.machine.specs.declared.advance.Stop.the-variants.{Final, Deep, Ready}
-use Rattle.machine.specs.advance.Area.{baseOf, outerIn, countIn, lastWords, Tracks}
+use Rattle.machine.specs.advance.Area.{outerIn, countIn, lastWords, Tracks}
 use Rattle.machine.specs.advance.Arrivals.{Arrives, Advances}
 use Rattle.machine.proofs.advance.Areas.{held-outer, held-count, tracks-base, tracks-first}
 use Rattle.machine.proofs.advance.Bounds.{spot}

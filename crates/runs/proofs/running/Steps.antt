@@ -1,46 +1,32 @@
 -- A round of a run's loop in which a rewrite is next: each way out of it, and that the next round starts as this one did.
 use Prim.Native.Nat.{ℕ, zero, suc, _+_, _-_, _≤_, _<_}
 use native.Mathlib.Omega.{arith}
-use mathlib.Core.Path.{_≡_, refl, sym, ap, _∙_, subst}
-use mathlib.Core.Bool.{Bool, true, false}
+use mathlib.Core.Path.{_≡_, refl, ap, _∙_}
+use mathlib.Core.Bool.{true, false}
 use mathlib.Core.List.{List, [], _∷_, _++_}
-use lib.ListN.{length, getD, take, drop, length-set}
-use lib.Seq.{getD-drop}
+use lib.ListN.{length}
 use Rattle.system.specs.System.{System}
 use Rattle.reader.specs.Book.{systemOf}
 use Rattle.system.specs.Limits.{termWords, levels}
 use Rattle.system.specs.Numbers.{Limit, spent, overlong, full, limitNumber}
-use Rattle.system.proofs.Rules.{rule-bound}
 use Rattle.matching.specs.Matching.{Contraction}
-use Rattle.redexes.proofs.search.Found.{redex-number}
 use Rattle.rows.specs.declared.gap.Gap.{Gap}
-use Rattle.rows.specs.Rows.{countsAt, termIn}
-use Rattle.reducts.specs.declared.putting.Reduced.{Reduced}
-use Rattle.reducts.specs.putting.Replaced.{Kept}
-use Rattle.rewriting.specs.Trace.{Pair}
+use Rattle.rows.specs.Rows.{termIn}
 use Rattle.rewriting.specs.Evaluation as evaluation
 use Rattle.rewriting.specs.Evaluation.{Config, hasRoom}
 use Rattle.rewriting.specs.Machine.{position, ready}
 use Rattle.rewriting.specs.Runs.{Came, barred, waits, before, fitting, come, run}
-use Rattle.rewriting.specs.Ways.{Way, everyArgument}
-use Rattle.rewriting.proofs.Laws.{position-le}
 use Rattle.rewriting.proofs.Runs.{before-spent, before-full, before-free, fitting-long, fitting-goes, come-waits, come-steps}
-use Rattle.rewriting.proofs.Ways.{way-kept}
-use Rattle.machine.specs.declared.advance.State.{State}
-use Rattle.machine.specs.advance.Area.{baseOf, outerIn, countIn, lastWords, Stands, Valid, Tracks}
-use Rattle.machine.proofs.advance.Areas.{held-outer, held-count, holds, tracks-base, tracks-kept}
+use Rattle.machine.specs.advance.Area.{outerIn, countIn, Valid}
+use Rattle.machine.proofs.advance.Areas.{holds}
 use Rattle.machine.proofs.advance.Bounds.{spot}
-use Rattle.machine.proofs.advance.States.{valid-fire, valid-first, valid-within}
-use Rattle.steps.specs.steps.Raised.{wayIn}
-use Rattle.steps.specs.steps.Stepped.{here, subtermHere, stepped, Stepped, done, long, Steps}
-use Rattle.steps.proofs.steps.Kept.{way-same}
-use Rattle.records.specs.recording.Kept.{met, paired}
-use Rattle.records.proofs.Records.{kept-next}
+use Rattle.steps.specs.steps.Stepped.{here, stepped}
+use Rattle.records.specs.recording.Kept.{met}
 use Rattle.records.proofs.Limiting.{Meets, spends, fills, leaves, meets}
 use Rattle.runs.specs.declared.running.Reached.{Reached}
 use Rattle.runs.specs.running.Reaches.{Holds}
-use Rattle.runs.proofs.running.Running.{Asked, base, limits, stepsLeft, Earlier, goal, SoFar, Running, positions-kept}
-use Rattle.runs.proofs.running.Rounds.{Round, Answers, there, told, formed, left, soFar, Keeps, few, keeps, To, answers, Before}
+use Rattle.runs.proofs.running.Running.{base, limits, stepsLeft, Earlier, goal}
+use Rattle.runs.proofs.running.Rounds.{Round, Answers, there, told, left, soFar, Keeps, answers, Before}
 
 module _ (k : Round) (y : Before k) where
   abbrev pub s : System

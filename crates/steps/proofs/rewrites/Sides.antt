@@ -14,7 +14,6 @@ use Rattle.layout.specs.declared.rules.RuleSpan.{RuleSpan}
 use Rattle.system.proofs.Members.{member-front, member-back, member-getD}
 use Rattle.layout.proofs.Books.{SidesAt}
 use Rattle.rows.specs.declared.gap.Gap.{Gap}
-use Rattle.rows.specs.Rows.{termIn}
 use Rattle.redexes.specs.declared.search.Redex.{Redex}
 use Rattle.matching.specs.declared.FirstRule.the-variants.{First}
 use Rattle.matching.specs.rules.Searches.{reductLength}

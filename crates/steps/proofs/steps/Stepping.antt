@@ -21,7 +21,7 @@ use Rattle.redexes.specs.declared.search.Redex.{Redex}
 use Rattle.matching.specs.Matching.{Contraction}
 use Rattle.reducts.specs.declared.putting.Reduced.{Reduced}
 use Rattle.reducts.specs.declared.putting.Subterm.{Subterm}
-use Rattle.reducts.specs.putting.Replaced.{Done, TooLong, Placed, Kept}
+use Rattle.reducts.specs.putting.Replaced.{TooLong, Placed, Kept}
 use Rattle.rewriting.specs.Ways.{Way, everyArgument}
 use Rattle.rewriting.specs.levels.Lengths.{above}
 use Rattle.rewriting.proofs.Aboves.{above-position, above-length}

@@ -2,7 +2,7 @@
 -- steps were taken before; the measure is the steps that are left.
 use Prim.Native.Nat.{_-_}
 use native.Mathlib.Omega.{arith}
-use mathlib.Core.Path.{_≡_, refl, sym, ap, _∙_, subst}
+use mathlib.Core.Path.{_≡_, sym, ap, _∙_, subst}
 use lib.ListN.{length}
 use borrow.Author.Needs.{needs}
 use Rattle.reader.specs.Book.{systemOf}
@@ -10,7 +10,7 @@ use Rattle.machine.specs.advance.Arrivals.{Advances}
 use Rattle.machine.proofs.advance.Areas.{tracks-base, tracks-first}
 use Rattle.records.specs.recording.Kept.{limitsOf, met, paired}
 use Rattle.records.proofs.Limiting.{pair-fits}
-use Rattle.runs.proofs.running.Running.{Asked, limits, Running, running-start}
+use Rattle.runs.proofs.running.Running.{limits, Running, running-start}
 use Rattle.runs.proofs.running.Rounds.{Round, ends-final, ends-deep, Before, comes-before}
 use Rattle.runs.proofs.running.Steps.{before-room, stops-met, room-left, waits-there, long-there}
 use Rattle.runs.proofs.running.Onward.{Goes, goes, number-fits}
