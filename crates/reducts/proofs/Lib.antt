@@ -1,4 +1,6 @@
 -- Lists that end alike
 pub mod Ends
+-- Words written over a list
+pub mod Overs
 -- What the words of the bindings tell
 pub mod Bindings

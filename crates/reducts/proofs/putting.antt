@@ -6,7 +6,8 @@ pub mod Counted
 pub mod Standing
 -- What the variables stand for, as it is read there
 pub mod Sources
--- So the reduct may be written
+-- So the reduct may be written: in one pass, or row by row
 pub mod Writables
+pub mod Crowds
 -- And then the term stands there in which it is put
 pub mod Puts

@@ -1,55 +1,33 @@
 // A reduct written in the rows.
 ghost use mathlib.Core.Path.{_≡_};
 ghost use Prim.Native.Nat.{_≤_};
-ghost use Rattle.buffers.specs.moves.Parts.{part};
-ghost use Rattle.system.specs.Limits.{maxWord};
 ghost use Rattle.system.specs.Signature.{signatureOf};
 ghost use Rattle.rows.specs.lengths.Written.{Written};
 ghost use Rattle.reducts.specs.sides.Sides.{stretchesIn};
-ghost use Rattle.reducts.specs.writing.Reduct.{stretchAt, Stretchable, Writable, reduct};
+ghost use Rattle.reducts.specs.writing.Reduct.{stretchAt, Writable, reduct};
 use rows::lengths::copy;
 use rows::lengths::push;
-use rows::lengths::push_all;
 use system::limits::VARIABLE;
 use system::limits::VARIABLES;
 use system::words::wide;
 
-// Where the words of the redex stand in the area: those before word `end` from `base` on; word i from there on at `later` and i. They are
-// crowded if the reduct has no room beside them: then the first ones stand behind the counts, without their lengths.
+// Where the words of the redex stand in the area, or their lengths: those before word `end` from `base` on; that of word i from there on at `later`
+// and i.
 pub struct Source {
     pub base: usize,
     pub end: usize,
     pub later: usize,
-    pub crowded: bool,
 }
 
 // Where word i of the redex stands in the area.
-fn stretch_at(source: Source, i: usize) -> usize
-    requires { ⌜ (source .base ≤ maxWord) × (source .later ≤ maxWord) × (i ≤ maxWord) ⌝ }
+pub fn stretch_at(source: Source, i: usize) -> usize
+    requires { ⌜ (source .base ≤ 65535) × (source .later ≤ 65535) × (i ≤ 65535) ⌝ }
     ensures { λ r. ⌜ r ≡ stretchAt source i ⌝ }
 {
     if i < source.end {
         return source.base + i;
     }
     source.later + i
-}
-
-// Puts n words from `from` on before those from `back` on, with their lengths: copied, or measured anew where they stand alone.
-fn put_stretch(
-    book: &[u16],
-    area: &mut [u16],
-    back: usize,
-    from: usize,
-    n: usize,
-    crowded: bool,
-) -> usize
-    requires { ⌜ Stretchable (signatureOf (now book)) (now area) back from n crowded ⌝ }
-    ensures { λ r. ⌜ Written (signatureOf (now (book .entry))) (now (area .entry)) back (now (area .exit)) r (part from n (now (area .entry))) ⌝ }
-{
-    if crowded {
-        return push_all(book, area, back, from, n);
-    }
-    copy(area, back, from, n)
 }
 
 // Writes the reduct before the words from `back` on: the words of the side, each variable filled with its stretch. That of variable v starts at
@@ -66,7 +44,6 @@ pub fn write_reduct(
     ensures { λ r. ⌜ Written (signatureOf (now (book .entry))) (now (area .entry)) back (now (area .exit)) r
         (reduct (now (side .entry)) (stretchesIn (now (bindings .entry))) source (now (area .entry))) ⌝ }
 {
-    let crowded = source.crowded;
     let mut to = back;
     let mut j = side.len();
     while 0 < j {
@@ -78,7 +55,7 @@ pub fn write_reduct(
         } else {
             let from = stretch_at(source, wide(bindings[v - VARIABLE]));
             let n = wide(bindings[VARIABLES + (v - VARIABLE)]);
-            to = put_stretch(book, area, to, from, n, crowded);
+            to = copy(area, to, from, n);
         }
     }
     to

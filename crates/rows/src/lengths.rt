@@ -8,8 +8,9 @@ ghost use Rattle.buffers.specs.moves.Parts.{part};
 ghost use Rattle.system.specs.Limits.{termWords};
 ghost use Rattle.system.specs.Signature.{Signature, span};
 ghost use Rattle.system.specs.Signature.{signatureOf};
-ghost use Rattle.rows.specs.Rows.{countsAt, termIn, Gapped};
+ghost use Rattle.rows.specs.Rows.{countsAt, wordRow, termIn, Gapped};
 ghost use Rattle.rows.specs.gap.Gaps.{wordsIn, behind};
+ghost use Rattle.rows.specs.lengths.Lengthened.{Lengthened};
 ghost use Rattle.rows.specs.Measured.{Measured};
 ghost use Rattle.rows.specs.lengths.Written.{Written, Copyable, Apart, Laid};
 use crate::gap::Gap;
@@ -50,6 +51,17 @@ pub fn push(book: &[u16], area: &mut [u16], back: usize, w: u16) -> usize
     let end = hop(area, Gap { front: 0, back }, 0, arity(book, w));
     area[at] = w;
     area[TERM_WORDS + at] = (end + 1) as u16;
+    at
+}
+
+// Puts its length beside the word before those from `back` on, which stands there.
+pub fn push_length(book: &[u16], area: &mut [u16], back: usize) -> usize
+    requires { ⌜ Measured (signatureOf (now book)) (now area) (behind back) × (0 < back) ⌝ }
+    ensures { λ r. ⌜ (r + 1 ≡ back) × Lengthened (signatureOf (now (book .entry))) (now (area .entry)) back (now (area .exit)) r ⌝ }
+{
+    let at = back - 1;
+    let length = hop(area, Gap { front: 0, back }, 0, arity(book, area[at])) + 1;
+    area[TERM_WORDS + at] = length as u16;
     at
 }
 

@@ -3,13 +3,16 @@ use Prim.Native.Nat.{ℕ, _+_, _≤_, _<_}
 use native.Mathlib.Omega.{arith}
 use mathlib.Core.Path.{_≡_, refl, sym, ap, _∙_, subst}
 use mathlib.Core.List.{List, _++_, append-assoc}
-use lib.ListN.{length, take, drop, length-append, length-drop}
-use lib.Seq.{take-take, length-take-le}
+use lib.ListN.{length, take, drop, length-append, length-take, length-drop}
+use lib.Seq.{take-take, drop-drop, length-sets, length-take-le}
+use Rattle.buffers.specs.Words.{over}
+use Rattle.buffers.specs.moves.Parts.{part}
+use Rattle.buffers.proofs.Over.{take-over, drop-over, part-below}
 use Rattle.system.specs.Limits.{areaWords, termWords}
 use Rattle.system.specs.Signature.{Signature}
 use Rattle.system.specs.System.{instance}
 use Rattle.rows.specs.declared.gap.Gap.{Gap}
-use Rattle.rows.specs.Rows.{wordRow, lengthRow, Lies, closed, termIn}
+use Rattle.rows.specs.Rows.{countsAt, wordRow, lengthRow, Lies, closed, termIn}
 use Rattle.rows.specs.gap.Gaps.{behind, Moved}
 use Rattle.system.specs.Spans.{spans}
 use Rattle.rows.specs.lengths.Written.{Written}
@@ -17,12 +20,10 @@ use Rattle.rows.proofs.gap.Rows.{word-row-length, length-row-length}
 use Rattle.rows.proofs.gap.Closed.{closed-front, closed-length}
 use Rattle.rows.proofs.lengths.Measures.{row-behind, term-behind, measured-moved, word-row-same, length-row-same}
 use Rattle.matching.specs.rules.Searches.{reductLength}
-use Rattle.reducts.specs.declared.writing.Source.{Source}
 use Rattle.reducts.specs.sides.Sides.{Stretches}
 use Rattle.reducts.specs.declared.putting.Subterm.{Subterm}
-use Rattle.reducts.specs.writing.Reduct.{reduct}
-use Rattle.reducts.specs.putting.Replaced.{filling, Filled, Puttable, spliced, Removable, Placed, Done, TooLong, Put, fits, exceeds}
-use Rattle.reducts.proofs.putting.Writables.{Ready, reduct-counted}
+use Rattle.reducts.specs.putting.Replaced.{filling, Filled, Puttable, Crowdable, lengthsAside, spliced, Placed, Done, TooLong, Put, fits, exceeds}
+use Rattle.reducts.proofs.putting.Writables.{reduct-counted}
 
 -- ---- the gap moved behind the words of u
 
@@ -43,8 +44,33 @@ module _ {g : Signature} {side ws : List ℕ} {gap : Gap} {u : Subterm} {c : Str
   pub moved-stands : u .at + u .width ≡ gap′ .front
   moved-stands = sym (v .front)
 
-  pub moved-removable : Removable ws′ gap′ u
-  moved-removable = record { total = v .total ∙ p .total; lies = v .gapped .lies; stand = sym (v .front); around = p .around }
+  pub moved-crowdable : reductLength (c .lengths) side ≤ gap′ .back → Crowdable g side ws′ gap′ u c
+  moved-crowdable room = record { puttable = moved-puttable; stand = moved-stands; room = room }
+
+-- ---- the area in which the reduct is written: both rows are those of ws, and so are the counts of `level` levels and what stands behind the words
+-- or lengths set aside
+
+pub record Spared (ws : List ℕ) (u : Subterm) (ws₁ : List ℕ) : Type 0 where
+  pub rows : take countsAt ws₁ ≡ take countsAt ws
+  pub total : length ws₁ ≡ length ws
+  pub outer : take (u .level) (drop countsAt ws₁) ≡ take (u .level) (drop countsAt ws)
+  pub rest : (n : ℕ) → u .level + u .width ≤ n → drop n (drop countsAt ws₁) ≡ drop n (drop countsAt ws)
+
+pub spared-none : (ws : List ℕ) (u : Subterm) → Spared ws u ws
+spared-none ws u = record { rows = refl; total = refl; outer = refl; rest = λ n h. refl }
+
+pub spared-aside : (ws : List ℕ) (u : Subterm) → Spared ws u (lengthsAside ws u)
+spared-aside ws u =
+    let base = countsAt + u .level in
+    let ls = part (termWords + u .at) (u .width) ws in
+    record {
+      rows = take-over countsAt ws base ls (omega arith);
+      total = length-sets ws base ls;
+      outer = part-below countsAt (u .level) ws base ls (omega arith);
+      rest = λ n h.
+          let m = length-take (u .width) (drop (termWords + u .at) ws) in
+          drop-drop n countsAt (over ws base ls) ∙ drop-over (countsAt + n) ws base ls (omega arith) ∙ sym (drop-drop n countsAt ws);
+    }
 
 -- ---- over a row: its front is that of the row without the gap
 
@@ -71,12 +97,12 @@ module _ {g : Signature} {side ws : List ℕ} {gap : Gap} {u : Subterm} {c : Str
       let w = length-drop (u .at + u .width) t in
       omega (arith, reduct-counted p stand)
 
-  module _ {source : Source} {ws₁ ws₂ : List ℕ} {b : ℕ} (r : Ready g side ws gap u c source ws₁) (w : Written g ws₁ (gap .back) ws₂ b (reduct side c source ws₁)) where
+  module _ {ws₁ ws₂ : List ℕ} {b : ℕ} (r : Spared ws u ws₁) (w : Written g ws₁ (gap .back) ws₂ b new) where
     abbrev gap₂ : Gap
     gap₂ = record { front = u .at; back = b }
 
     size : b + reductLength (c .lengths) side ≡ gap .back
-    size = let z = w .size in let y = ap length (r .filled) in omega (arith, reduct-counted p stand)
+    size = let z = w .size in omega (arith, reduct-counted p stand)
 
     module _ (room : u .at + reductLength (c .lengths) side ≤ gap .back) where
       words-before : take (u .at) (wordRow ws₂) ≡ take (u .at) t
@@ -97,7 +123,7 @@ module _ {g : Signature} {side ws : List ℕ} {gap : Gap} {u : Subterm} {c : Str
       words-behind : drop b (wordRow ws₂) ≡ new ++ drop (u .at + u .width) t
       words-behind =
           sym (row-behind b (wordRow ws₂)) ∙ w .words
-          ∙ (λ i. r .filled i ++ closed (behind (gap .back)) (word-row-same ws ws₁ (r .rows) i))
+          ∙ ap (λ z. new ++ closed (behind (gap .back)) z) (word-row-same ws ws₁ (r .rows))
           ∙ ap (λ z. new ++ z) (term-behind (p .measured .gapped) ∙ ap (λ i. drop i t) (sym stand))
 
       term-placed : termIn ws₂ gap₂ ≡ spliced side t u c
@@ -132,7 +158,7 @@ module _ {g : Signature} {side ws : List ℕ} {gap : Gap} {u : Subterm} {c : Str
   pub put-long : gap′ .back < u .at + reductLength (c .lengths) side → Put g side ws gap u c (TooLong gap′) ws′
   put-long h = exceeds (omega (arith, length-moved)) gap′ refl (record { measured = q .measured; total = q .total; term = v .words; counts = v .counts })
 
-  pub put-done : {source : Source} {ws₁ ws₂ : List ℕ} {b : ℕ} → Ready g side ws′ gap′ u c source ws₁ → Written g ws₁ (gap′ .back) ws₂ b (reduct side c source ws₁) →
+  pub put-done : {ws₁ ws₂ : List ℕ} {b : ℕ} → Spared ws′ u ws₁ → Written g ws₁ (gap′ .back) ws₂ b (instance (filling (termIn ws′ gap′) u c) side) →
       u .at + reductLength (c .lengths) side ≤ gap′ .back → Put g side ws gap u c (Done (record { front = u .at; back = b })) ws₂
   put-done {ws₂} {b} r w room =
       let gap₂ : Gap = record { front = u .at; back = b } in

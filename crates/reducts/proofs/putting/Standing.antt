@@ -17,7 +17,7 @@ use Rattle.rows.specs.Measured.{Measured}
 use Rattle.system.proofs.Spans.{spans-stretch}
 use Rattle.rows.proofs.gap.Rows.{part-take, word-row-length, length-row-length, word-row-part, length-row-part}
 use Rattle.rows.proofs.gap.Closed.{closed-front, closed-behind, closed-length}
-use Rattle.reducts.specs.putting.Replaced.{gapSize}
+use Rattle.reducts.proofs.putting.Asides.{gapSize}
 
 -- ---- over one row
 
@@ -69,7 +69,11 @@ module _ {g : Signature} {ws : List ℕ} {gap : Gap} {from a n : ℕ} (m : Measu
   pub standing-whole : Whole g (part from n ws)
   standing-whole = subst (Whole g) (sym (s .words)) whole
 
-  pub standing-lengths : a + n ≤ wordsIn gap → part (termWords + from) n ws ≡ spans g (part from n ws)
-  standing-lengths l =
+  -- these are what the subterm's own are
+  pub standing-told : a + n ≤ wordsIn gap → part (termWords + from) n ws ≡ spans g (part a n (termIn ws gap))
+  standing-told l =
       let long = closed-length ws gap (m .gapped) in
-      s .lengths ∙ ap (part a n) (m .lengths) ∙ sym (spans-stretch g (termIn ws gap) a n (omega arith) whole) ∙ ap (spans g) (sym (s .words))
+      s .lengths ∙ ap (part a n) (m .lengths) ∙ sym (spans-stretch g (termIn ws gap) a n (omega arith) whole)
+
+  pub standing-lengths : a + n ≤ wordsIn gap → part (termWords + from) n ws ≡ spans g (part from n ws)
+  standing-lengths l = standing-told l ∙ ap (spans g) (sym (s .words))

@@ -1,9 +1,8 @@
--- What is not written over where words are written before those behind a gap: a stretch before them, one behind the gap, one behind both rows.
+-- What is not written over where words are written before those behind a gap: a stretch before them, and one behind the gap.
 use Prim.Native.Nat.{ℕ, _+_, _-_, _≤_}
 use native.Mathlib.Omega.{arith}
 use mathlib.Core.Path.{_≡_, sym, ap, _∙_, subst}
 use mathlib.Core.Logic.{inl, inr}
-use mathlib.Core.Bool.{Bool, true, false}
 use mathlib.Core.List.{List}
 use lib.ListN.{length, take, drop}
 use lib.Seq.{drop-drop}
@@ -12,14 +11,14 @@ use Rattle.buffers.proofs.Over.{length-part}
 use Rattle.system.specs.Limits.{termWords}
 use Rattle.system.specs.Signature.{Signature}
 use Rattle.system.specs.Terms.{Whole}
-use Rattle.rows.specs.Rows.{countsAt, wordRow, lengthRow}
+use Rattle.rows.specs.Rows.{wordRow, lengthRow}
 use Rattle.rows.specs.gap.Gaps.{behind}
 use Rattle.system.specs.Spans.{spans}
 use Rattle.rows.specs.Measured.{Measured}
-use Rattle.rows.specs.lengths.Written.{Written}
+use Rattle.rows.specs.lengths.Written.{Written, Copyable}
 use Rattle.rows.proofs.gap.Rows.{part-take, word-row-part, length-row-part}
 use Rattle.rows.proofs.lengths.Writes.{written-before, written-behind, written-behind-lengths}
-use Rattle.reducts.specs.writing.Reduct.{Lent, Stretchable, Unwritten, Stays}
+use Rattle.reducts.specs.writing.Reduct.{Unwritten}
 
 -- ---- a part of a list, where the list's front or its rest is the same
 
@@ -62,44 +61,24 @@ module _ {g : Signature} {ws ws′ : List ℕ} {b b′ : ℕ} {new : List ℕ} (
   pub kept-behind-lengths : b ≤ from → from + n ≤ termWords → SameLengths
   kept-behind-lengths l h = lengths-row h (part-rest b (lengthRow ws′) (lengthRow ws) (written-behind-lengths v m) from n l)
 
-  pub kept-counts : countsAt ≤ from → SameWords
-  kept-counts h = part-rest countsAt ws′ ws (v .counts) from n h
-
   -- ---- a stretch that is to stay while no word before `low` is written
 
-  module _ (low : ℕ) (down : low ≤ b′) where
-    unwritten-within : Unwritten g ws low b from n → from + n ≤ termWords
-    unwritten-within s = elim (s .apart) [ inl h ↦ before-within (omega arith) | inr h ↦ h .1 ]
+  module _ (low : ℕ) (down : low ≤ b′) (s : Unwritten g ws low b from n) where
+    pub unwritten-within : from + n ≤ termWords
+    unwritten-within = elim (s .apart) [ inl h ↦ before-within (omega arith) | inr h ↦ h .1 ]
 
-    pub stays-fits : (crowded : Bool) → Stays g ws low b from n crowded → from + n ≤ length ws
-    stays-fits true s = s .fits
-    stays-fits false s = let z = unwritten-within s in let y = m .gapped .room in omega arith
+    pub unwritten-words : SameWords
+    unwritten-words = elim (s .apart) [ inl h ↦ kept-before (omega arith) | inr h ↦ kept-behind (h .0) (h .1) ]
 
-    pub stays-words : (crowded : Bool) → Stays g ws low b from n crowded → SameWords
-    stays-words true s = elim (s .either) [ inl h ↦ kept-behind (s .later) h | inr h ↦ kept-counts h ]
-    stays-words false s = elim (s .apart) [ inl h ↦ kept-before (omega arith) | inr h ↦ kept-behind (h .0) (h .1) ]
+    unwritten-lengths : SameLengths
+    unwritten-lengths = elim (s .apart) [ inl h ↦ kept-before-lengths (omega arith) | inr h ↦ kept-behind-lengths (h .0) (h .1) ]
 
-    unwritten-lengths : Unwritten g ws low b from n → SameLengths
-    unwritten-lengths s = elim (s .apart) [ inl h ↦ kept-before-lengths (omega arith) | inr h ↦ kept-behind-lengths (h .0) (h .1) ]
-
-    stays-lent : (crowded : Bool) → Stays g ws low b from n crowded → Lent g ws′ b′ from n crowded
-    stays-lent true s = record {
-      later = let z = s .later in let y = written-before v in omega arith;
-      fits = let z = s .fits in let y = v .total in omega arith;
-      either = s .either;
+    pub unwritten-copyable : Copyable g ws′ b′ from n
+    unwritten-copyable = record {
+      measured = v .measured;
+      whole = subst (Whole g) (sym unwritten-words) (s .whole);
+      lengths = unwritten-lengths ∙ s .lengths ∙ ap (spans g) (sym unwritten-words);
     }
-    stays-lent false s =
-        let e = stays-words false s in (
-          unwritten-within s,
-          record {
-            measured = v .measured;
-            whole = subst (Whole g) (sym e) (s .whole);
-            lengths = unwritten-lengths s ∙ s .lengths ∙ ap (spans g) (sym e);
-          },
-        )
 
-    pub stays-stretchable : (crowded : Bool) → Stays g ws low b from n crowded → n ≤ b′ → Stretchable g ws′ b′ from n crowded
-    stays-stretchable crowded s r = record { measured = v .measured; room = r; lent = stays-lent crowded s }
-
-    pub stays-length : (crowded : Bool) → Stays g ws low b from n crowded → length (part from n ws′) ≡ n
-    stays-length crowded s = length-part from n ws′ (let z = stays-fits crowded s in let y = v .total in omega arith)
+    pub unwritten-length : length (part from n ws′) ≡ n
+    unwritten-length = length-part from n ws′ (let z = unwritten-within in let x = m .gapped .room in let y = v .total in omega arith)

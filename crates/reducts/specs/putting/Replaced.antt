@@ -2,10 +2,9 @@
 use Prim.Native.Nat.{ℕ, _+_, _-_, _≤_, _<_}
 use mathlib.Core.Path.{_≡_}
 use mathlib.Core.Logic.{_⊎_}
-use mathlib.Core.Bool.{true, false, cond}
+use mathlib.Core.Bool.{true, false}
 use mathlib.Core.List.{List}
 use lib.ListN.{length, getD, take, drop}
-use lib.Dec.{leb}
 use Rattle.buffers.specs.Words.{over}
 use Rattle.buffers.specs.moves.Parts.{part, splice}
 use Rattle.system.specs.Limits.{areaWords, termWords, variable, variables}
@@ -13,42 +12,16 @@ use Rattle.system.specs.Signature.{Signature}
 use Rattle.system.specs.System.{instance}
 use Rattle.system.specs.Terms.{Whole, Member}
 use Rattle.rows.specs.declared.gap.Gap.{Gap}
-use Rattle.rows.specs.Rows.{countsAt, lengthRow, termIn, Lies, Gapped}
+use Rattle.rows.specs.Rows.{countsAt, lengthRow, termIn, Gapped}
 use Rattle.rows.specs.gap.Gaps.{wordsIn, behind}
 use Rattle.system.specs.Spans.{spans}
 use Rattle.rows.specs.Measured.{Measured}
+use Rattle.matching.specs.rules.Searches.{reductLength}
 use Rattle.reducts.specs.declared.putting.Reduced.{Reduced}
-use Rattle.reducts.specs.declared.writing.Source.{Source}
 use Rattle.reducts.specs.declared.putting.Subterm.{Subterm}
 use Rattle.reducts.specs.sides.Sides.{Sided, Stretches}
 
--- ---- the words set aside
-
--- the words of u stand before the gap, and there is room for them behind the counts of the levels around them
-pub record Removable (ws : List ℕ) (gap : Gap) (u : Subterm) : Type 0 where
-  pub total : length ws ≡ areaWords
-  pub lies : Lies gap
-  pub stand : u .at + u .width ≡ gap .front
-  pub around : u .level + u .width ≤ termWords
-
-abbrev pub gapSize : Gap → ℕ
-gapSize gap = gap .back - gap .front
-
--- where they are read, if k words come in their place
-abbrev pub sourceOf : Gap → Subterm → ℕ → Source
-sourceOf gap u k =
-    cond (leb k (gapSize gap))
-    (record { base = u .at; end = u .width; later = u .at + gapSize gap; crowded = false })
-    (record { base = countsAt + u .level; end = u .width; later = u .at + gapSize gap; crowded = true })
-
--- the area then
-abbrev pub aside : List ℕ → Gap → Subterm → ℕ → List ℕ
-aside ws gap u k = cond (leb k (gapSize gap)) ws (over ws (countsAt + u .level) (part (u .at) (u .width) ws))
-
-abbrev pub Aside : List ℕ → Gap → Subterm → ℕ → Source → List ℕ → Type 0
-Aside ws gap u k r ws′ = (r ≡ sourceOf gap u k) × (ws′ ≡ aside ws gap u k)
-
--- ---- the reduct put in their place
+-- ---- the reduct put in the place of words
 
 -- what variable v stands for: a stretch of the term t, by where it starts behind the first word of u
 abbrev pub filling : List ℕ → Subterm → Stretches → ℕ → List ℕ
@@ -69,6 +42,20 @@ pub record Puttable (g : Signature) (side ws : List ℕ) (gap : Gap) (u : Subter
   pub starts : length (c .starts) ≡ variables
   pub lengths : length (c .lengths) ≡ variables
   pub filled : (v : ℕ) → Member (variable + v) side → Filled g (termIn ws gap) u c v
+
+-- ---- row by row
+
+-- the words of u stand before the gap, and the reduct has room where they and the gap are
+pub record Crowdable (g : Signature) (side ws : List ℕ) (gap : Gap) (u : Subterm) (c : Stretches) : Type 0 where
+  pub puttable : Puttable g side ws gap u c
+  pub stand : u .at + u .width ≡ gap .front
+  pub room : reductLength (c .lengths) side ≤ gap .back
+
+-- the area in which the lengths of the words of u are set aside behind the counts of the levels around
+abbrev pub lengthsAside : List ℕ → Subterm → List ℕ
+lengthsAside ws u = over ws (countsAt + u .level) (part (termWords + u .at) (u .width) ws)
+
+-- ---- what stands there then
 
 -- the term then
 abbrev pub spliced : List ℕ → List ℕ → Subterm → Stretches → List ℕ

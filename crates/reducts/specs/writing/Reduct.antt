@@ -2,7 +2,7 @@
 use Prim.Native.Nat.{ℕ, _+_, _-_, _≤_}
 use mathlib.Core.Path.{_≡_}
 use mathlib.Core.Logic.{_⊎_}
-use mathlib.Core.Bool.{Bool, true, false, cond}
+use mathlib.Core.Bool.{cond}
 use mathlib.Core.List.{List}
 use lib.ListN.{length, getD}
 use lib.Dec.{ltb}
@@ -14,7 +14,6 @@ use Rattle.system.specs.Terms.{Whole, Member}
 use Rattle.rows.specs.gap.Gaps.{behind}
 use Rattle.system.specs.Spans.{spans}
 use Rattle.rows.specs.Measured.{Measured}
-use Rattle.rows.specs.lengths.Written.{Apart, Copyable}
 use Rattle.matching.specs.rules.Searches.{reductLength}
 use Rattle.reducts.specs.declared.writing.Source.{Source}
 use Rattle.reducts.specs.sides.Sides.{Sided, Stretches}
@@ -30,25 +29,11 @@ stretch ws c source v = part (stretchAt source (getD (c .starts) v 0)) (getD (c 
 abbrev pub reduct : List ℕ → Stretches → Source → List ℕ → List ℕ
 reduct side c source ws = instance (stretch ws c source) side
 
--- n words from `from` on may be put before those from `back` on: crowded ones stand where nothing is written, others have true lengths
-abbrev pub Lent : Signature → List ℕ → ℕ → ℕ → ℕ → Bool → Type 0
-Lent g ws back from n true = Apart ws back from n
-Lent g ws back from n false = (from + n ≤ termWords) × Copyable g ws back from n
-
-pub record Stretchable (g : Signature) (ws : List ℕ) (back from n : ℕ) (crowded : Bool) : Type 0 where
-  pub measured : Measured g ws (behind back)
-  pub room : n ≤ back
-  pub lent : Lent g ws back from n crowded
-
--- the same of a stretch that is to stay while words are written from `back` down to `low`
+-- n words from `from` on, a whole subterm with true lengths, stay while words are written from `back` down to `low`
 pub record Unwritten (g : Signature) (ws : List ℕ) (low back from n : ℕ) : Type 0 where
   pub whole : Whole g (part from n ws)
   pub lengths : part (termWords + from) n ws ≡ spans g (part from n ws)
   pub apart : (from + n ≤ low) ⊎ ((back ≤ from) × (from + n ≤ termWords))
-
-abbrev pub Stays : Signature → List ℕ → ℕ → ℕ → ℕ → ℕ → Bool → Type 0
-Stays g ws low back from n true = Apart ws back from n
-Stays g ws low back from n false = Unwritten g ws low back from n
 
 -- the reduct is to be written before the words from `back` on
 pub record Writable (g : Signature) (side ws : List ℕ) (back : ℕ) (c : Stretches) (source : Source) : Type 0 where
@@ -60,4 +45,4 @@ pub record Writable (g : Signature) (side ws : List ℕ) (back : ℕ) (c : Stret
   pub later : source .later ≤ maxWord
   pub room : reductLength (c .lengths) side ≤ back
   pub stays : (v : ℕ) → Member (variable + v) side →
-      Stays g ws (back - reductLength (c .lengths) side) back (stretchAt source (getD (c .starts) v 0)) (getD (c .lengths) v 0) (source .crowded)
+      Unwritten g ws (back - reductLength (c .lengths) side) back (stretchAt source (getD (c .starts) v 0)) (getD (c .lengths) v 0)

@@ -34,7 +34,7 @@ over-rest n l i (v ∷ vs) =
     let e : suc (n + i) ≡ n + suc i = omega arith in
     ap (λ k. drop n (over (set l (n + i) v) k vs)) e ∙ over-rest n (set l (n + i) v) (suc i) vs ∙ ap (λ z. over z (suc i) vs) (drop-set-add n l i v)
 
-over-behind : (l : List ℕ) (i : ℕ) (vs : List ℕ) → i + length vs ≤ length l → drop i (over l i vs) ≡ vs ++ drop (i + length vs) l
+pub over-behind : (l : List ℕ) (i : ℕ) (vs : List ℕ) → i + length vs ≤ length l → drop i (over l i vs) ≡ vs ++ drop (i + length vs) l
 over-behind l i vs h =
     ap (drop i) (sets-eq vs l i h ∙ append-assoc (take i l) vs (drop (i + length vs) l))
     ∙ drop-at (take i l) (vs ++ drop (i + length vs) l) i (length-take-le i l (omega arith))

@@ -10,17 +10,18 @@ use Rattle.redexes.specs.search.Redexes.{bindingWords}
 use Rattle.reducts.specs.sides.Sides.{stretchesIn}
 use Rattle.reducts.specs.writing.Reduct.{stretchAt}
 use Rattle.reducts.proofs.Bindings.{binding-words, start-told, length-told}
-use Rattle.reducts.proofs.writing.Turns.{Writing, writing-starts, writing-ends, symbol-room, writes-symbol, variable-known, variable-stretchable, writes-variable}
+use Rattle.reducts.proofs.writing.Turns.{Writing, writing-starts, writing-ends, writes-room, writes-symbol}
+use Rattle.reducts.proofs.writing.Turns.{variable-known, variable-fits, variable-within, variable-copyable, writes-variable}
 use Rattle.reducts.proofs.writing.write_reduct.Statement.{statement}
 use Rattle.reducts.proofs.writing.write_reduct.Tie as tie
 
 abbrev Inv-loop : tie.InvT-loop
-Inv-loop book side area₀ back bindings source crowded to₀ j₀ area to j = Writing (signatureOf book) side area₀ back (stretchesIn bindings) source area to j
+Inv-loop book side area₀ back bindings source to₀ j₀ area to j = Writing (signatureOf book) side area₀ back (stretchesIn bindings) source area to j
 
 abbrev μ-loop : tie.MeasureT-loop
-μ-loop book side area₀ back bindings source crowded to₀ j₀ area to j = j
+μ-loop book side area₀ back bindings source to₀ j₀ area to j = j
 
--- ---- the places of the code that are behind others: the entry, the loop's head, a symbol met, a variable met, its stretch found and put
+-- ---- the places of the code that are behind others: the entry, the loop's head, a symbol met, a variable met, its stretch found and copied
 
 abbrev start : tie.After-shared-slice-known3 Inv-loop μ-loop → tie.Start Inv-loop μ-loop
 start c = c .before .before .before .before
@@ -46,8 +47,8 @@ found c = c .before .before
 abbrev named : tie.After-stretch-at Inv-loop μ-loop → tie.Else1 Inv-loop μ-loop
 named c = c .before .before .before
 
-abbrev put : tie.After-slice-known3 Inv-loop μ-loop → tie.After-put-stretch Inv-loop μ-loop
-put c = c .before .before
+abbrev copied : tie.After-slice-known3 Inv-loop μ-loop → tie.After-copy Inv-loop μ-loop
+copied c = c .before .before
 
 -- ---- the needs
 
@@ -55,7 +56,7 @@ loop-holds : tie.Need-loop-holds Inv-loop μ-loop
 loop-holds c = writing-starts (start c .pre)
 
 shared-slice-read-w : tie.Need-shared-slice-read-w Inv-loop μ-loop
-shared-slice-read-w c = let h = c .before .before in let v = h .loop .inv .inside in let s = c .before .loop-test .taken in omega arith
+shared-slice-read-w c = let h = c .before .before in let v = h .loop .inv .left .inside in let s = c .before .loop-test .taken in omega arith
 
 -- the word is a symbol
 small : (c : tie.Then1 Inv-loop μ-loop) → getD (entry (head (c .before)) .args .side .now) (head (c .before) .loop .j - 1) 0 < variable
@@ -65,7 +66,7 @@ push-requires : tie.Need-push-requires Inv-loop μ-loop
 push-requires c κs =
     let t = c .before in
     let h = head (t .before) in
-    (h .loop .inv .written .measured, symbol-room (entry h .pre) (h .loop .inv) (some (t .before)) (small t))
+    (h .loop .inv .written .measured, writes-room (entry h .pre) (h .loop .inv) (some (t .before)) (small t))
 
 loop-again : tie.Need-loop-again Inv-loop μ-loop
 loop-again c =
@@ -111,24 +112,36 @@ long-is c =
     let p = named (found c) .before in
     c .wide3 .ensures .0 ∙ length-told (entry (head p) .args .bindings .now) (p .wide .result - variable)
 
-put-stretch-requires : tie.Need-put-stretch-requires Inv-loop μ-loop
-put-stretch-requires c κs =
+copy-requires : tie.Need-copy-requires Inv-loop μ-loop
+copy-requires c κs =
     let n = c .before in
     let d = named (found n) in
     let p = d .before in
     let h = head p in
-    variable-stretchable (entry h .pre) (h .loop .inv) (some p) (p .wide .result) (p .wide .ensures .0) (d .if1 .left)
-    (from-is (found n)) (long-is n)
+    let q = entry h .pre in
+    let v = h .loop .inv in
+    let w = p .wide .result in
+    let e = p .wide .ensures .0 in
+    let l = d .if1 .left in (
+      v .written .measured .gapped,
+      variable-fits q v (some p) w e l (from-is (found n)) (long-is n),
+      variable-within q v (some p) w e l (from-is (found n)) (long-is n),
+    )
 
 loop-again-2 : tie.Need-loop-again-2 Inv-loop μ-loop
 loop-again-2 c =
-    let u = put c in
+    let u = copied c in
     let n = u .before .before in
     let d = named (found n) in
     let p = d .before in
     let h = head p in
-    writes-variable (entry h .pre) (h .loop .inv) (some p) (p .wide .result) (p .wide .ensures .0) (d .if1 .left)
-    (from-is (found n)) (long-is n) (u .put-stretch .ensures)
+    let q = entry h .pre in
+    let v = h .loop .inv in
+    let w = p .wide .result in
+    let e = p .wide .ensures .0 in
+    let l = d .if1 .left in
+    let k = variable-copyable q v (some p) w e l (from-is (found n)) (long-is n) in
+    writes-variable q v (some p) w e l (from-is (found n)) (long-is n) (u .copy .ensures (signatureOf (entry h .args .book .now)) k)
 
 same-length : tie.Need-same-length Inv-loop μ-loop
 same-length c = c .before .loop .inv .written .total
@@ -142,4 +155,4 @@ write-reduct-spec =
     (tie.spec
     Inv-loop μ-loop loop-holds (λ c. search needs) (λ c. search needs) shared-slice-read-w (λ c κs. search needs) push-requires (λ c. search needs)
     loop-again (λ c. search needs) shared-slice-read-wide (λ c κs. search needs) stretch-at-requires (λ c. search needs) (λ c. search needs)
-    shared-slice-read-wide-2 (λ c κs. search needs) put-stretch-requires (λ c. search needs) loop-again-2 same-length returns)
+    shared-slice-read-wide-2 (λ c κs. search needs) copy-requires (λ c. search needs) loop-again-2 same-length returns)

@@ -1,0 +1,3 @@
+-- The words of a reduct alone, and then their lengths
+pub mod FirstPass
+pub mod SecondPass
