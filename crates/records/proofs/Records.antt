@@ -81,10 +81,6 @@ pub kept-start : (b : Bool) (words : List ℕ) → words ≡ kept b words []
 kept-start true words = sym (keep-start words)
 kept-start false words = refl
 
-pub kept-length : (b : Bool) (words : List ℕ) (h : Trace) → length (kept b words h) ≡ length words
-kept-length true words h = keep-length words h
-kept-length false words h = refl
-
 pub kept-next : (b : Bool) (words : List ℕ) (d : Pair) (h : Trace) (k : ℕ) → length h ≡ k → paired b (kept b words h) k (d .at) (d .number) ≡ kept b words (d ∷ h)
 kept-next true words d h k e = sym (keep-next words d h k e)
 kept-next false words d h k e = refl

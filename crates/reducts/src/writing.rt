@@ -1,6 +1,7 @@
 // A reduct written in the rows.
 ghost use mathlib.Core.Path.{_≡_};
 ghost use Prim.Native.Nat.{_≤_};
+ghost use Rattle.system.specs.Limits.{maxWord};
 ghost use Rattle.system.specs.Signature.{signatureOf};
 ghost use Rattle.rows.specs.lengths.Written.{Written};
 ghost use Rattle.reducts.specs.sides.Sides.{stretchesIn};
@@ -21,7 +22,7 @@ pub struct Source {
 
 // Where word i of the redex stands in the area.
 pub fn stretch_at(source: Source, i: usize) -> usize
-    requires { ⌜ (source .base ≤ 65535) × (source .later ≤ 65535) × (i ≤ 65535) ⌝ }
+    requires { ⌜ (source .base ≤ maxWord) × (source .later ≤ maxWord) × (i ≤ maxWord) ⌝ }
     ensures { λ r. ⌜ r ≡ stretchAt source i ⌝ }
 {
     if i < source.end {

@@ -8,7 +8,7 @@ ghost use Rattle.buffers.specs.moves.Parts.{part};
 ghost use Rattle.system.specs.Limits.{termWords};
 ghost use Rattle.system.specs.Signature.{Signature, span};
 ghost use Rattle.system.specs.Signature.{signatureOf};
-ghost use Rattle.rows.specs.Rows.{countsAt, wordRow, termIn, Gapped};
+ghost use Rattle.rows.specs.Rows.{countsAt, termIn, Gapped};
 ghost use Rattle.rows.specs.gap.Gaps.{wordsIn, behind};
 ghost use Rattle.rows.specs.lengths.Lengthened.{Lengthened};
 ghost use Rattle.rows.specs.Measured.{Measured};

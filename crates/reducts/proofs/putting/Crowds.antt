@@ -1,5 +1,5 @@
 -- The reduct has no room beside the words of u: it is written row by row, the words of u and then their lengths being set aside behind the counts.
-use Prim.Native.Nat.{ℕ, _+_, _-_, _≤_}
+use Prim.Native.Nat.{ℕ, _+_, _-_}
 use native.Mathlib.Omega.{arith}
 use mathlib.Core.Path.{_≡_, sym, ap, _∙_, subst}
 use mathlib.Core.List.{List}

@@ -4,7 +4,7 @@ use mathlib.Core.Path.{_≡_}
 use mathlib.Core.List.{List}
 use lib.ListN.{length, getD}
 use Rattle.buffers.specs.moves.Parts.{part}
-use Rattle.system.specs.Limits.{variable, variables, termWords}
+use Rattle.system.specs.Limits.{maxWord, variable, variables, termWords}
 use Rattle.system.specs.Signature.{Signature}
 use Rattle.system.specs.Spans.{spans}
 use Rattle.system.specs.System.{instance}
@@ -28,8 +28,8 @@ pub record Passable (side ws : List ℕ) (back edge : ℕ) (c : Stretches) (sour
   pub sided : Sided side
   pub starts : length (c .starts) ≡ variables
   pub lengths : length (c .lengths) ≡ variables
-  pub based : source .base ≤ 65535
-  pub later : source .later ≤ 65535
+  pub based : source .base ≤ maxWord
+  pub later : source .later ≤ maxWord
   pub high : back ≤ termWords
   pub room : reductLength (c .lengths) side ≤ back
   pub beyond : (v : ℕ) → Member (variable + v) side → Beyond ws edge (stretchAt source (getD (c .starts) v 0)) (getD (c .lengths) v 0)

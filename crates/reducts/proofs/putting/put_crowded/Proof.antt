@@ -1,5 +1,4 @@
 -- `putting::put_crowded` meets its contract: the words of u set aside, the words of the reduct; the lengths of u set aside, their lengths.
-use native.Mathlib.Omega.{arith}
 use borrow.Author.Needs.{needs}
 use Rattle.reducts.proofs.putting.Crowds.{first-passable, second-lengthable, crowded-written}
 use Rattle.reducts.proofs.putting.put_crowded.Statement.{statement}
