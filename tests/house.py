@@ -1,16 +1,21 @@
 """The layout that docs/CHANGING.md asks for: lengths of lines, files, functions and chains of `.before`; how many functions a crate has; that
-crates.txt lists the crates that each crate's files name, and no more; and that every must-fail edit finds its lines. Prints what is not so, and
-exits with 1 if anything is.
+crates.txt lists the crates that each crate's files name, and no more; that every must-fail edit finds its lines; and that there is no dead text
+(tests/dead.py). Prints what is not so, and exits with 1 if anything is.
 
     python3 tests/house.py            from the repository's top
     python3 tests/house.py --crates   prints crates.txt as it should be, for the crates that it has
 """
 import glob
+import os
 import re
 import sys
 
+sys.dont_write_bytecode = True  # the next line reads tests/dead.py
+import dead
+
 LINE = {"src": 150, "specs": 150, "proofs": 200}  # characters
 FILE = 300  # lines of a file of proofs
+TOOL = 400  # lines of a file in tests/ and tools/
 BODY = 40  # lines of a function's body
 CHAIN = 5  # places of the code that a proof goes back by `.before` in one go: further back, they are named
 PARAMETERS = 6
@@ -105,6 +110,13 @@ def main():
                     over.append(f"{path}: {name} has {body} lines, {BODY} at most")
                 if len(parameters) > PARAMETERS and name not in MANY:
                     over.append(f"{path}: {name} has {len(parameters)} parameters, {PARAMETERS} at most")
+    for path in sorted(glob.glob("tests/**/*", recursive=True) + glob.glob("tools/*")):
+        if os.path.isdir(path):
+            continue
+        count = open(path, encoding="utf-8").read().count("\n")
+        if count > TOOL:
+            over.append(f"{path}: {count} lines, {TOOL} at most")
+    over += dead.found()
     for edit in sorted(glob.glob("crates/*/must-fail/*.edit")):
         over += [f"{edit}: {wrong}" for wrong in misses(edit)]
     for line in over:
