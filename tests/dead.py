@@ -14,10 +14,7 @@ from sources import declarations, depth
 TOKEN = re.compile(r"\[\]|[^\s(){}\[\].;,@\"«»λ⌜⌝⟦⟧]+")
 USE = re.compile(r"^\s*(?:ghost )?use ([^\s{;]+)\.\{([^}]*)\}")
 # laws that nothing names and that stay, each with its reason
-KEPT = {
-    "inert": "what DECISIONS says of skipped entries: an evaluation that took no step takes none again",
-    "decimal-law": "that `decimal`, which is told its number of places, is the usual division by ten",
-}
+KEPT = {}
 
 
 def strip(line, code):

@@ -5,7 +5,7 @@ use mathlib.Core.Path.{_≡_, refl, sym, ap, _∙_}
 use mathlib.Core.Bool.{Bool, true, false}
 use mathlib.Core.List.{List, [], _∷_, _++_, append-assoc}
 use lib.ListN.{length, take, drop, set}
-use lib.Seq.{take-at, sets-eq, length-sets}
+use lib.Seq.{take-at, sets-eq}
 use Rattle.buffers.specs.Words.{over}
 use Rattle.buffers.proofs.Over.{over-append, drop-over}
 use Rattle.rewriting.specs.Trace.{Pair, Trace, inOrder}
@@ -42,10 +42,6 @@ written out t n e h =
 keep-start : (words : List ℕ) → keep words [] ≡ words
 unfolding keep inOrder
 keep-start words = refl
-
-keep-length : (words : List ℕ) (h : Trace) → length (keep words h) ≡ length words
-unfolding keep
-keep-length words h = length-sets words 0 (inOrder h [])
 
 -- two stores for one more pair
 keep-next : (words : List ℕ) (d : Pair) (h : Trace) (k : ℕ) → length h ≡ k →
