@@ -18,8 +18,8 @@ use Rattle.rows.specs.gap.Gaps.{behind}
 use Rattle.rows.specs.Measured.{Measured}
 use Rattle.rows.specs.lengths.Written.{Written}
 use Rattle.rows.specs.lengths.Lengthened.{Lengthened}
-use Rattle.rows.proofs.gap.Rows.{word-row-at, word-row-part, word-over-row, length-over-row}
-use Rattle.rows.proofs.lengths.Measures.{word-row-length, length-row-length, row-behind, words-length}
+use Rattle.rows.proofs.gap.Rows.{word-row-length, length-row-length, word-row-at, word-row-part, word-over-row, length-over-row}
+use Rattle.rows.proofs.lengths.Measures.{row-behind, words-length}
 use Rattle.rows.proofs.lengths.Writes.{over-behind, written-over}
 
 -- words written over a list, and then others right before them
