@@ -29,7 +29,7 @@
  *   linked                                                  bytes   needs           red zone
  *   libcue.a                                               21,708   memset          used
  *   libcue.a, cue_test_strategies and cue_expand alone     15,523   memset          used
- *   libcue_replay.a                                        16,348   memset          used
+ *   libcue_replay.a                                        16,364   memset          used
  *
  * An expansion is lent 8 KB for the answer and 24 KB to work in. The stack that a call takes, read from the compiled archives with everything
  * that is called, is below 4,096 bytes for each function (`bash tests/stack.sh` measures it, and holds both tables to the archives):
@@ -50,7 +50,7 @@
  *   cue_expand_twice        libcue.a                   2,264
  *   cue_expand_recorded     libcue.a                   2,152
  *   cue_replay              libcue_replay.a            2,400
- *   cue_expand_retraced     libcue_replay.a            4,016
+ *   cue_expand_retraced     libcue_replay.a            4,032
  */
 #ifndef CUE_H
 #define CUE_H
