@@ -47,7 +47,7 @@ limit-some overlong e = omega arith
 limit-some nested e = omega arith
 limit-some full e = omega arith
 
--- what was asked for, the index built, the term laid in the area, and the frame
+-- what was asked for, the index built, the term laid in the area, the frame, and how many steps the run may take
 pub record Begun : Type 0 where
   pub book : List ℕ
   pub shape : Shape
@@ -64,6 +64,7 @@ pub record Begun : Type 0 where
   pub frame : List ℕ
   pub slots : length frame ≡ frameWords
   pub first : baseOf frame ≡ 0
+  pub most : ℕ
 
 module _ (v : Begun) where
   abbrev s : System
@@ -77,7 +78,7 @@ module _ (v : Begun) where
   ready = set (v .ws) countsAt 0
 
   abbrev pub from : From
-  from = record { shape = v .shape; bounds = v .bounds; state = record { gap = v .gap; level = 0 }; way = 0; steps = 0; most = v .bounds .limit }
+  from = record { shape = v .shape; bounds = v .bounds; state = record { gap = v .gap; level = 0 }; way = 0; steps = 0; most = v .most }
 
   formed : WellFormed s
   formed = well (v .book) (v .shape) (v .asked .accepted)
@@ -104,19 +105,23 @@ module _ (v : Begun) where
 
   -- where it comes to
   abbrev o : Came
-  o = run s limits 0 (v .bounds .limit) (0 ∷ []) (start (v .term))
+  o = run s limits 0 (v .most) (0 ∷ []) (start (v .term))
 
   comes-there : cameFrom s from ready (v .frame) (v .lent) [] ≡ o
   comes-there =
       let ec = held-count [] 0 stands refl in
-      λ i. run s limits (v .first i) (v .bounds .limit) (ec i ∷ []) (record { term = stands .term i; trace = [] })
-
-  is-evaluation : outcomeOf o ≡ evaluation s limits (v .term)
-  unfolding evaluation
-  is-evaluation = run-evaluates s limits 0 formed (v .bounds .limit) (start (v .term)) (omega arith) (omega arith)
+      λ i. run s limits (v .first i) (v .most) (ec i ∷ []) (record { term = stands .term i; trace = [] })
 
   -- what `run_at` answered and left
-  module _ (e : Reached) (ws frame words : List ℕ) (h : Continues s from ready (v .frame) (v .lent) e ws frame words) where
+  module _ (e : Reached) (ws frame words : List ℕ) (h : Continues s from ready (v .frame) (v .lent) e ws frame words) (enough : v .bounds .limit ≤ v .most) where
+    -- as many steps as the limit are enough
+    is-evaluation : outcomeOf o ≡ evaluation s limits (v .term)
+    unfolding evaluation
+    is-evaluation = run-evaluates s limits 0 formed (v .most) (start (v .term)) (omega arith) (omega arith)
+
+    moves : Moves o
+    moves = run-moves s limits 0 (v .most) (0 ∷ []) (start (v .term)) (omega arith)
+
     abbrev Tells : Came → Type 0
     Tells o = words ≡ kept (v .bounds .recorded) (v .lent) (configOf o .trace)
 
@@ -136,7 +141,7 @@ module _ (v : Begun) where
     -- a limit stops it: no word is handed back
     pub ends-stopped : (e .number ≡ 0 → ⊥) → (f : RunResult) → f ≡ record { number = e .number; gap = behind termWords; steps = e .steps } → Ends f
     ends-stopped some f q =
-        as-evaluation f (go o (run-moves s limits 0 (v .bounds .limit) (0 ∷ []) (start (v .term)) (omega arith)) (reaches .0) (reaches .1))
+        as-evaluation f (go o moves (reaches .0) (reaches .1))
       where
         ran : (l : Limit) (h : Trace) → e .number ≡ limitNumber l → e .steps ≡ length h → Ran (stopped l h) f ws
         ran l h n k = record {
@@ -155,7 +160,7 @@ module _ (v : Begun) where
     -- it comes to its end: the term is
     pub ends-final : e .number ≡ 0 → (f : RunResult) → f ≡ record { number = 0; gap = e .state .gap; steps = e .steps } → Ends f
     ends-final none f q =
-        as-evaluation f (go o (run-moves s limits 0 (v .bounds .limit) (0 ∷ []) (start (v .term)) (omega arith)) (reaches .0) (reaches .1))
+        as-evaluation f (go o moves (reaches .0) (reaches .1))
       where
         go : (o : Came) → Moves o → Reaches s 0 o e ws frame → Tells o → Ran (outcomeOf o) f ws × (words ≡ kept (v .bounds .recorded) (v .lent) (traceOf (outcomeOf o)))
         go (ended r) m z w = (

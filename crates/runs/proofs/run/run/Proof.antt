@@ -36,8 +36,8 @@ abbrev entry : tie.After-index3 → tie.Start
 entry c = call (built (laid c) .before)
 
 -- what the run starts with, read once
-abbrev begun : tie.After-index3 → (frame : List ℕ) → length frame ≡ frameWords → baseOf frame ≡ 0 → Begun
-begun c frame slots first =
+abbrev begun : tie.After-index3 → (frame : List ℕ) → length frame ≡ frameWords → baseOf frame ≡ 0 → ℕ → Begun
+begun c frame slots first most =
     let l = laid c in
     let e = entry c in
     let a = e .args in
@@ -60,6 +60,7 @@ begun c frame slots first =
       frame = frame;
       slots = slots;
       first = first;
+      most = most;
     }
 
 -- ---- the needs
@@ -79,7 +80,7 @@ slice-aggregate-run-at : tie.Need-slice-aggregate-run-at
 slice-aggregate-run-at c = sym (built (laid c) .build-index .ensures .slots)
 
 run-at-requires : tie.Need-run-at-requires
-run-at-requires c κs = startable (begun (c .before .before .before) _ refl refl)
+run-at-requires c κs = startable (begun (c .before .before .before) _ refl refl _)
 
 -- the area has the length that it came with
 same-area : (c : tie.After-struct-known) → length (ran c .run-at .last .1 .1 .0) ≡ length (entry (readied (ran c)) .args .area .now)
@@ -94,7 +95,7 @@ same-length c = same-area (c .before .before)
 returns : tie.Need-returns
 returns c =
     let z = ran (c .before .before) in
-    ends-stopped (begun (readied z) _ refl refl) (z .run-at .result) _ _ _ (z .run-at .ensures) (c .before .if1 .taken) (c .outcome .result) (c .outcome .ensures)
+    ends-stopped (begun (readied z) _ refl refl _) (z .run-at .result) _ _ _ (z .run-at .ensures) (omega arith) (c .before .if1 .taken) (c .outcome .result) (c .outcome .ensures)
 
 same-length-3 : tie.Need-same-length-3
 same-length-3 c = same-area (c .before .before)
@@ -102,7 +103,7 @@ same-length-3 c = same-area (c .before .before)
 returns-2 : tie.Need-returns-2
 returns-2 c =
     let z = ran (c .before .before) in
-    ends-final (begun (readied z) _ refl refl) (z .run-at .result) _ _ _ (z .run-at .ensures) (c .before .if1 .left) (c .outcome2 .result) (c .outcome2 .ensures)
+    ends-final (begun (readied z) _ refl refl _) (z .run-at .result) _ _ _ (z .run-at .ensures) (omega arith) (c .before .if1 .left) (c .outcome2 .result) (c .outcome2 .ensures)
 
 pub run-spec : {M : Type 1} → statement M
 run-spec =

@@ -222,9 +222,6 @@ returns-5 c =
     let size = z .size-after .ensures (b .steppable .x) (b .steppable .contracts) in
     waits-there (round (here (next e))) b (free e) (sized z .if2 .taken) (omega (arith, size, c .before .if3 .left)) (c .came5 .result) (c .came5 .ensures)
 
-mul-wide : tie.Need-mul-wide Inv-loop μ-loop
-mul-wide c = let n = next (allowed (c .before)) in omega (arith, before-room (round (here n)) (before n))
-
 slice-read-wide : tie.Need-slice-read-wide Inv-loop μ-loop
 slice-read-wide c = let n = next (allowed (c .before .before)) in omega (arith, before-room (round (here n)) (before n), before n .tracks .slots)
 
@@ -285,5 +282,6 @@ run-at-spec =
     (λ c. search needs) (λ c κs. search needs) same-length-4 same-length-5 same-length-6 returns-2 (λ c. search needs) (λ c κs. search needs)
     (λ c κs. search needs) same-length-7 same-length-8 same-length-9 returns-3 sub-if2 size-after-requires (λ c κs. search needs)
     same-length-10 same-length-11 same-length-12 returns-4 (λ c κs. search needs) same-length-13 same-length-14 same-length-15 returns-5
-    mul-wide slice-read-wide (λ c κs. search needs) step-requires (λ c κs. search needs) same-length-16 same-length-17 same-length-18 returns-6
+    (λ c. let n = next (allowed (c .before)) in omega (arith, before-room (round (here n)) (before n)))
+    slice-read-wide (λ c κs. search needs) step-requires (λ c κs. search needs) same-length-16 same-length-17 same-length-18 returns-6
     put-pair-requires add-steps loop-less loop-again)
