@@ -5,7 +5,7 @@ use mathlib.Core.Path.{_≡_, refl, sym, ap, _∙_}
 use mathlib.Core.Bool.{Bool, true, false}
 use mathlib.Core.List.{List, [], _∷_, _++_, append-assoc}
 use lib.ListN.{length, take, drop, set}
-use lib.Seq.{take-at, sets-eq}
+use lib.Seq.{take-at, sets-eq, length-sets}
 use Rattle.buffers.specs.Words.{over}
 use Rattle.buffers.proofs.Over.{over-append, drop-over}
 use Rattle.rewriting.specs.Trace.{Pair, Trace, inOrder}
@@ -43,6 +43,10 @@ keep-start : (words : List ℕ) → keep words [] ≡ words
 unfolding keep inOrder
 keep-start words = refl
 
+keep-length : (words : List ℕ) (h : Trace) → length (keep words h) ≡ length words
+unfolding keep
+keep-length words h = length-sets words 0 (inOrder h [])
+
 -- two stores for one more pair
 keep-next : (words : List ℕ) (d : Pair) (h : Trace) (k : ℕ) → length h ≡ k →
     keep words (d ∷ h) ≡ set (set (keep words h) (2 * k) (d .at)) (2 * k + 1) (d .number)
@@ -76,6 +80,10 @@ paired-none b words k at number e = rw e
 pub kept-start : (b : Bool) (words : List ℕ) → words ≡ kept b words []
 kept-start true words = sym (keep-start words)
 kept-start false words = refl
+
+pub kept-length : (b : Bool) (words : List ℕ) (h : Trace) → length (kept b words h) ≡ length words
+kept-length true words h = keep-length words h
+kept-length false words h = refl
 
 pub kept-next : (b : Bool) (words : List ℕ) (d : Pair) (h : Trace) (k : ℕ) → length h ≡ k → paired b (kept b words h) k (d .at) (d .number) ≡ kept b words (d ∷ h)
 kept-next true words d h k e = sym (keep-next words d h k e)
