@@ -79,7 +79,7 @@ def found():
     for pattern in ("crates/*/src/**/*.rt", "crates/*/specs/**/*.antt", "crates/*/proofs/**/*.antt"):
         for path in sorted(glob.glob(pattern, recursive=True)):
             texts[path] = [strip(line, path.endswith(".rt")) for line in open(path, encoding="utf-8").read().split("\n")]
-    said = "".join(open(path, encoding="utf-8").read() for path in ("docs/PROVED.md", "README.md"))
+    said = "".join(open(path, encoding="utf-8").read() for path in ("docs/PROVED.md", "docs/CHANGING.md", "README.md"))
     names = list(unnamed(texts, said))
     idle = [f"tests/dead.py: {name} is kept, and is not dead" for name in KEPT if name not in dict(names)]
     return [line for name, line in names if name not in KEPT] + idle + [*unused(texts), *alone(texts, said)]

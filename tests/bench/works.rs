@@ -155,6 +155,15 @@ fn duplication(n: usize, leaves: usize) -> Work {
     work("duplication", book, cue)
 }
 
+/// The root of a long cue rewritten n times: turn(s(a), b, c) becomes turn(a, b, s(c)). The most of the words, b, stands between the two ends of the
+/// rule's sides, which differ, so all of them are written anew; above 2,048 words there is no room beside them.
+fn root(label: &str, n: usize, leaves: usize) -> Work {
+    let (z, s, p, turn) = (0, 1, 2, 3);
+    let book = write(&[(0, &[]), (1, &[]), (2, &[]), (3, &[0])], &[(&[turn, s, A, B, C], &[turn, A, B, s, C])]);
+    let cue = [vec![turn], nest(s, n, &[z]), balanced(p, leaves, &[vec![z]]), vec![z]].concat();
+    work(label, book, cue)
+}
+
 /// Rounds that keep a long argument as it is. The order has it evaluated in each round, or not.
 fn kept(label: &str, order: &[usize], n: usize, leaves: usize) -> Work {
     let (z, s, p, run) = (0, 1, 2, 3);
@@ -282,6 +291,8 @@ pub fn all() -> Vec<Work> {
         late("128 rules, 60 names", 12),
         one_name("120 rules of one name", 15),
         lists("eager lists", 50),
+        root("root of 1,900", 200, 849),
+        root("root of 3,900", 200, 1849),
         kept("kept argument, 3,511", &[1, 0], 500, 1756),
         kept("the same, evaluated", &[1, 2, 0], 50, 1756),
         kept_twice("two of 2,019, evaluated", 50, 1010),

@@ -9,7 +9,6 @@ use lib.ListN.{length, set}
 use Rattle.reader.specs.declared.Shape.{Shape}
 use Rattle.system.specs.System.{System}
 use Rattle.system.specs.Terms.{WellFormed}
-use Rattle.system.specs.Limits.{termWords}
 use Rattle.reader.specs.Book.{systemOf, Accepted}
 use Rattle.layout.proofs.Books.{well}
 use Rattle.matching.specs.Matching.{Contraction}
