@@ -44,7 +44,11 @@ pub fn first_match(book: &[u16], ws: &[u16]) -> Match
 {
     let s = scan_book(book);
     if s.answer.number != TAKEN {
-        return rules::no_match();
+        return Match {
+            rule: FirstRule::Nothing,
+            starts: [0; VARIABLES],
+            lengths: [0; VARIABLES],
+        };
     }
     rules::first_rule(book, s.shape, ws)
 }

@@ -5,12 +5,14 @@ ghost use lib.ListN.{length, getD, take, drop};
 ghost use Rattle.system.specs.Limits.{variable, variables};
 ghost use Rattle.system.specs.Signature.{signatureOf};
 ghost use Rattle.reader.specs.Book.{systemOf, Accepted};
+ghost use Rattle.matching.specs.declared.FirstRule.the-variants.{First};
 ghost use Rattle.matching.specs.Matching.{sameWords};
-ghost use Rattle.matching.specs.Bindings.{consumed, taken, withBinding, noMatch, matchComputed, matchOf};
+ghost use Rattle.matching.specs.Bindings.{consumed, taken, withBinding, matchComputed, matchOf};
 ghost use Rattle.matching.specs.rules.Searches.{stretches, Within};
 use crate::FirstRule;
 use crate::Match;
 use crate::operators::computed;
+use layout::rules::RuleSpan;
 use layout::rules::rule_at;
 use reader::Shape;
 use system::built_ins::LITERAL;
@@ -112,14 +114,14 @@ fn bind(
     n
 }
 
-// No rule matches.
-pub fn no_match() -> Match
-    ensures { λ r. ⌜ r ≡ noMatch ⌝ }
+// A listed rule: its number, and where its right side stands.
+fn listed(number: usize, r: RuleSpan) -> FirstRule
+    ensures { λ a. ⌜ a ≡ First number (r .rhs) (r .size) ⌝ }
 {
-    Match {
-        rule: FirstRule::Nothing,
-        starts: [0; VARIABLES],
-        lengths: [0; VARIABLES],
+    FirstRule::First {
+        number,
+        rhs: r.rhs,
+        size: r.size,
     }
 }
 
@@ -144,7 +146,9 @@ pub fn first_rule(book: &[u16], shape: Shape, ws: &[u16]) -> Match
     if LITERAL <= wide(word_of(ws, 0)) {
         return computed_match(ws);
     }
-    let mut found = no_match();
+    let mut found = FirstRule::Nothing;
+    let mut starts = [0usize; VARIABLES];
+    let mut lengths = [0usize; VARIABLES];
     let mut k = 0;
     let mut at = shape.first_rule;
     'rules: while k < shape.rules {
@@ -169,16 +173,14 @@ pub fn first_rule(book: &[u16], shape: Shape, ws: &[u16]) -> Match
             q += n;
             j += 1;
         }
-        found = Match {
-            rule: FirstRule::First {
-                number: this,
-                rhs: r.rhs,
-                size: r.size,
-            },
-            starts: s,
-            lengths: l,
-        };
+        found = listed(this, r);
+        starts = s;
+        lengths = l;
         break 'rules;
     }
-    found
+    Match {
+        rule: found,
+        starts: starts,
+        lengths: lengths,
+    }
 }

@@ -8,11 +8,11 @@ use lib.ListN.{length, getD, drop, length-drop}
 use Rattle.reader.specs.declared.Shape.{Shape}
 use Rattle.system.specs.System.{Rule, rule}
 use Rattle.system.specs.Signature.{signatureOf}
-use Rattle.matching.specs.declared.Match.{Match}
-use Rattle.matching.specs.declared.FirstRule.the-variants.{First}
+use Rattle.matching.specs.declared.FirstRule.{FirstRule}
+use Rattle.matching.specs.declared.FirstRule.the-variants.{Nothing, First}
 use Rattle.layout.specs.declared.rules.RuleSpan.{RuleSpan}
 use Rattle.reader.specs.Book.{systemOf, Accepted}
-use Rattle.matching.specs.Bindings.{Bindings, noBindings, consumed, taken, withBinding, bindings, noMatch, matchFrom, matchListed}
+use Rattle.matching.specs.Bindings.{Bindings, noBindings, consumed, taken, withBinding, bindings, matchFrom, matchListed}
 use Rattle.matching.specs.rules.Searches.{stretches, Within}
 use Rattle.layout.proofs.Books.{Rest, Here, Turn, signature, rule-count, first-index, first-rest}
 use Rattle.matching.proofs.Stretches.{within-none}
@@ -21,9 +21,11 @@ use Rattle.matching.proofs.rules.MatchSteps.{taken-some, taken-first}
 use Rattle.matching.proofs.rules.MatchSteps.{words-end, words-stop, words-next, rules-end, rules-next, rules-here}
 
 -- no rule before number k matched
-pub record Searched (b : List ℕ) (sh : Shape) (ws : List ℕ) (found : Match) (k at : ℕ) : Type 0 where
+pub record Searched (b : List ℕ) (sh : Shape) (ws : List ℕ) (found : FirstRule) (starts lengths : List ℕ) (k at : ℕ) : Type 0 where
   pub inside : k ≤ sh .rules
-  pub none-found : found ≡ noMatch
+  pub none-found : found ≡ Nothing
+  pub no-starts : starts ≡ noBindings .starts
+  pub no-lengths : lengths ≡ noBindings .lengths
   pub rest : Rest b k at
   pub goes : matchFrom (signatureOf b) (drop k (systemOf b .rules)) k at ws ≡ matchListed (systemOf b) ws
 
@@ -41,12 +43,14 @@ module _ {b : List ℕ} {sh : Shape} (acc : Accepted b sh) where
   unfolding matchListed
   match-start ws = rw (first-index b sh acc, ← signature b sh acc)
 
-  pub search-starts : (ws : List ℕ) {found : Match} → found ≡ noMatch → Searched b sh ws found 0 (sh .«first_rule»)
-  search-starts ws e = record { inside = omega arith; none-found = e; rest = first-rest b sh acc; goes = match-start ws }
+  pub search-starts : (ws : List ℕ) → Searched b sh ws Nothing (noBindings .starts) (noBindings .lengths) 0 (sh .«first_rule»)
+  search-starts ws = record { inside = omega arith; none-found = refl; no-starts = refl; no-lengths = refl; rest = first-rest b sh acc; goes = match-start ws }
 
-  pub search-ends : {ws : List ℕ} {found : Match} {k at : ℕ} → Searched b sh ws found k at → sh .rules ≤ k → found ≡ matchListed (systemOf b) ws
+  pub search-ends : {ws : List ℕ} {found : FirstRule} {starts lengths : List ℕ} {k at : ℕ} → Searched b sh ws found starts lengths k at → sh .rules ≤ k →
+      record { rule = found; starts = starts; lengths = lengths } ≡ matchListed (systemOf b) ws
   search-ends {ws} {k} {at} so h =
-      so .none-found ∙ sym (rules-end (signatureOf b) (systemOf b .rules) k at ws (omega (arith, rule-count b sh acc))) ∙ so .goes
+      rw (so .none-found, so .no-starts, so .no-lengths)
+      (sym (rules-end (signatureOf b) (systemOf b .rules) k at ws (omega (arith, rule-count b sh acc))) ∙ so .goes)
 
 module _ {b : List ℕ} {sh : Shape} {k at : ℕ} {p : RuleSpan} (t : Turn b sh k at p) where
   abbrev h : Here b k at p
@@ -98,18 +102,20 @@ module _ {b : List ℕ} {sh : Shape} {k at : ℕ} {p : RuleSpan} (t : Turn b sh 
 
   -- ---- the rules
 
-  module _ {ws : List ℕ} {found : Match} (so : Searched b sh ws found k at) where
+  module _ {ws : List ℕ} {found : FirstRule} {starts lengths : List ℕ} (so : Searched b sh ws found starts lengths k at) where
     -- the rule was given up
-    pub given-up : bindings (signatureOf b) ws (r .lhs) 0 noBindings ≡ none → Searched b sh ws found (k + 1) (p .next)
+    pub given-up : bindings (signatureOf b) ws (r .lhs) 0 noBindings ≡ none → Searched b sh ws found starts lengths (k + 1) (p .next)
     given-up e = record {
       inside = (let l = t .inside in omega arith);
       none-found = so .none-found;
+      no-starts = so .no-starts;
+      no-lengths = so .no-lengths;
       rest = h .rest;
       goes = sym (rules-next (signatureOf b) (systemOf b .rules) k at ws (t .more) e (p .next) (h .next)) ∙ so .goes;
     }
 
     -- at its first word
-    pub root-differs : {n : ℕ} → n ≡ consumed (signatureOf b) (getD b (p .lhs) 0) ws → n ≡ 0 → Searched b sh ws found (k + 1) (p .next)
+    pub root-differs : {n : ℕ} → n ≡ consumed (signatureOf b) (getD b (p .lhs) 0) ws → n ≡ 0 → Searched b sh ws found starts lengths (k + 1) (p .next)
     root-differs {n} e z =
         given-up (words-stop (signatureOf b) ws (r .lhs) 0 0 noBindings (let w = h .some in omega (arith, h .width)) (getD b (p .lhs) 0) (h .head) n
         (e ∙ sym (taken-first (signatureOf b) ws (getD b (p .lhs) 0) 0)) z)
@@ -119,7 +125,7 @@ module _ {b : List ℕ} {sh : Shape} {k at : ℕ} {p : RuleSpan} (t : Turn b sh 
       x = record { starts = s; lengths = l }
 
       -- all words of the left side are matched
-      pub matches-here : p .width ≤ j → record { rule = First k (p .rhs) (p .size); starts = s; lengths = l } ≡ matchListed (systemOf b) ws
-      matches-here e =
-          rw (h .right, h .size)
+      pub matches-here : {f : FirstRule} → f ≡ First k (p .rhs) (p .size) → p .width ≤ j → record { rule = f; starts = s; lengths = l } ≡ matchListed (systemOf b) ws
+      matches-here is e =
+          rw (is, h .right, h .size)
           (sym (rules-here (signatureOf b) (systemOf b .rules) k at ws (t .more) x (walk-ends wo e)) ∙ so .goes)

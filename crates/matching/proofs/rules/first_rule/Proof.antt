@@ -15,16 +15,16 @@ use Rattle.matching.proofs.rules.first_rule.Statement.{statement}
 use Rattle.matching.proofs.rules.first_rule.Tie as tie
 
 abbrev Inv-words : tie.InvT-words
-Inv-words book shape ws found k at this r lhs width s₀ l₀ j₀ q₀ s l j q = Walked book ws this width j q s l
+Inv-words book shape ws found starts lengths k at this r lhs width s₀ l₀ j₀ q₀ s l j q = Walked book ws this width j q s l
 
 abbrev μ-words : tie.MeasureT-words
-μ-words book shape ws found k at this r lhs width s₀ l₀ j₀ q₀ s l j q = width - j
+μ-words book shape ws found starts lengths k at this r lhs width s₀ l₀ j₀ q₀ s l j q = width - j
 
 abbrev Inv-rules : tie.InvT-rules
-Inv-rules book shape ws found₀ k₀ at₀ found k at = Searched book shape ws found k at
+Inv-rules book shape ws found₀ starts₀ lengths₀ k₀ at₀ found starts lengths k at = Searched book shape ws found starts lengths k at
 
 abbrev μ-rules : tie.MeasureT-rules
-μ-rules book shape ws found₀ k₀ at₀ found k at = shape .rules - k
+μ-rules book shape ws found₀ starts₀ lengths₀ k₀ at₀ found starts lengths k at = shape .rules - k
 
 -- ---- the places of the code that are behind others: the entry, the head of the rules' loop, the rule read, the word met
 
@@ -32,7 +32,7 @@ abbrev start : tie.After-wide Inv-words μ-words Inv-rules μ-rules → tie.Star
 start c = c .before .before .before .before
 
 abbrev entry : tie.At-rules Inv-words μ-words Inv-rules μ-rules → tie.Start Inv-words μ-words Inv-rules μ-rules
-entry c = start (c .before .before .before)
+entry c = start (c .before .before)
 
 abbrev head : tie.After-rule-at Inv-words μ-words Inv-rules μ-rules → tie.At-rules Inv-words μ-words Inv-rules μ-rules
 head c = c .before .before .before
@@ -57,7 +57,7 @@ first c = c .wide .ensures .0 ∙ c .before .word-of .ensures
 all-listed : (c : tie.At-rules Inv-words μ-words Inv-rules μ-rules) →
     let a = entry c .args in matchListed (systemOf (a .book .now)) (a .ws .now) ≡ matchOf (systemOf (a .book .now)) (a .ws .now)
 all-listed c =
-    let e = c .before .before in
+    let e = c .before in
     let a = entry c .args in
     let is = first (e .before) in
     match-low (a .book .now) (a .shape) (entry c .pre) (a .ws .now) (let l = e .if1 .left in omega arith)
@@ -82,7 +82,8 @@ returns c =
     c .computed-match .ensures ∙ match-high (a .book .now) (a .shape) (s .pre) (a .ws .now) (let h = t .if1 .taken in omega arith)
 
 rules-holds : tie.Need-rules-holds Inv-words μ-words Inv-rules μ-rules
-rules-holds c = let s = start (c .before .before) in search-starts (s .pre) (s .args .ws .now) (c .no-match .ensures)
+unfolding noBindings
+rules-holds c = let s = start (c .before) in search-starts (s .pre) (s .args .ws .now)
 
 rule-at-requires : tie.Need-rule-at-requires Inv-words μ-words Inv-rules μ-rules
 rule-at-requires c κs = let h = c .before .before in room (entry h .pre) (c .if2 .taken) (h .rules .inv .rest)
@@ -150,14 +151,15 @@ returns-2 c = let h = c .before .before in search-ends (entry h .pre) (h .rules 
 
 returns-3 : tie.Need-returns-3 Inv-words μ-words Inv-rules μ-rules
 returns-3 c =
-    let r = read (c .before) in
-    matches-here (turn r) (head r .rules .inv) (c .before .words .inv) (c .words-test .left) ∙ all-listed (head r)
+    let w = c .before in
+    let r = read (w .before) in
+    matches-here (turn r) (head r .rules .inv) (w .before .words .inv) (c .listed .ensures) (w .words-test .left) ∙ all-listed (head r)
 
 pub first-rule-spec : {M : Type 1} → statement M
 first-rule-spec =
     tie.close
     (tie.spec
-    Inv-words μ-words Inv-rules μ-rules (λ c κs. search needs) (λ c κs. search needs) (λ c κs. search needs) returns (λ c κs. search needs) rules-holds
+    Inv-words μ-words Inv-rules μ-rules (λ c κs. search needs) (λ c κs. search needs) (λ c κs. search needs) returns rules-holds
     rule-at-requires (λ c. search needs) mul-consumed shared-slice-read-consumed (λ c κs. search needs) (λ c. search needs) rules-again words-holds
     slice-aggregate-bind slice-aggregate-bind-2 add-bind mul-bind shared-slice-read-bind bind-requires (λ c. search needs) rules-again-2 add-q
-    (λ c. search needs) (λ c. search needs) words-again returns-2 returns-3)
+    (λ c. search needs) (λ c. search needs) words-again (λ c κs. search needs) returns-2 returns-3)
