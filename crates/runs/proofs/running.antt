@@ -2,5 +2,6 @@
 pub mod Running
 pub mod Rounds
 pub mod Steps
+pub mod Moved
 pub mod Onward
 pub mod Again

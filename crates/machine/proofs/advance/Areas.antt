@@ -13,7 +13,6 @@ use Rattle.rows.specs.declared.gap.Gap.{Gap}
 use Rattle.rows.specs.Rows.{countsAt, termIn}
 use Rattle.rows.proofs.lengths.Measures.{measured-counts, term-counts}
 use Rattle.rewriting.specs.Machine.{position}
-use Rattle.reducts.specs.putting.Replaced.{Kept}
 use Rattle.redexes.specs.search.Redexes.{bindingWords}
 use Rattle.machine.specs.advance.Area.{baseOf, outerIn, countIn, lastWords, Stands, Valid, Positioned, Represents, frameWords, Tracks}
 
@@ -120,25 +119,6 @@ tracks-base h = h .positioned 0 (omega arith)
 
 pub tracks-first : {s : System} {ws frame : List ℕ} {gap : Gap} {base level : ℕ} → Tracks s ws frame gap base level → Tracks s ws frame gap (baseOf frame) level
 tracks-first {s} {ws} {frame} {gap} {base} {level} h = subst (λ y. Tracks s ws frame gap y level) (sym (tracks-base h)) h
-
--- where the term and the words behind the rows stay, the state does, wherever the gap moved to
-pub tracks-kept : {s : System} {ws frame : List ℕ} {gap : Gap} {base level : ℕ} {gap′ : Gap} {ws′ : List ℕ} → Tracks s ws frame gap base level →
-    Kept (s .arities) ws (termIn ws gap) gap′ ws′ → Tracks s ws′ frame gap′ base level
-tracks-kept {s} {ws} {frame} {gap} {base} {level} {gap′} {ws′} h k =
-    let eo : outerIn ws level ≡ outerIn ws′ level = sym (ap (take level) (k .counts)) in
-    let ec : countIn ws level ≡ countIn ws′ level = sym (sym (getD-drop countsAt ws′ level 0) ∙ ap (λ y. getD y level 0) (k .counts) ∙ getD-drop countsAt ws level 0) in
-    let et : termIn ws gap ≡ termIn ws′ gap′ = sym (k .term) in
-    record {
-      represents = record {
-        total = k .total;
-        measured = k .measured;
-        valid = subst (λ y. Valid s y base (outerIn ws′ level) (countIn ws′ level)) et
-            (subst (λ y. Valid s (termIn ws gap) base y (countIn ws′ level)) eo (subst (λ y. Valid s (termIn ws gap) base (outerIn ws level) y) ec (h .represents .valid)));
-        levels = ap length (sym eo) ∙ h .represents .levels;
-      };
-      slots = h .slots;
-      positioned = subst (λ y. Positioned s y base (outerIn ws′ level) frame) et (subst (λ y. Positioned s (termIn ws gap) base y frame) eo (h .positioned));
-    }
 
 -- ---- a frame whose bindings may have changed: the positions stay
 

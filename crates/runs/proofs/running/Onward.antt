@@ -23,7 +23,7 @@ use Rattle.rewriting.proofs.Laws.{position-le}
 use Rattle.rewriting.proofs.Runs.{fitting-long, fitting-goes}
 use Rattle.rewriting.proofs.Ways.{way-kept}
 use Rattle.machine.specs.advance.Area.{outerIn, countIn, lastWords, Stands, Valid}
-use Rattle.machine.proofs.advance.Areas.{held-outer, held-count, holds, tracks-base, tracks-kept}
+use Rattle.machine.proofs.advance.Areas.{held-outer, held-count, holds, tracks-base}
 use Rattle.machine.proofs.advance.States.{valid-fire, valid-first, valid-within}
 use Rattle.steps.specs.steps.Raised.{wayIn}
 use Rattle.steps.specs.steps.Stepped.{here, subtermHere, Stepped, done, long, Steps}
@@ -33,6 +33,7 @@ use Rattle.records.proofs.Records.{kept-next}
 use Rattle.runs.specs.declared.running.Reached.{Reached}
 use Rattle.runs.proofs.running.Running.{limits, stepsLeft, Earlier, goal, Running, positions-kept}
 use Rattle.runs.proofs.running.Rounds.{Round, Answers, there, told, formed, soFar, few, keeps, Before}
+use Rattle.runs.proofs.running.Moved.{tracks-kept}
 use Rattle.runs.proofs.running.Steps.{s, b, t, level, outer, c, p, x, r, valid, place, after, after-is, stops, stepping}
 
 -- a pair leaves the record as long as it was
