@@ -17,7 +17,7 @@ use Rattle.system.specs.Terms.{Numbered, end, symbol, next, again, WellFormedRu
 use Rattle.reader.specs.Format.{encodeRules}
 use Rattle.system.proofs.Members.{member-getD, numbered-le}
 use Rattle.reader.proofs.Located.{RuleAt, rule-encoded}
-use Rattle.system.proofs.words.SpanSteps.{span-le}
+use Rattle.system.proofs.words.SpanSteps.{span-le, span-some}
 use Rattle.matching.specs.Matching.{sameWords, bind, Contraction, firstMatch}
 use Rattle.matching.specs.declared.Match.{Match}
 use Rattle.matching.specs.declared.FirstRule.the-variants.{Nothing, First, Computed}
@@ -96,11 +96,6 @@ module _ (t : List ℕ) where
     }
 
   module _ (g : Signature) where
-    span-some : (ws : List ℕ) → 0 < length ws → 0 < span g ws 1
-    unfolding span
-    span-some [] h = absurd (omega arith)
-    span-some (w ∷ ws) h = omega arith
-
     -- behind the last word nothing is bound
     agree-past : (l : ℕ) (ls : List ℕ) (q : ℕ) (σ : List (List ℕ)) (a : Bindings) → length t ≤ q → Agree (bind g (l ∷ ls) (drop q t) σ) (bindings g t (l ∷ ls) q a)
     agree-past l ls q σ a past =
@@ -149,12 +144,12 @@ module _ (t : List ℕ) where
               let fits : q + k ≤ length t = (let b = rw (length-drop q t) at (span-le g (drop q t) 1) in omega arith) in
               rw (
                 match-variable g (l ∷ ls) t 0 q σ (omega arith) here v (omega arith),
-                words-next g t (l ∷ ls) 0 q a (omega arith) l refl k (sym (taken-new g t l q a new ∙ consumed-variable g l (drop q t) some v)) (span-some (drop q t) some),
+                words-next g t (l ∷ ls) 0 q a (omega arith) l refl k (sym (taken-new g t l q a new ∙ consumed-variable g l (drop q t) some v)) (span-some g (drop q t) some),
                 withBinding-new l a q k v new,
                 i,
               )
               (agree nb few (q + k) fits (σ ++ take k (drop q t) ∷ []) _ (rw (length-append σ (take k (drop q t) ∷ [])) (omega arith))
-              (reads-more σ a n q k c (let z = numbered-le nb in omega arith) fits (span-some (drop q t) some) r))
+              (reads-more σ a n q k c (let z = numbered-le nb in omega arith) fits (span-some g (drop q t) some) r))
         ]
     agree (again {n} {m} {v = y} {w = l} {ws = ls} e b nb) few q h σ a c r =
         let v : variable ≤ l = omega arith in
@@ -175,7 +170,7 @@ module _ (t : List ℕ) where
                     let z : sameWords (getD σ (l - variable) []) (take k (drop q t)) ≡ true = rw s (same-self (take k (drop q t))) in
                     rw (
                       match-again g (l ∷ ls) t 0 q σ (omega arith) here v known s,
-                      words-next g t (l ∷ ls) 0 q a (omega arith) l refl k (sym (taken-again g t l q a v old (like ∙ z) ∙ takes)) (span-some (drop q t) some),
+                      words-next g t (l ∷ ls) 0 q a (omega arith) l refl k (sym (taken-again g t l q a v old (like ∙ z) ∙ takes)) (span-some g (drop q t) some),
                       withBinding-old l a q k v old,
                     )
                     (agree nb few (q + k) fits σ a c r)

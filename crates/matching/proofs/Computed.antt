@@ -10,7 +10,6 @@ use mathlib.Core.Option.{Option, none, some}
 use mathlib.Core.List.{List, [], _∷_, _++_}
 use lib.ListN.{length, getD, List·getD-append}
 use borrow.Author.Tests.{eq-eqb, ne-eqb}
-use Rattle.system.specs.Limits.{variable}
 use Rattle.system.specs.BuiltIns.{literal, literals, maximum, minimum, square, lastBuiltIn, isLiteral, larger, smaller, squareLaw}
 use Rattle.system.specs.Signature.{Signature, Symbol, arity}
 use Rattle.system.specs.System.{Rule, head}
@@ -261,13 +260,13 @@ module _ (g : Signature) (few : length g ≤ literal) where
 
 -- ---- what is computed is a literal
 
-pub computed-value : (ws : List ℕ) {x : Computation} → computed ws ≡ some x → x .word < variable
-computed-value ws {x} e = go (operates ws x e)
+pub computed-literal : (ws : List ℕ) {x : Computation} → computed ws ≡ some x → (literal ≤ x .word) × (x .word < literal + literals)
+computed-literal ws {x} e = go (operates ws x e)
   where
-    word : {k v : ℕ} → x ≡ record { number = k; word = literal + v } → v < literals → x .word < variable
-    word q h = rw (ap (λ y. y .word) q) (omega arith)
+    word : {k v : ℕ} → x ≡ record { number = k; word = literal + v } → v < literals → (literal ≤ x .word) × (x .word < literal + literals)
+    word q h = rw (ap (λ y. y .word) q) (omega arith, omega arith)
 
-    go : Found ws x → x .word < variable
+    go : Found ws x → (literal ≤ x .word) × (x .word < literal + literals)
     go (by-max q u v e) = word e (larger-below _ _ literals (number-of _ u .1) (number-of _ v .1))
     go (by-min q u v e) = word e (smaller-below _ _ literals (number-of _ u .1) (number-of _ v .1))
     go (by-square q u e) = word e (square-below _ (number-of _ u .1))

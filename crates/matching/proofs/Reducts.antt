@@ -12,6 +12,7 @@ use lib.Seq.{drop-cons}
 use borrow.Author.Tests.{lt-ltb, le-ltb}
 use Rattle.reader.specs.declared.Shape.{Shape}
 use Rattle.system.specs.Limits.{variable}
+use Rattle.system.specs.BuiltIns.{literal, literals}
 use Rattle.system.specs.System.{System, Rule, rule, instance}
 use Rattle.system.specs.Rules.{RuleOf, listed, builtIn}
 use Rattle.system.specs.Terms.{Whole, WellFormedRule}
@@ -26,7 +27,7 @@ use Rattle.matching.specs.Matching.{FirstMatch, Matches, bind, Contracti
 use Rattle.matching.specs.Bindings.{Bindings, matchListed, matchOf, value, bindingsOf, contractionOf}
 use Rattle.matching.specs.rules.Searches.{reductLength, Within}
 use Rattle.matching.proofs.Matched.{instance-nil, instance-symbol, instance-variable, instance-cong, instance-ground, bind-sound}
-use Rattle.matching.proofs.Computed.{Redex, computed-built, computed-rest, computed-value}
+use Rattle.matching.proofs.Computed.{Redex, computed-built, computed-rest, computed-literal}
 use Rattle.matching.proofs.Firsts.{contraction-rest, fired, unfired}
 use Rattle.matching.proofs.Stretches.{value-length}
 use Rattle.matching.proofs.BindingsAgree.{Chosen}
@@ -112,8 +113,8 @@ module _ (b : List ℕ) (sh : Shape) (acc : Accepted b sh) where
     match-word f = sym match-redex ∙ rw (f, contractionOf)
 
     -- what a built-in rule puts there is a literal
-    pub match-value : {k w : ℕ} → m .rule ≡ Computed k w → w < variable
-    match-value f = computed-value ws (match-computed b sh acc ws (ap (λ y. y .rule) (sym e) ∙ f) .1)
+    pub match-literal : {k w : ℕ} → m .rule ≡ Computed k w → (literal ≤ w) × (w < literal + literals)
+    match-literal f = computed-literal ws (match-computed b sh acc ws (ap (λ y. y .rule) (sym e) ∙ f) .1)
 
   -- ---- over a whole subterm u, wherever it stands: a ++ (u ++ d), and ws the words from it on
 

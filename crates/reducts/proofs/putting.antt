@@ -11,3 +11,4 @@ pub mod Writables
 pub mod Crowds
 -- And then the term stands there in which it is put
 pub mod Puts
+pub mod Edges

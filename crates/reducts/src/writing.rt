@@ -6,6 +6,7 @@ ghost use Rattle.system.specs.Signature.{signatureOf};
 ghost use Rattle.rows.specs.lengths.Written.{Written};
 ghost use Rattle.reducts.specs.sides.Sides.{stretchesIn};
 ghost use Rattle.reducts.specs.writing.Reduct.{stretchAt, Writable, reduct};
+use rows::gap::Gap;
 use rows::lengths::copy;
 use rows::lengths::push;
 use system::limits::VARIABLE;
@@ -31,28 +32,28 @@ pub fn stretch_at(source: Source, i: usize) -> usize
     source.later + i
 }
 
-// Writes the reduct before the words from `back` on: the words of the side, each variable filled with its stretch. That of variable v starts at
-// the word of the redex that word v of the bindings tells, and has as many words as word 16 + v tells.
+// Writes the reduct right before the gap: the words of the side, each variable filled with its stretch. That of variable v starts at the word of
+// the redex that word v of the bindings tells, and has as many words as word 16 + v tells.
 pub fn write_reduct(
     book: &[u16],
     side: &[u16],
     area: &mut [u16],
-    back: usize,
+    gap: Gap,
     bindings: &[u16],
     source: Source,
 ) -> usize
-    requires { ⌜ Writable (signatureOf (now book)) (now side) (now area) back (stretchesIn (now bindings)) source ⌝ }
-    ensures { λ r. ⌜ Written (signatureOf (now (book .entry))) (now (area .entry)) back (now (area .exit)) r
+    requires { ⌜ Writable (signatureOf (now book)) (now side) (now area) gap (stretchesIn (now bindings)) source ⌝ }
+    ensures { λ r. ⌜ Written (signatureOf (now (book .entry))) (now (area .entry)) gap (gap .front) (now (area .exit)) r
         (reduct (now (side .entry)) (stretchesIn (now (bindings .entry))) source (now (area .entry))) ⌝ }
 {
-    let mut to = back;
+    let mut to = gap.front;
     let mut j = side.len();
     while 0 < j {
         j -= 1;
         let w = side[j];
         let v = wide(w);
         if v < VARIABLE {
-            to = push(book, area, to, w);
+            to = push(book, area, gap, to, w);
         } else {
             let from = stretch_at(source, wide(bindings[v - VARIABLE]));
             let n = wide(bindings[VARIABLES + (v - VARIABLE)]);

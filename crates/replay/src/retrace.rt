@@ -149,11 +149,11 @@ pub fn retrace(
     requires { ⌜ Runnable (now book) shape (now term) (now area) ⌝ }
     ensures { λ r. ⌜ Retraces (replay (systemOf (now (book .entry))) (now («record» .entry)) (start (now (term .entry)))) r (now (area .exit)) ⌝ }
 {
-    let laid = lay(book, area, term);
+    let back = lay(book, area, term);
     let mut index = [0u16; INDEX];
     build_index(book, shape, &mut index);
     let mut f = Finger {
-        gap: laid,
+        gap: Gap { front: 0, back },
         level: 0,
         at: 0,
     };

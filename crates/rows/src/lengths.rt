@@ -8,11 +8,13 @@ ghost use Rattle.buffers.specs.moves.Parts.{part};
 ghost use Rattle.system.specs.Limits.{termWords};
 ghost use Rattle.system.specs.Signature.{Signature, span};
 ghost use Rattle.system.specs.Signature.{signatureOf};
+ghost use Rattle.rows.specs.declared.gap.Gap.{Gap};
 ghost use Rattle.rows.specs.Rows.{countsAt, termIn, Gapped};
-ghost use Rattle.rows.specs.gap.Gaps.{wordsIn, behind};
-ghost use Rattle.rows.specs.lengths.Lengthened.{Lengthened};
+ghost use Rattle.rows.specs.gap.Gaps.{wordsIn, behind, even};
 ghost use Rattle.rows.specs.Measured.{Measured};
-ghost use Rattle.rows.specs.lengths.Written.{Written, Copyable, Apart, Laid};
+ghost use Rattle.rows.specs.lengths.Later.{MeasuredFrom, Onward};
+ghost use Rattle.rows.specs.lengths.Lengthened.{Lengthened};
+ghost use Rattle.rows.specs.lengths.Written.{Written, Copyable, Laid};
 use crate::gap::Gap;
 use crate::gap::length_at;
 use crate::gap::words;
@@ -27,7 +29,8 @@ pub const COUNTS: usize = 2 * TERM_WORDS;
 // Where k subterms end of which the first starts at `from`: one read for each.
 pub fn hop(area: &[u16], gap: Gap, from: usize, k: usize) -> usize
     requires { ⌜ Gapped (now area) gap × (from ≤ wordsIn gap) ⌝ }
-    ensures { λ r. ⌜ ((g : Signature) → Measured g (now (area .entry)) gap → r ≡ from + span g (drop from (termIn (now (area .entry)) gap)) k) ⌝ }
+    ensures { λ r. ⌜ ((g : Signature) → MeasuredFrom g (now (area .entry)) gap from →
+        r ≡ from + span g (drop from (termIn (now (area .entry)) gap)) k) ⌝ }
 {
     let n = words(gap);
     let mut at = from;
@@ -42,15 +45,16 @@ pub fn hop(area: &[u16], gap: Gap, from: usize, k: usize) -> usize
     at
 }
 
-// Puts a word before those from `back` on, and beside it its length: its own word and its arguments', which stand there.
-pub fn push(book: &[u16], area: &mut [u16], back: usize, w: u16) -> usize
-    requires { ⌜ Measured (signatureOf (now book)) (now area) (behind back) × (0 < back) ⌝ }
-    ensures { λ r. ⌜ Written (signatureOf (now (book .entry))) (now (area .entry)) back (now (area .exit)) r (w ∷ []) ⌝ }
+// Puts a word before those from `to` on, which stand before the gap and behind it, and beside it its length: its own word and its arguments', which
+// stand there.
+pub fn push(book: &[u16], area: &mut [u16], gap: Gap, to: usize, w: u16) -> usize
+    requires { ⌜ Onward (signatureOf (now book)) (now area) gap to × (0 < to) ⌝ }
+    ensures { λ r. ⌜ Written (signatureOf (now (book .entry))) (now (area .entry)) gap to (now (area .exit)) r (w ∷ []) ⌝ }
 {
-    let at = back - 1;
-    let end = hop(area, Gap { front: 0, back }, 0, arity(book, w));
+    let at = to - 1;
+    let end = hop(area, gap, to, arity(book, w));
     area[at] = w;
-    area[TERM_WORDS + at] = (end + 1) as u16;
+    area[TERM_WORDS + at] = (end - at) as u16;
     at
 }
 
@@ -65,40 +69,43 @@ pub fn push_length(book: &[u16], area: &mut [u16], back: usize) -> usize
     at
 }
 
-// Puts the n words from `from` on before those from `back` on, the last first. They stand behind those that are written.
-pub fn push_all(book: &[u16], area: &mut [u16], back: usize, from: usize, n: usize) -> usize
-    requires { ⌜ Measured (signatureOf (now book)) (now area) (behind back) × (n ≤ back) × Apart (now area) back from n ⌝ }
-    ensures { λ r. ⌜ Written (signatureOf (now (book .entry))) (now (area .entry)) back (now (area .exit)) r (part from n (now (area .entry))) ⌝ }
+// Puts the n words from `from` on, which stand behind both rows, at the end of the first, the last first.
+fn push_all(book: &[u16], area: &mut [u16], from: usize, n: usize) -> usize
+    requires { ⌜ (n ≤ termWords) × (countsAt ≤ from) × (from + n ≤ length (now area)) ⌝ }
+    ensures { λ r. ⌜ Written (signatureOf (now (book .entry))) (now (area .entry)) (even termWords) termWords (now (area .exit)) r
+        (part from n (now (area .entry))) ⌝ }
 {
-    let mut at = back;
+    let gap = Gap {
+        front: TERM_WORDS,
+        back: TERM_WORDS,
+    };
+    let mut at = TERM_WORDS;
     let mut i = n;
     while 0 < i {
         i -= 1;
         let w = area[from + i];
-        at = push(book, area, at, w);
+        at = push(book, area, gap, at, w);
     }
     at
 }
 
-// Copies n words of the term, and the lengths beside them, before those from `back` on.
-pub fn copy(area: &mut [u16], back: usize, from: usize, n: usize) -> usize
-    requires { ⌜ Gapped (now area) (behind back) × (n ≤ back) × (from + n ≤ termWords) ⌝ }
-    ensures { λ r. ⌜ ((g : Signature) → Copyable g (now (area .entry)) back from n →
-        Written g (now (area .entry)) back (now (area .exit)) r (part from n (now (area .entry)))) ⌝ }
+// Copies n words of the first row, and the lengths beside them, before those from `to` on.
+pub fn copy(area: &mut [u16], to: usize, from: usize, n: usize) -> usize
+    requires { ⌜ (countsAt ≤ length (now area)) × (to ≤ termWords) × (n ≤ to) × (from + n ≤ termWords) ⌝ }
+    ensures { λ r. ⌜ ((g : Signature) (gap : Gap) → Copyable g (now (area .entry)) gap to from n →
+        Written g (now (area .entry)) gap to (now (area .exit)) r (part from n (now (area .entry)))) ⌝ }
 {
-    let to = back - n;
-    move_words(area, from, to, n);
-    move_words(area, TERM_WORDS + from, TERM_WORDS + to, n);
-    to
+    let at = to - n;
+    move_words(area, from, at, n);
+    move_words(area, TERM_WORDS + from, TERM_WORDS + at, n);
+    at
 }
 
-// The first pass: writes a term at the end of its row, and its lengths. All words of the area may change.
-pub fn lay(book: &[u16], area: &mut [u16], term: &[u16]) -> Gap
+// The first pass: writes a term at the end of its row, and its lengths, and tells where it starts. All words of the area may change.
+pub fn lay(book: &[u16], area: &mut [u16], term: &[u16]) -> usize
     requires { ⌜ (length (now term) ≤ termWords) × (countsAt + termWords ≤ length (now area)) ⌝ }
-    ensures { λ r. ⌜ Laid (signatureOf (now (book .entry))) (now (term .entry)) (length (now (area .entry))) (now (area .exit)) r ⌝ }
+    ensures { λ r. ⌜ Laid (signatureOf (now (book .entry))) (now (term .entry)) (length (now (area .entry))) (now (area .exit)) (behind r) ⌝ }
 {
-    let n = term.len();
     copy_in(area, COUNTS, term);
-    let back = push_all(book, area, TERM_WORDS, COUNTS, n);
-    Gap { front: 0, back }
+    push_all(book, area, COUNTS, term.len())
 }

@@ -51,7 +51,8 @@ pub fn run(
     let mut index = [0u16; INDEX];
     build_index(book, shape, &mut index);
     let mut frame = [0u16; FRAME];
-    let gap = lay(book, area, term);
+    let back = lay(book, area, term);
+    let gap = Gap { front: 0, back };
     area[COUNTS] = 0;
     let state = State { gap, level: 0 };
     let from = From {

@@ -6,6 +6,7 @@ use redexes::search::Redex;
 use reducts::putting::Reduced;
 use reducts::putting::Subterm;
 use reducts::putting::put_reduct;
+use reducts::putting::put_word;
 use reducts::sides::reduct_length;
 use reducts::sides::shared_end;
 use rows::gap::Gap;
@@ -38,9 +39,8 @@ pub fn rewrite(
     let at = site.at;
     let width = site.width;
     if MAX_RULES <= m.number {
-        let side = [m.word; 1];
         let u = Subterm { level, at, width };
-        return put_reduct(book, &side, area, gap, u, bindings);
+        return put_word(area, gap, u, m.word);
     }
     let r = rule_at(book, wide(index[RULE_STARTS + m.number]));
     let lhs = r.lhs;

@@ -9,7 +9,11 @@ use Rattle.reducts.specs.declared.putting.Subterm.{Subterm}
 abbrev pub gapSize : Gap → ℕ
 gapSize gap = gap .back - gap .front
 
--- both in place
+-- both in place, behind the gap
+abbrev pub placedBehind : Gap → Subterm → Source
+placedBehind gap u = record { base = gap .back; end = u .width; later = gap .back }
+
+-- or before it and, what follows u, behind it
 abbrev pub placed : Gap → Subterm → Source
 placed gap u = record { base = u .at; end = u .width; later = u .at + gapSize gap }
 

@@ -13,7 +13,7 @@ use Rattle.system.specs.Signature.{Signature}
 use Rattle.system.specs.System.{instance}
 use Rattle.rows.specs.declared.gap.Gap.{Gap}
 use Rattle.rows.specs.Rows.{countsAt, termIn}
-use Rattle.rows.specs.gap.Gaps.{behind}
+use Rattle.rows.specs.gap.Gaps.{behind, even}
 use Rattle.rows.specs.Measured.{Measured}
 use Rattle.rows.specs.lengths.Written.{Written}
 use Rattle.rows.specs.lengths.Lengthened.{Lengthened}
@@ -49,7 +49,7 @@ module _ {g : Signature} {side ws : List ℕ} {gap : Gap} {u : Subterm} {c : Str
   to = gap .back - k
 
   size : to + length new ≡ gap .back
-  size = let z = reduct-counted p (q .stand) in let r = q .room in omega arith
+  size = let z = reduct-counted p in let r = q .room in omega arith
 
   module _ {ws₁ : List ℕ} (e₁ : ws₁ ≡ over ws base (part (u .at) (u .width) ws)) where
     -- ---- the first pass
@@ -125,7 +125,7 @@ module _ {g : Signature} {side ws : List ℕ} {gap : Gap} {u : Subterm} {c : Str
             let s = size in
             let l = length-sets ws base ls in
             ap (take k) (over-behind (lengthsAside ws u) to new (omega arith))
-            ∙ take-at new (drop (to + length new) (lengthsAside ws u)) k (reduct-counted p (q .stand))
+            ∙ take-at new (drop (to + length new) (lengthsAside ws u)) k (reduct-counted p)
 
         -- ---- the second pass
 
@@ -138,7 +138,7 @@ module _ {g : Signature} {side ws : List ℕ} {gap : Gap} {u : Subterm} {c : Str
             let stand = q .stand in
             let long = aside-total in
             let s = size in
-            let n = reduct-counted p (q .stand) in
+            let n = reduct-counted p in
             let l = length-sets ws base ls in
             record {
               passable = record {
@@ -161,10 +161,10 @@ module _ {g : Signature} {side ws : List ℕ} {gap : Gap} {u : Subterm} {c : Str
             }
 
         pub crowded-written : {ws₄ : List ℕ} {r : ℕ} → r + k ≡ gap .back → Lengthened g ws₃ (gap .back) ws₄ r →
-            Written g (lengthsAside ws u) (gap .back) ws₄ r new
+            Written g (lengthsAside ws u) (even (gap .back)) (gap .back) ws₄ r new
         crowded-written {ws₄} {r} e v =
             let room = q .room in
             let here : r ≡ to = omega arith in
-            subst (λ b. Written g (lengthsAside ws u) (gap .back) ws₄ b new) (sym here)
+            subst (λ b. Written g (lengthsAside ws u) (even (gap .back)) (gap .back) ws₄ b new) (sym here)
             (written-lengthened aside-measured to new size (subst (λ b. Lengthened g (over (lengthsAside ws u) to new) (gap .back) ws₄ b) here
             (subst (λ z. Lengthened g z (gap .back) ws₄ r) aside v)))

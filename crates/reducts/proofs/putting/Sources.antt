@@ -24,10 +24,58 @@ use Rattle.reducts.specs.crowded.Passes.{Beyond, Told}
 use Rattle.reducts.specs.putting.Replaced.{filling, Filled, Puttable, lengthsAside}
 use Rattle.reducts.proofs.Overs.{over-read, part-part}
 use Rattle.reducts.proofs.writing.Places.{stretch-before, stretch-later}
-use Rattle.reducts.proofs.putting.Asides.{gapSize, placed, wordsAway, lengthsAway}
+use Rattle.reducts.proofs.putting.Asides.{gapSize, placedBehind, placed, wordsAway, lengthsAway}
 use Rattle.reducts.proofs.putting.Standing.{Standing, stands-before, stands-behind, standing-whole, standing-told, standing-lengths}
 
--- ---- the stretch of one variable, the gap being behind the words of u
+-- ---- the stretch of one variable
+
+module _ {g : Signature} {side ws : List ℕ} {gap : Gap} {u : Subterm} {c : Stretches} (p : Puttable g side ws gap u c) (v : ℕ) (member : Member (variable + v) side) where
+  abbrev f₀ : Filled g (termIn ws gap) u c v
+  f₀ = p .filled v member
+
+  abbrev start₀ : ℕ
+  start₀ = getD (c .starts) v 0
+
+  abbrev n₀ : ℕ
+  n₀ = getD (c .lengths) v 0
+
+  -- it ends in the term
+  inside₀ : u .at + start₀ + n₀ ≤ wordsIn gap
+  inside₀ = let z = closed-length ws gap (p .measured .gapped) in let y = f₀ .within in omega arith
+
+  pub filling-length : length (filling (termIn ws gap) u c v) ≡ n₀
+  filling-length = length-part (u .at + start₀) n₀ (termIn ws gap) (f₀ .within)
+
+  pub filling-small : n₀ ≤ termWords
+  filling-small = let low = p .measured .gapped .lies .low in let high = p .measured .gapped .lies .high in let z = inside₀ in omega arith
+
+  -- ---- the gap being before the words of u
+
+  module _ (stand : u .at ≡ gap .front) where
+    stretch-behind : stretchAt (placedBehind gap u) start₀ ≡ gap .back + start₀
+    stretch-behind = elim (decLt start₀ (u .width)) [
+      | yes h ↦ stretch-before (placedBehind gap u) start₀ h
+      | no h ↦ stretch-later (placedBehind gap u) start₀ (omega arith)
+    ]
+
+    stands-there : Standing ws gap (stretchAt (placedBehind gap u) start₀) (u .at + start₀) n₀
+    stands-there =
+        let low = p .measured .gapped .lies .low in
+        let e : u .at + start₀ + gapSize gap ≡ gap .back + start₀ = omega arith in
+        subst (λ i. Standing ws gap i (u .at + start₀) n₀) (e ∙ sym stretch-behind)
+        (stands-behind (p .measured .gapped) (u .at + start₀) n₀ (omega arith) inside₀)
+
+    pub read-behind : stretch ws c (placedBehind gap u) v ≡ filling (termIn ws gap) u c v
+    read-behind = stands-there .words
+
+    pub unwritten-behind : (k : ℕ) → k ≤ gapSize gap → Unwritten g ws (u .at + k - k) (u .at + k) (stretchAt (placedBehind gap u) start₀) n₀
+    unwritten-behind k few = record {
+      whole = standing-whole (p .measured) stands-there (f₀ .whole);
+      lengths = standing-lengths (p .measured) stands-there (f₀ .whole) inside₀;
+      apart = inr (let low = p .measured .gapped .lies .low in let high = p .measured .gapped .lies .high in let e = stretch-behind in let z = inside₀ in (omega arith, omega arith));
+    }
+
+-- ---- the same, the gap being behind the words of u
 
 module _ {g : Signature} {side ws : List ℕ} {gap : Gap} {u : Subterm} {c : Stretches} (p : Puttable g side ws gap u c) (stand : u .at + u .width ≡ gap .front)
     (v : ℕ) (member : Member (variable + v) side) where
@@ -40,15 +88,8 @@ module _ {g : Signature} {side ws : List ℕ} {gap : Gap} {u : Subterm} {c : Str
   abbrev n : ℕ
   n = getD (c .lengths) v 0
 
-  -- it ends in the term
   inside : u .at + start + n ≤ wordsIn gap
-  inside = let z = closed-length ws gap (p .measured .gapped) in let y = f .within in omega arith
-
-  pub filling-length : length (filling (termIn ws gap) u c v) ≡ n
-  filling-length = length-part (u .at + start) n (termIn ws gap) (f .within)
-
-  pub filling-small : n ≤ termWords
-  filling-small = let low = p .measured .gapped .lies .low in let high = p .measured .gapped .lies .high in let z = inside in omega arith
+  inside = inside₀ p v member
 
   -- among the words of u, or behind them
   either : ((start < u .width) × (start + n ≤ u .width)) ⊎ (u .width ≤ start)

@@ -1,4 +1,4 @@
--- What is not written over where words are written before those behind a gap: a stretch before them, and one behind the gap.
+-- What is not written over where words are written right before a gap: a stretch before them, and one behind them, in the gap too.
 use Prim.Native.Nat.{ℕ, _+_, _-_, _≤_}
 use native.Mathlib.Omega.{arith}
 use mathlib.Core.Path.{_≡_, sym, ap, _∙_, subst}
@@ -11,13 +11,11 @@ use Rattle.buffers.proofs.Over.{length-part}
 use Rattle.system.specs.Limits.{termWords}
 use Rattle.system.specs.Signature.{Signature}
 use Rattle.system.specs.Terms.{Whole}
-use Rattle.rows.specs.Rows.{wordRow, lengthRow}
-use Rattle.rows.specs.gap.Gaps.{behind}
+use Rattle.rows.specs.declared.gap.Gap.{Gap}
+use Rattle.rows.specs.Rows.{wordRow, lengthRow, Gapped}
 use Rattle.system.specs.Spans.{spans}
-use Rattle.rows.specs.Measured.{Measured}
 use Rattle.rows.specs.lengths.Written.{Written, Copyable}
 use Rattle.rows.proofs.gap.Rows.{part-take, word-row-part, length-row-part}
-use Rattle.rows.proofs.lengths.Writes.{written-before, written-behind, written-behind-lengths}
 use Rattle.reducts.specs.writing.Reduct.{Unwritten}
 
 -- ---- a part of a list, where the list's front or its rest is the same
@@ -33,7 +31,7 @@ part-rest k a b e from n h =
 
 -- ---- in an area
 
-module _ {g : Signature} {ws ws′ : List ℕ} {b b′ : ℕ} {new : List ℕ} (m : Measured g ws (behind b)) (v : Written g ws b ws′ b′ new) (from n : ℕ) where
+module _ {g : Signature} {ws ws′ : List ℕ} {gap : Gap} {b b′ : ℕ} {new : List ℕ} (h : Gapped ws gap) (v : Written g ws gap b ws′ b′ new) (from n : ℕ) where
   abbrev SameWords : Type 0
   SameWords = part from n ws′ ≡ part from n ws
 
@@ -47,19 +45,19 @@ module _ {g : Signature} {ws ws′ : List ℕ} {b b′ : ℕ} {new : List ℕ} (
   lengths-row h e = sym (length-row-part ws′ from n h) ∙ e ∙ length-row-part ws from n h
 
   pub before-within : from + n ≤ b′ → from + n ≤ termWords
-  before-within h = let z = m .gapped .lies .high in let y = written-before v in omega arith
+  before-within k = let z = h .lies .high in let y = h .lies .low in let x = v .onward .before in omega arith
 
   pub kept-before : from + n ≤ b′ → SameWords
   kept-before h = words-row (before-within h) (part-front b′ (wordRow ws′) (wordRow ws) (v .front) from n h)
 
   pub kept-before-lengths : from + n ≤ b′ → SameLengths
-  kept-before-lengths h = lengths-row (before-within h) (part-front b′ (lengthRow ws′) (lengthRow ws) (v .lengths) from n h)
+  kept-before-lengths h = lengths-row (before-within h) (part-front b′ (lengthRow ws′) (lengthRow ws) (v .front-lengths) from n h)
 
   pub kept-behind : b ≤ from → from + n ≤ termWords → SameWords
-  kept-behind l h = words-row h (part-rest b (wordRow ws′) (wordRow ws) (written-behind v) from n l)
+  kept-behind l h = words-row h (part-rest b (wordRow ws′) (wordRow ws) (v .behind) from n l)
 
   pub kept-behind-lengths : b ≤ from → from + n ≤ termWords → SameLengths
-  kept-behind-lengths l h = lengths-row h (part-rest b (lengthRow ws′) (lengthRow ws) (written-behind-lengths v m) from n l)
+  kept-behind-lengths l h = lengths-row h (part-rest b (lengthRow ws′) (lengthRow ws) (v .behind-lengths) from n l)
 
   -- ---- a stretch that is to stay while no word before `low` is written
 
@@ -73,12 +71,12 @@ module _ {g : Signature} {ws ws′ : List ℕ} {b b′ : ℕ} {new : List ℕ} (
     unwritten-lengths : SameLengths
     unwritten-lengths = elim (s .apart) [ inl h ↦ kept-before-lengths (omega arith) | inr h ↦ kept-behind-lengths (h .0) (h .1) ]
 
-    pub unwritten-copyable : Copyable g ws′ b′ from n
+    pub unwritten-copyable : Copyable g ws′ gap b′ from n
     unwritten-copyable = record {
-      measured = v .measured;
+      onward = v .onward;
       whole = subst (Whole g) (sym unwritten-words) (s .whole);
       lengths = unwritten-lengths ∙ s .lengths ∙ ap (spans g) (sym unwritten-words);
     }
 
     pub unwritten-length : length (part from n ws′) ≡ n
-    unwritten-length = length-part from n ws′ (let z = unwritten-within in let x = m .gapped .room in let y = v .total in omega arith)
+    unwritten-length = length-part from n ws′ (let z = unwritten-within in let x = h .room in let y = v .total in omega arith)

@@ -2,7 +2,7 @@
 use Prim.Native.Nat.{ℕ, _+_, _-_, _≤_, _<_}
 use mathlib.Core.Path.{_≡_}
 use mathlib.Core.Logic.{_⊎_}
-use mathlib.Core.Bool.{true, false}
+use mathlib.Core.Bool.{Bool, true, false, cond}
 use mathlib.Core.List.{List}
 use lib.ListN.{length, getD, take, drop}
 use Rattle.buffers.specs.Words.{over}
@@ -12,11 +12,13 @@ use Rattle.system.specs.Signature.{Signature}
 use Rattle.system.specs.System.{instance}
 use Rattle.system.specs.Terms.{Whole, Member}
 use Rattle.rows.specs.declared.gap.Gap.{Gap}
-use Rattle.rows.specs.Rows.{countsAt, lengthRow, termIn, Gapped}
-use Rattle.rows.specs.gap.Gaps.{wordsIn, behind}
+use Rattle.rows.specs.Rows.{countsAt, lengthRow, termIn}
+use Rattle.rows.specs.gap.Gaps.{wordsIn, even}
+use Rattle.rows.specs.lengths.Later.{MeasuredFrom}
 use Rattle.system.specs.Spans.{spans}
 use Rattle.rows.specs.Measured.{Measured}
 use Rattle.matching.specs.rules.Searches.{reductLength}
+use Rattle.reducts.specs.declared.putting.Place.{Place}
 use Rattle.reducts.specs.declared.putting.Reduced.{Reduced}
 use Rattle.reducts.specs.declared.putting.Subterm.{Subterm}
 use Rattle.reducts.specs.sides.Sides.{Sided, Stretches}
@@ -43,6 +45,28 @@ pub record Puttable (g : Signature) (side ws : List ℕ) (gap : Gap) (u : Subter
   pub lengths : length (c .lengths) ≡ variables
   pub filled : (v : ℕ) → Member (variable + v) side → Filled g (termIn ws gap) u c v
 
+-- ---- where it is written
+
+-- the gap is brought to the first word of u, or behind the last
+abbrev pub edge : Subterm → Bool → ℕ
+edge u before = cond before (u .at) (u .at + u .width)
+
+-- then the words of u stand behind it or before it, and those of the redex in one stretch or in two; a reduct of k words is written from the first
+-- word of u on, or up to what follows them, which stays where it is; and where the gap is then
+abbrev pub placeFor : Gap → Subterm → ℕ → Bool → Place
+placeFor gap u k before =
+    cond before
+    (record {
+      gap = record { front = u .at + k; back = gap .back + u .width };
+      source = record { base = gap .back; end = u .width; later = gap .back };
+      left = record { front = u .at + k; back = gap .back + u .width };
+    })
+    (record {
+      gap = even (gap .back);
+      source = record { base = u .at; end = u .width; later = u .at + (gap .back - gap .front) };
+      left = record { front = u .at; back = gap .back - k };
+    })
+
 -- ---- row by row
 
 -- the words of u stand before the gap, and the reduct has room where they and the gap are
@@ -61,15 +85,14 @@ lengthsAside ws u = over ws (countsAt + u .level) (part (termWords + u .at) (u .
 abbrev pub spliced : List ℕ → List ℕ → Subterm → Stretches → List ℕ
 spliced side t u c = splice t (u .at) (u .width) (instance (filling t u c) side)
 
--- the area ws′ holds the term t′ in the place of t, with the gap before what was put there. The lengths of what stands behind the gap are true;
--- those before it are still those of t; the counts of `level` levels are what they were in ws, and so is what stands behind the room for the words of
--- t from `at` on that follows them
+-- the area ws′ holds the term t′ in the place of t, whose words from number `at` on were replaced; the gap is not before them. The lengths from there
+-- on are true; those before are still those of t; the counts of `level` levels are what they were in ws, and so is what stands behind the room for
+-- the words of t from `at` on that follows them
 pub record Placed (g : Signature) (ws t t′ : List ℕ) (at level : ℕ) (gap′ : Gap) (ws′ : List ℕ) : Type 0 where
-  pub front : gap′ .front ≡ at
-  pub gapped : Gapped ws′ gap′
+  pub front : at ≤ gap′ .front
   pub total : length ws′ ≡ areaWords
   pub term : termIn ws′ gap′ ≡ t′
-  pub later : Measured g ws′ (behind (gap′ .back))
+  pub later : MeasuredFrom g ws′ gap′ at
   pub before : take at (lengthRow ws′) ≡ take at (spans g t)
   pub outer : take level (drop countsAt ws′) ≡ take level (drop countsAt ws)
   pub rest : (n : ℕ) → level + (length t - at) ≤ n → drop n (drop countsAt ws′) ≡ drop n (drop countsAt ws)

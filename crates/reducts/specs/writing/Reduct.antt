@@ -11,9 +11,9 @@ use Rattle.system.specs.Limits.{maxWord, variable, variables, termWords}
 use Rattle.system.specs.Signature.{Signature}
 use Rattle.system.specs.System.{instance}
 use Rattle.system.specs.Terms.{Whole, Member}
-use Rattle.rows.specs.gap.Gaps.{behind}
+use Rattle.rows.specs.declared.gap.Gap.{Gap}
+use Rattle.rows.specs.lengths.Later.{MeasuredFrom}
 use Rattle.system.specs.Spans.{spans}
-use Rattle.rows.specs.Measured.{Measured}
 use Rattle.matching.specs.rules.Searches.{reductLength}
 use Rattle.reducts.specs.declared.writing.Source.{Source}
 use Rattle.reducts.specs.sides.Sides.{Sided, Stretches}
@@ -29,20 +29,20 @@ stretch ws c source v = part (stretchAt source (getD (c .starts) v 0)) (getD (c 
 abbrev pub reduct : List ℕ → Stretches → Source → List ℕ → List ℕ
 reduct side c source ws = instance (stretch ws c source) side
 
--- n words from `from` on, a whole subterm with true lengths, stay while words are written from `back` down to `low`
-pub record Unwritten (g : Signature) (ws : List ℕ) (low back from n : ℕ) : Type 0 where
+-- n words from `from` on, a whole subterm with true lengths, stay while words are written from `high` down to `low`
+pub record Unwritten (g : Signature) (ws : List ℕ) (low high from n : ℕ) : Type 0 where
   pub whole : Whole g (part from n ws)
   pub lengths : part (termWords + from) n ws ≡ spans g (part from n ws)
-  pub apart : (from + n ≤ low) ⊎ ((back ≤ from) × (from + n ≤ termWords))
+  pub apart : (from + n ≤ low) ⊎ ((high ≤ from) × (from + n ≤ termWords))
 
--- the reduct is to be written before the words from `back` on
-pub record Writable (g : Signature) (side ws : List ℕ) (back : ℕ) (c : Stretches) (source : Source) : Type 0 where
-  pub measured : Measured g ws (behind back)
+-- the reduct is to be written right before the gap
+pub record Writable (g : Signature) (side ws : List ℕ) (gap : Gap) (c : Stretches) (source : Source) : Type 0 where
+  pub measured : MeasuredFrom g ws gap (gap .front)
   pub sided : Sided side
   pub starts : length (c .starts) ≡ variables
   pub lengths : length (c .lengths) ≡ variables
   pub based : source .base ≤ maxWord
   pub later : source .later ≤ maxWord
-  pub room : reductLength (c .lengths) side ≤ back
+  pub room : reductLength (c .lengths) side ≤ gap .front
   pub stays : (v : ℕ) → Member (variable + v) side →
-      Unwritten g ws (back - reductLength (c .lengths) side) back (stretchAt source (getD (c .starts) v 0)) (getD (c .lengths) v 0)
+      Unwritten g ws (gap .front - reductLength (c .lengths) side) (gap .front) (stretchAt source (getD (c .starts) v 0)) (getD (c .lengths) v 0)

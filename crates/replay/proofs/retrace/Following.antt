@@ -214,7 +214,7 @@ module _ (c : Chosen) where
       next-few = subst (λ z. length z ≤ termWords) here-next few
 
       pub placed-lies : Lies gap
-      placed-lies = placed .gapped .lies
+      placed-lies = placed .later .gapped .lies
 
       pub placed-words : wordsIn (k .f .gap) ≤ wordsIn gap + c .width
       placed-words = step-words (systemOf (k .book)) (wf k) v wide (y .reduct) placed

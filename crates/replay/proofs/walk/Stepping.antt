@@ -59,7 +59,7 @@ module _ (s : System) (wf : WellFormed s) {t ws : List ℕ} {f : Finger} (v : Po
     step-counts =
         let b = points-bounds s wf v in
         let fits : f .at + span (s .arities) (drop (f .at) t) 1 ≤ length t = omega (arith, points-words v, span-le (s .arities) (drop (f .at) t) 1, length-drop (f .at) t) in
-        let n : length t′ ≡ wordsIn gap = ap length (sym (placed .term)) ∙ words-length (placed .gapped) in
+        let n : length t′ ≡ wordsIn gap = ap length (sym (placed .term)) ∙ words-length (placed .later .gapped) in
         omega (arith, n, points-words v, wide, replace-length (s .arities) t u (f .at) fits)
 
     pub step-words : wordsIn (f .gap) ≤ wordsIn gap + width

@@ -12,15 +12,16 @@ use Rattle.system.specs.Limits.{termWords}
 use Rattle.system.specs.Signature.{Signature, arity, span}
 use Rattle.system.specs.Spans.{spans}
 use Rattle.system.specs.Terms.{Whole}
+use Rattle.system.proofs.words.SpanSteps.{span-le}
 use Rattle.system.proofs.Spans.{spans-length, spans-drop, spans-word, spans-stretch}
 use Rattle.rows.specs.Rows.{countsAt, wordRow, lengthRow, Gapped, closed, termIn}
-use Rattle.rows.specs.gap.Gaps.{behind}
+use Rattle.rows.specs.gap.Gaps.{behind, even}
 use Rattle.rows.specs.Measured.{Measured}
 use Rattle.rows.specs.lengths.Written.{Written}
 use Rattle.rows.specs.lengths.Lengthened.{Lengthened}
 use Rattle.rows.proofs.gap.Rows.{word-row-length, length-row-length, word-row-at, word-row-part, word-over-row, length-over-row}
 use Rattle.rows.proofs.lengths.Measures.{row-behind, words-length}
-use Rattle.rows.proofs.lengths.Writes.{over-behind, written-over}
+use Rattle.rows.proofs.lengths.Writes.{over-behind, written-over, behind-onward, onward-term}
 
 -- words written over a list, and then others right before them
 pub over-before : (l : List ℕ) (i : ℕ) (xs : List ℕ) (j : ℕ) (ys : List ℕ) → i + length xs ≡ j → over (over l j ys) i xs ≡ over l i (xs ++ ys)
@@ -113,6 +114,13 @@ module _ {g : Signature} {ws ws′ : List ℕ} {b b′ : ℕ} (room : countsAt �
 
 module _ {g : Signature} {ws : List ℕ} {back : ℕ} (m : Measured g ws (behind back)) (at k end : ℕ) (counts : k ≡ arity g (getD ws at 0))
     (ends : end ≡ 0 + span g (drop 0 (termIn ws (behind back))) k) where
+  pub length-small : end + back ≤ termWords
+  length-small =
+      let x = span-le g (termIn ws (behind back)) k in
+      let y = words-length (m .gapped) in
+      let z = m .gapped .lies .high in
+      omega arith
+
   pub lengthened-word : at + 1 ≡ back → Lengthened g ws back (set ws (termWords + at) (end + 1)) at
   lengthened-word e =
       let t = termIn ws (behind back) in
@@ -164,18 +172,19 @@ module _ {g : Signature} {ws : List ℕ} {back : ℕ} (m : Measured g ws (behind
             ∙ ap (spans g) (row-behind back (wordRow ws) ∙ sym same ∙ sym (row-behind back (wordRow (over ws to new))));
       }
 
-  pub written-lengthened : {ws′ : List ℕ} → Lengthened g (over ws to new) back ws′ to → Written g ws back ws′ to new
+  pub written-lengthened : {ws′ : List ℕ} → Lengthened g (over ws to new) back ws′ to → Written g ws (even back) back ws′ to new
   written-lengthened {ws′} v =
-      let t = termIn ws (behind back) in
+      let o = behind-onward m in
+      let t = drop back (termIn ws (even back)) in
       let ws₁ = over ws to new in
       let s = spans g (new ++ t) in
       let n : back - to ≡ length new = omega arith in
       let whole : termIn ws₁ (behind to) ≡ new ++ t =
       row-behind to (wordRow ws₁) ∙ ap (drop to) over-words ∙ over-behind (wordRow ws) to new (let z = word-row-length ws room in omega arith)
-      ∙ ap (λ b. new ++ drop b (wordRow ws)) size ∙ ap (λ z. new ++ z) (sym (row-behind back (wordRow ws))) in
+      ∙ ap (λ b. new ++ drop b (wordRow ws)) size ∙ ap (λ z. new ++ z) (sym (row-behind back (wordRow ws)) ∙ onward-term o) in
       let told : take (back - to) (spans g (termIn ws₁ (behind to))) ≡ take (length new) s = (λ i. take (n i) (spans g (whole i))) in
       let rest : spans g t ≡ drop (length new) s = ap (spans g) (sym (drop-append-seam new t)) ∙ spans-drop g (new ++ t) (length new) in
       let long : length (take (length new) s) ≡ length new =
       length-take-le (length new) s (let z = spans-length g (new ++ t) in let y = length-append new t in omega arith) in
-      subst (λ z. Written g ws back z to new) (sym (v .area ∙ ap (over ws₁ (termWords + to)) told))
-      (written-over ws to new (take (length new) s) long (omega arith) room size m (ap (λ z. take (length new) s ++ z) rest ∙ take-append-drop (length new) s))
+      subst (λ z. Written g ws (even back) back z to new) (sym (v .area ∙ ap (over ws₁ (termWords + to)) told))
+      (written-over ws to new (take (length new) s) long (omega arith) room size o (ap (λ z. take (length new) s ++ z) rest ∙ take-append-drop (length new) s))

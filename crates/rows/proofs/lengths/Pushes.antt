@@ -1,8 +1,7 @@
--- Words put one by one before those behind a gap, the last first: what the loop of `lengths::push_all` keeps, and its turns.
+-- Words put one by one at the end of the row, the last first: what the loop of `lengths::push_all` keeps, and its turns.
 use Prim.Native.Nat.{ℕ, suc, _+_, _-_, _≤_, _<_}
 use native.Mathlib.Omega.{arith}
 use mathlib.Core.Path.{_≡_, sym, ap, _∙_, subst}
-use mathlib.Core.Logic.{inl, inr}
 use mathlib.Core.List.{List, [], _∷_}
 use lib.ListN.{length, getD, drop, length-drop, drop-of-length-le}
 use lib.Seq.{drop-cons, getD-take, getD-drop}
@@ -10,62 +9,50 @@ use Rattle.buffers.specs.moves.Parts.{part}
 use Rattle.buffers.proofs.Over.{length-part}
 use Rattle.system.specs.Limits.{termWords}
 use Rattle.system.specs.Signature.{Signature}
-use Rattle.rows.specs.Rows.{countsAt, wordRow}
-use Rattle.rows.specs.gap.Gaps.{behind}
-use Rattle.rows.specs.Measured.{Measured}
-use Rattle.rows.specs.lengths.Written.{Written, Apart}
-use Rattle.rows.proofs.lengths.Writes.{written-none, written-then, written-behind}
+use Rattle.rows.specs.Rows.{countsAt}
+use Rattle.rows.specs.gap.Gaps.{even}
+use Rattle.rows.specs.lengths.Written.{Written}
+use Rattle.rows.proofs.lengths.Writes.{onward-end, written-none, written-then}
 
--- what is behind the gap or behind both rows is read as before
-module _ {g : Signature} {ws ws′ : List ℕ} {b b′ : ℕ} {new : List ℕ} (v : Written g ws b ws′ b′ new) where
-  pub written-read : (j : ℕ) → b ≤ j → j < termWords → getD ws′ j 0 ≡ getD ws j 0
-  written-read j l h =
-      let e : b + (j - b) ≡ j = omega arith in
-      let read : (row : List ℕ) → getD (drop b (wordRow row)) (j - b) 0 ≡ getD row j 0 =
-      λ row. getD-drop b (wordRow row) (j - b) 0 ∙ ap (λ k. getD (wordRow row) k 0) e ∙ getD-take termWords row j 0 h in
-      sym (read ws′) ∙ ap (λ z. getD z (j - b) 0) (written-behind v) ∙ read ws
+-- words put at the end of the row
+abbrev pub Ended : Signature → List ℕ → List ℕ → ℕ → List ℕ → Type 0
+Ended g ws ws′ at new = Written g ws (even termWords) termWords ws′ at new
 
-  pub written-read-on : (j : ℕ) → countsAt ≤ j → getD ws′ j 0 ≡ getD ws j 0
-  written-read-on j l =
-      let e : countsAt + (j - countsAt) ≡ j = omega arith in
-      let read : (row : List ℕ) → getD (drop countsAt row) (j - countsAt) 0 ≡ getD row j 0 =
-      λ row. getD-drop countsAt row (j - countsAt) 0 ∙ ap (λ k. getD row k 0) e in
-      sym (read ws′) ∙ ap (λ z. getD z (j - countsAt) 0) (v .counts) ∙ read ws
-
--- all but the first i of the words are written
-pub record Pushing (g : Signature) (ws : List ℕ) (back from n : ℕ) (ws′ : List ℕ) (at i : ℕ) : Type 0 where
+-- all but the first i of the words are
+pub record Pushing (g : Signature) (ws : List ℕ) (from n : ℕ) (ws′ : List ℕ) (at i : ℕ) : Type 0 where
   pub within : i ≤ n
-  pub written : Written g ws back ws′ at (drop i (part from n ws))
+  pub written : Ended g ws ws′ at (drop i (part from n ws))
 
-module _ {g : Signature} (ws : List ℕ) (back from n : ℕ) (m : Measured g ws (behind back)) (apart : Apart ws back from n) where
+module _ (g : Signature) (ws : List ℕ) (from n : ℕ) (later : countsAt ≤ from) (fits : from + n ≤ length ws) where
   abbrev words : List ℕ
   words = part from n ws
 
   words-long : length words ≡ n
-  words-long = length-part from n ws (apart .fits)
+  words-long = length-part from n ws fits
 
-  pub pushing-first : Pushing g ws back from n ws back n
+  pub pushing-first : Pushing g ws from n ws termWords n
   pushing-first = record {
     within = omega arith;
-    written = subst (Written g ws back ws back) (sym (drop-of-length-le words {i = n} (let z = words-long in omega arith))) (written-none m);
+    written = subst (Ended g ws ws termWords) (sym (drop-of-length-le words {i = n} (let z = words-long in omega arith)))
+        (written-none (onward-end ws (omega arith)));
   }
 
-  module _ {ws′ : List ℕ} {at i : ℕ} (v : Pushing g ws back from n ws′ at i) where
-    pub pushing-room : at + (n - i) ≡ back
+  module _ {ws′ : List ℕ} {at i : ℕ} (v : Pushing g ws from n ws′ at i) where
+    pub pushing-room : at + (n - i) ≡ termWords
     pushing-room = let x = v .written .size in let y = length-drop i words in let z = words-long in omega arith
 
-    pub pushing-last : i ≤ 0 → Written g ws back ws′ at (part from n ws)
-    pushing-last l = subst (λ k. Written g ws back ws′ at (drop k words)) (let e : i ≡ 0 = omega arith in e) (v .written)
+    pub pushing-last : i ≤ 0 → Ended g ws ws′ at (part from n ws)
+    pushing-last l = subst (λ k. Ended g ws ws′ at (drop k words)) (let e : i ≡ 0 = omega arith in e) (v .written)
 
     module _ (some : 0 < i) where
+      -- what is behind both rows is read as before
       kept : getD ws′ (from + (i - 1)) 0 ≡ getD ws (from + (i - 1)) 0
-      kept =
-          let l = v .within in
-          let b = apart .later in
-          elim (apart .either) [
-            | inl h ↦ written-read (v .written) (from + (i - 1)) (omega arith) (omega arith)
-            | inr h ↦ written-read-on (v .written) (from + (i - 1)) (omega arith)
-          ]
+      kept = sym (read ws′) ∙ ap (λ z. getD z (from + (i - 1) - countsAt) 0) (v .written .counts) ∙ read ws
+        where
+          read : (row : List ℕ) → getD (drop countsAt row) (from + (i - 1) - countsAt) 0 ≡ getD row (from + (i - 1)) 0
+          read row =
+              let e : countsAt + (from + (i - 1) - countsAt) ≡ from + (i - 1) = omega arith in
+              getD-drop countsAt row (from + (i - 1) - countsAt) 0 ∙ ap (λ k. getD row k 0) e
 
       word : getD ws′ (from + (i - 1)) 0 ∷ drop i words ≡ drop (i - 1) words
       word =
@@ -74,8 +61,9 @@ module _ {g : Signature} (ws : List ℕ) (back from n : ℕ) (m : Measured g ws 
           let x : getD words (i - 1) 0 ≡ getD ws (from + (i - 1)) 0 = getD-take n (drop from ws) (i - 1) 0 (omega arith) ∙ getD-drop from ws (i - 1) 0 in
           sym (drop-cons words (i - 1) 0 (let z = words-long in omega arith) ∙ (λ j. (x ∙ sym kept) j ∷ drop (e j) words))
 
-      pub pushing-next : {ws″ : List ℕ} {at′ : ℕ} → Written g ws′ at ws″ at′ (getD ws′ (from + (i - 1)) 0 ∷ []) → Pushing g ws back from n ws″ at′ (i - 1)
+      pub pushing-next : {ws″ : List ℕ} {at′ : ℕ} → Written g ws′ (even termWords) at ws″ at′ (getD ws′ (from + (i - 1)) 0 ∷ []) →
+          Pushing g ws from n ws″ at′ (i - 1)
       pushing-next {ws″} {at′} u = record {
         within = let l = v .within in omega arith;
-        written = subst (Written g ws back ws″ at′) word (written-then (v .written) u);
+        written = subst (Ended g ws ws″ at′) word (written-then (v .written) u);
       }

@@ -20,6 +20,10 @@ slotOf g i = cond (ltb i (g .front)) i (i + (g .back - g .front))
 abbrev pub behind : ℕ → Gap
 behind b = record { front = 0; back = b }
 
+-- one of no words
+abbrev pub even : ℕ → Gap
+even b = record { front = b; back = b }
+
 -- a gap moved to word `to`: the term stays as it is, and so do the lengths and the third row
 pub record Moved (ws : List ℕ) (g : Gap) (to : ℕ) (g′ : Gap) (ws′ : List ℕ) : Type 0 where
   pub front : g′ .front ≡ to

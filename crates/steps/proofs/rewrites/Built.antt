@@ -2,15 +2,20 @@
 use Prim.Native.Nat.{ℕ, zero, suc, _+_, _≤_, _<_}
 use native.Mathlib.Omega.{arith}
 use mathlib.Core.Path.{_≡_, refl, sym, ap, _∙_, subst}
+use mathlib.Core.Logic.{inl}
 use mathlib.Core.List.{List, [], _∷_, _++_, append-assoc}
-use lib.ListN.{length, getD, take, drop}
+use lib.ListN.{length, getD, take, drop, length-drop}
 use Rattle.system.specs.Limits.{variable, variables, termWords}
-use Rattle.system.specs.Signature.{replace}
+use Rattle.system.specs.BuiltIns.{literal, literals}
+use Rattle.system.specs.Signature.{arity, replace}
 use Rattle.system.specs.System.{System, instance}
 use Rattle.system.specs.Terms.{Member, first, later}
 use Rattle.system.specs.Signature.{signatureOf}
 use Rattle.reader.specs.Book.{systemOf}
+use Rattle.system.proofs.BuiltIns.{arity-none}
 use Rattle.system.proofs.Members.{member-nil}
+use Rattle.system.proofs.words.SpanSteps.{span-some}
+use Rattle.system.proofs.Signatures.{arity-unlisted, few-listed}
 use Rattle.layout.proofs.Books.{signature}
 use Rattle.rows.specs.declared.gap.Gap.{Gap}
 use Rattle.rows.specs.Rows.{termIn}
@@ -18,14 +23,14 @@ use Rattle.redexes.specs.declared.search.Redex.{Redex}
 use Rattle.matching.specs.declared.FirstRule.the-variants.{Computed}
 use Rattle.matching.specs.Matching.{Contraction}
 use Rattle.matching.proofs.Matched.{instance-nil, instance-symbol}
-use Rattle.matching.proofs.Reducts.{match-word, match-value}
+use Rattle.matching.proofs.Reducts.{match-word, match-literal}
 use Rattle.reducts.specs.declared.putting.Reduced.{Reduced}
 use Rattle.reducts.specs.declared.putting.Subterm.{Subterm}
 use Rattle.reducts.specs.sides.Sides.{Stretches, stretchesIn}
 use Rattle.reducts.specs.sides.Sides.{Sided}
 use Rattle.reducts.specs.putting.Replaced.{filling, Puttable, spliced, Placed, Kept, Put, fits, exceeds}
 use Rattle.steps.specs.rewrites.Rewritten.{Contracts, Reducible, rewritten, Rewrites, done, long}
-use Rattle.steps.proofs.rewrites.Redexes.{measured, words, small, ends, starts-many, lengths-many, found}
+use Rattle.steps.proofs.rewrites.Redexes.{formed, inside, measured, words, small, ends, starts-many, lengths-many, found}
 
 module _ {book index ws : List ℕ} {gap : Gap} {u : Subterm} {m : Redex} {bs : List ℕ} (asked : Reducible book index ws gap u m bs) where
   abbrev s : System
@@ -48,21 +53,33 @@ module _ {book index ws : List ℕ} {gap : Gap} {u : Subterm} {m : Redex} {bs : 
       long (subst (λ y. termWords < length y) (is x e) l) gap′ q (subst (λ y. Kept y ws t gap′ ws′) (sym (signature book (asked .shape) (asked .accepted))) h)
 
   module _ {k w : ℕ} (F : found asked .rule ≡ Computed k w) where
-    low : w < variable
-    low = match-value book (asked .shape) (asked .accepted) (drop (u .at) t) (found asked) refl F
+    is-level : (literal ≤ w) × (w < literal + literals)
+    is-level = match-literal book (asked .shape) (asked .accepted) (drop (u .at) t) (found asked) refl F
+
+    pub word-symbol : w < variable
+    word-symbol = let h = is-level in omega arith
+
+    pub word-arity : arity (signatureOf book) w ≡ 0
+    word-arity =
+        let h = is-level in
+        let n = ap length (signature book (asked .shape) (asked .accepted)) in
+        arity-unlisted (signatureOf book) w (omega (arith, few-listed s (formed asked))) ∙ arity-none w (inl (omega arith))
+
+    pub word-wide : 0 < u .width
+    word-wide = let z = span-some (s .arities) (drop (u .at) t) (omega (arith, length-drop (u .at) t, inside asked)) in omega (arith, asked .wide)
 
     sided : Sided (w ∷ [])
     sided = record { small = omega arith; known = one }
       where
         one : (j : ℕ) → j < 1 → getD (w ∷ []) j 0 < variable + variables
-        one zero h = omega (arith, low)
+        one zero h = omega (arith, word-symbol)
         one (suc j) h = absurd (omega arith)
 
     no-variable : (v : ℕ) → Member (variable + v) (w ∷ []) → ⊥
     no-variable v h = go (variable + v) refl h
       where
         go : (e : ℕ) → e ≡ variable + v → Member e (w ∷ []) → ⊥
-        go e q first = omega (arith, low)
+        go e q first = omega (arith, word-symbol)
         go e q (later h) = member-nil h
 
     pub word-puttable : Puttable (signatureOf book) (w ∷ []) ws gap u (stretchesIn bs)
@@ -81,7 +98,7 @@ module _ {book index ws : List ℕ} {gap : Gap} {u : Subterm} {m : Redex} {bs : 
     unfolding replace
     word-rewritten x c =
         let σ = filling t u (stretchesIn bs) in
-        let e : instance σ (w ∷ []) ≡ w ∷ [] = instance-symbol σ w [] low ∙ ap (λ r. w ∷ r) (instance-nil σ) in
+        let e : instance σ (w ∷ []) ≡ w ∷ [] = instance-symbol σ w [] word-symbol ∙ ap (λ r. w ∷ r) (instance-nil σ) in
         let y = match-word book (asked .shape) (asked .accepted) (drop (u .at) t) (found asked) refl F in
         let z : record { number = k; reduct = w ∷ [] } ≡ x = cc y in
         append-assoc (take (u .at) t) (instance σ (w ∷ [])) (drop (u .at + u .width) t)

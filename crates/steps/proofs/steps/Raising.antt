@@ -13,11 +13,11 @@ use Rattle.system.specs.System.{System}
 use Rattle.system.specs.Terms.{Whole, WellFormed}
 use Rattle.rows.specs.declared.gap.Gap.{Gap}
 use Rattle.rows.specs.Rows.{countsAt, lengthRow, closed, termIn}
-use Rattle.rows.specs.gap.Gaps.{behind}
 use Rattle.system.specs.Spans.{spans}
 use Rattle.rows.specs.Measured.{Measured}
-use Rattle.rows.proofs.gap.Rows.{length-row-at, length-set-row}
-use Rattle.rows.proofs.lengths.Measures.{row-behind, measured-join}
+use Rattle.rows.specs.lengths.Later.{MeasuredFrom}
+use Rattle.rows.proofs.gap.Rows.{length-row-at, length-row-length, length-set-row}
+use Rattle.rows.proofs.lengths.Measures.{row-rest, measured-join}
 use Rattle.reducts.specs.putting.Replaced.{Placed}
 use Rattle.rewriting.specs.Ways.{raise, Way}
 use Rattle.rewriting.proofs.Raises.{raise-none, raise-snoc, raise-append, raise-take, raise-drop}
@@ -139,29 +139,33 @@ module _ (s : System) (wf : WellFormed s) {t : List ℕ} (h : Whole (s .arities)
     pub raisable : length (replace g t p v) ≤ termWords → Raisable ws₁ ps d e
     raisable few = record {
       room = omega (arith, placed .total);
-      within = λ j l. let z = way-before w j l in let f = placed .front in let y = placed .gapped .lies in omega (arith, y .low, y .high);
+      within = λ j l. let z = way-before w j l in let f = placed .front in let y = placed .later .gapped .lies in omega (arith, y .low, y .high);
       less = λ j l. way-raise-room s wf h w (lengthRow ws₁) (placed .before) j l d e wide;
       fits = λ j l. let z = way-raise-fits s wf h w (lengthRow ws₁) (placed .before) j l d e wide v long in omega arith;
     }
 
     -- then all lengths are those of the new term
     module _ (hv : Whole g v) {ws₂ : List ℕ} (r : Raised ws₁ ps d e ws₂) where
-      abbrev b : ℕ
-      b = gap .back
-
       pub raised-term : termIn ws₂ gap ≡ replace g t p v
       raised-term = ap (closed gap) (r .words) ∙ placed .term
 
-      behind-it : Measured g ws₂ (behind b)
-      behind-it =
+      room : countsAt ≤ length ws₂
+      room = omega (arith, r .total, placed .later .gapped .room)
+
+      -- those from there on are true as they were
+      later-it : MeasuredFrom g ws₂ gap p
+      later-it =
           let m = placed .later in
-          let l = placed .gapped .lies .low in
-          let f = placed .front in
+          let low = m .gapped .lies .low in
+          let high = m .gapped .lies .high in
+          let n = length-row-length ws₁ (m .gapped .room) in
+          let n′ = length-row-length ws₂ room in
           record {
-            gapped = record { room = let z = m .gapped .room in let n = r .total in omega arith; lies = m .gapped .lies };
+            gapped = record { room = room; lies = m .gapped .lies };
             lengths =
-                row-behind b (lengthRow ws₂) ∙ ap (drop b) (r .lengths) ∙ raise-drop d e ps (lengthRow ws₁) b (λ k n. let z = way-before w k n in omega arith)
-                ∙ sym (row-behind b (lengthRow ws₁)) ∙ m .lengths ∙ ap (λ z. spans g (closed (behind b) z)) (sym (r .words));
+                row-rest gap p (placed .front) (lengthRow ws₁) (lengthRow ws₂) (omega arith) (omega arith) low
+                (ap (drop p) (r .lengths) ∙ raise-drop d e ps (lengthRow ws₁) p (way-before w))
+                ∙ m .lengths ∙ ap (λ z. spans g (drop p (closed gap z))) (sym (r .words));
           }
 
       before-it : take p (lengthRow ws₂) ≡ take p (spans g (termIn ws₂ gap))
@@ -170,6 +174,4 @@ module _ (s : System) (wf : WellFormed s) {t : List ℕ} (h : Whole (s .arities)
           ∙ (λ i. raise ps (wide i) (long i) (take p (spans g t))) ∙ sym (way-spans-front s wf h w v hv) ∙ ap (λ z. take p (spans g z)) (sym raised-term)
 
       pub raised-measured : Measured g ws₂ gap
-      raised-measured =
-          measured-join (placed .gapped .lies .low) behind-it
-          (subst (λ n. take n (lengthRow ws₂) ≡ take n (spans g (termIn ws₂ gap))) (sym (placed .front)) before-it)
+      raised-measured = measured-join (placed .front) later-it before-it

@@ -100,7 +100,7 @@ module _ (ρ : Rewrote) where
     words =
         let a = step-inside v in
         let fits : p + span g (drop p t) 1 ≤ length t = omega (arith, span-le g (drop p t) 1, length-drop p t) in
-        let n : length t′ ≡ wordsIn (ρ .gap) = ap length (sym (placed .term)) ∙ words-length (placed .gapped) in
+        let n : length t′ ≡ wordsIn (ρ .gap) = ap length (sym (placed .term)) ∙ words-length (placed .later .gapped) in
         omega (arith, n, words-length (v .tracks .represents .measured .gapped), wide, replace-length g t (x .reduct) p fits)
 
   pub step-placed : Placed g (ρ .ws) t (replace g t p (v .x .reduct)) p level (ρ .gap) (ρ .ws₁)

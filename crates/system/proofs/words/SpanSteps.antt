@@ -17,6 +17,12 @@ module _ (g : Signature) where
   span-le (w ∷ ws) zero = omega arith
   span-le (w ∷ ws) (suc k) = omega (arith, span-le ws (k + arity g w))
 
+  -- a subterm has a word
+  pub span-some : (ws : List ℕ) → 0 < length ws → 0 < span g ws 1
+  unfolding span
+  span-some [] h = absurd (omega arith)
+  span-some (w ∷ ws) h = omega arith
+
   -- where at least as many subterms are asked for as there are words, they take all of them
   pub span-all : (ws : List ℕ) (k : ℕ) → length ws ≤ k → span g ws k ≡ length ws
   unfolding span

@@ -6,6 +6,7 @@ use lib.ListN.{getD, drop, length-set}
 use borrow.Author.Needs.{needs}
 use Rattle.system.specs.Signature.{span}
 use Rattle.reader.specs.Book.{systemOf}
+use Rattle.rows.proofs.lengths.Measures.{measured-from}
 use Rattle.rows.specs.Rows.{termIn}
 use Rattle.machine.specs.advance.Area.{baseOf}
 use Rattle.machine.proofs.advance.Bounds.{Bounds, bounds}
@@ -86,7 +87,7 @@ hops c =
     let τ = taking x in
     let t = termIn (τ .ws) (τ .at .gap) in
     let i = hopped c .before .before .e .given .0 .0 in
-    c .hop .ensures (systemOf (τ .book) .arities) (τ .held .represents .measured)
+    c .hop .ensures (systemOf (τ .book) .arities) (measured-from (τ .held .represents .measured) _)
     ∙ ap (λ y. y + 1 + span (systemOf (τ .book) .arities) (drop (y + 1) t) i) (start (reached x))
 
 -- ---- the needs

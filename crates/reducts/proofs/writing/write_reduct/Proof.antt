@@ -16,10 +16,10 @@ use Rattle.reducts.proofs.writing.write_reduct.Statement.{statement}
 use Rattle.reducts.proofs.writing.write_reduct.Tie as tie
 
 abbrev Inv-loop : tie.InvT-loop
-Inv-loop book side area₀ back bindings source to₀ j₀ area to j = Writing (signatureOf book) side area₀ back (stretchesIn bindings) source area to j
+Inv-loop book side area₀ gap bindings source to₀ j₀ area to j = Writing (signatureOf book) side area₀ gap (stretchesIn bindings) source area to j
 
 abbrev μ-loop : tie.MeasureT-loop
-μ-loop book side area₀ back bindings source to₀ j₀ area to j = j
+μ-loop book side area₀ gap bindings source to₀ j₀ area to j = j
 
 -- ---- the places of the code that are behind others: the entry, the loop's head, a symbol met, a variable met, its stretch found and copied
 
@@ -66,7 +66,7 @@ push-requires : tie.Need-push-requires Inv-loop μ-loop
 push-requires c κs =
     let t = c .before in
     let h = head (t .before) in
-    (h .loop .inv .written .measured, writes-room (entry h .pre) (h .loop .inv) (some (t .before)) (small t))
+    (h .loop .inv .written .onward, writes-room (entry h .pre) (h .loop .inv) (some (t .before)) (small t))
 
 loop-again : tie.Need-loop-again Inv-loop μ-loop
 loop-again c =
@@ -122,8 +122,14 @@ copy-requires c κs =
     let v = h .loop .inv in
     let w = p .wide .result in
     let e = p .wide .ensures .0 in
-    let l = d .if1 .left in (
-      v .written .measured .gapped,
+    let l = d .if1 .left in
+    let o = v .written .onward in
+    let r = o .measured .gapped in
+    let z = r .lies .low in
+    let y = r .lies .high in
+    let b = o .before in (
+      r .room,
+      omega arith,
       variable-fits q v (some p) w e l (from-is (found n)) (long-is n),
       variable-within q v (some p) w e l (from-is (found n)) (long-is n),
     )
@@ -141,7 +147,7 @@ loop-again-2 c =
     let e = p .wide .ensures .0 in
     let l = d .if1 .left in
     let k = variable-copyable q v (some p) w e l (from-is (found n)) (long-is n) in
-    writes-variable q v (some p) w e l (from-is (found n)) (long-is n) (u .copy .ensures (signatureOf (entry h .args .book .now)) k)
+    writes-variable q v (some p) w e l (from-is (found n)) (long-is n) (u .copy .ensures (signatureOf (entry h .args .book .now)) (entry h .args .gap) k)
 
 same-length : tie.Need-same-length Inv-loop μ-loop
 same-length c = c .before .loop .inv .written .total

@@ -7,6 +7,7 @@ use lib.ListN.{length}
 use borrow.Author.Needs.{needs}
 use Rattle.reader.specs.Book.{systemOf}
 use Rattle.system.specs.Signature.{signatureOf}
+use Rattle.rows.specs.gap.Gaps.{behind}
 use Rattle.rows.specs.lengths.Written.{Laid}
 use Rattle.replay.proofs.walk.Finding.{points-in, follows-in}
 use Rattle.replay.proofs.retrace.Tracing.{Tracing, tracing-start, traces-end, traces-half, Turns, turns}
@@ -14,10 +15,10 @@ use Rattle.replay.proofs.retrace.retrace.Statement.{statement}
 use Rattle.replay.proofs.retrace.retrace.Tie as tie
 
 abbrev Inv-loop : tie.InvT-loop
-Inv-loop book shape term words area₀ index f₀ steps₀ area f steps = Tracing (systemOf book) term words area f steps
+Inv-loop book shape term words area₀ back index f₀ steps₀ area f steps = Tracing (systemOf book) term words area f steps
 
 abbrev μ-loop : tie.MeasureT-loop
-μ-loop book shape term words area₀ index f₀ steps₀ area f steps = length words - 2 * steps
+μ-loop book shape term words area₀ back index f₀ steps₀ area f steps = length words - 2 * steps
 
 -- ---- the places of the code that are behind others: the entry, the term laid, the loop's head, a pair read, followed
 
@@ -63,8 +64,8 @@ loop-holds c =
     let e = call t in
     let a = e .args in
     let ws = t .lay .last .1 .0 in
-    let l = subst (λ n. Laid (signatureOf (a .book .now)) (a .term .now) n ws (t .lay .result)) (e .pre .words) (t .lay .ensures) in
-    tracing-start (a .book .now) (a .shape) (e .pre .accepted) (a .term .now) (a .«record» .now) ws (t .lay .result) (e .pre .whole) l
+    let l = subst (λ n. Laid (signatureOf (a .book .now)) (a .term .now) n ws (behind (t .lay .result))) (e .pre .words) (t .lay .ensures) in
+    tracing-start (a .book .now) (a .shape) (e .pre .accepted) (a .term .now) (a .«record» .now) ws (behind (t .lay .result)) (e .pre .whole) l
 
 mul-loop : tie.Need-mul-loop Inv-loop μ-loop
 mul-loop c = let l = c .loop .inv .fits in search needs

@@ -18,11 +18,11 @@ entry c = c .before .before .before
 -- ---- the needs
 
 returns : tie.Need-returns
-returns c g h =
+returns c g gap h =
     let m = second c in
     let x = entry (first m) in
     let a = x .args in
-    written-copy (x .pre .1) (x .pre .2) h (first m .move-words .ensures) (m .move-words2 .ensures)
+    written-copy (x .pre .2) (x .pre .3) h (first m .move-words .ensures) (m .move-words2 .ensures)
 
 pub copy-spec : {M : Type 1} → statement M
 copy-spec =

@@ -1,6 +1,7 @@
 -- `lengths::lay` meets its contract: the term is laid into the third row, and put from there at the end of the first, word by word.
+use native.Mathlib.Omega.{arith}
 use borrow.Author.Needs.{needs}
-use Rattle.rows.proofs.lengths.Writes.{lay-measured, lay-apart, written-laid}
+use Rattle.rows.proofs.lengths.Writes.{lay-fits, written-laid}
 use Rattle.rows.proofs.lengths.lay.Statement.{statement}
 use Rattle.rows.proofs.lengths.lay.Tie as tie
 
@@ -18,11 +19,8 @@ push-all-requires : tie.Need-push-all-requires
 push-all-requires c κs =
     let k = copied c in
     let x = entry k in
-    let a = x .args in (
-      lay-measured (a .area .now) (a .term .now) (x .pre .0) (x .pre .1) (k .copy-in .ensures),
-      x .pre .0,
-      lay-apart (a .area .now) (a .term .now) (x .pre .0) (x .pre .1) (k .copy-in .ensures),
-    )
+    let a = x .args in
+    (x .pre .0, omega arith, lay-fits (a .area .now) (a .term .now) (x .pre .0) (x .pre .1) (k .copy-in .ensures))
 
 returns : tie.Need-returns
 returns c =

@@ -2,12 +2,11 @@
 use Prim.Native.Nat.{_+_, _-_, _≤_}
 use native.Mathlib.Omega.{arith}
 use mathlib.Core.Path.{_≡_}
-use lib.ListN.{getD}
 use borrow.Author.Needs.{needs}
 use Rattle.system.specs.Limits.{termWords}
 use Rattle.system.specs.Signature.{signatureOf}
-use Rattle.rows.proofs.lengths.Writes.{push-small}
-use Rattle.rows.proofs.lengths.Lengthens.{lengthened-word}
+use Rattle.rows.proofs.lengths.Measures.{measured-from}
+use Rattle.rows.proofs.lengths.Lengthens.{length-small, lengthened-word}
 use Rattle.rows.proofs.lengths.push_length.Statement.{statement}
 use Rattle.rows.proofs.lengths.push_length.Tie as tie
 
@@ -21,8 +20,8 @@ small c =
     let x = entry c in
     let a = x .args in
     let k = c .before .arity in
-    push-small (x .pre .0) (getD (a .area .now) (a .back - 1) 0) (k .result) (c .hop .result) (k .ensures .0)
-    (c .hop .ensures (signatureOf (a .book .now)) (x .pre .0))
+    length-small (x .pre .0) (a .back - 1) (k .result) (c .hop .result) (k .ensures .0)
+    (c .hop .ensures (signatureOf (a .book .now)) (measured-from (x .pre .0) 0))
 
 -- ---- the needs
 
@@ -39,7 +38,7 @@ returns c =
     let k = c .before .arity in
     let s = x .pre .1 in
     let e : (a .back - 1) + 1 ≡ a .back = omega arith in
-    (e, lengthened-word (x .pre .0) (a .back - 1) (k .result) (c .hop .result) (k .ensures .0) (c .hop .ensures (signatureOf (a .book .now)) (x .pre .0)) e)
+    (e, lengthened-word (x .pre .0) (a .back - 1) (k .result) (c .hop .result) (k .ensures .0) (c .hop .ensures (signatureOf (a .book .now)) (measured-from (x .pre .0) 0)) e)
 
 pub push-length-spec : {M : Type 1} → statement M
 push-length-spec =

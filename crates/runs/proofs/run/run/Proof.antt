@@ -9,6 +9,7 @@ use Rattle.system.specs.Limits.{areaWords}
 use Rattle.system.specs.Signature.{signatureOf}
 use Rattle.layout.proofs.Books.{signature}
 use Rattle.rows.specs.Rows.{countsAt}
+use Rattle.rows.specs.gap.Gaps.{behind}
 use Rattle.rows.specs.lengths.Written.{Laid}
 use Rattle.machine.specs.advance.Area.{baseOf, frameWords}
 use Rattle.runs.proofs.run.Ending.{Begun, startable, ends-stopped, ends-final}
@@ -42,7 +43,7 @@ begun c frame slots first most =
     let e = entry c in
     let a = e .args in
     let ws = l .lay .last .1 .0 in
-    let gap = l .lay .result in
+    let gap = behind (l .lay .result) in
     record {
       book = a .book .now;
       shape = a .shape;

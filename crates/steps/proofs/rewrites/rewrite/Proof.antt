@@ -7,12 +7,14 @@ use borrow.Author.Needs.{needs}
 use Rattle.layout.specs.index.Accepted.{RulesAt}
 use Rattle.layout.proofs.Books.{SidesAt, sides-at, room, rule-count}
 use Rattle.layout.proofs.Sizes.{book-short}
+use Rattle.system.specs.Signature.{signatureOf}
 use Rattle.rows.specs.Rows.{termIn}
+use Rattle.reducts.specs.sides.Sides.{stretchesIn}
 use Rattle.matching.specs.declared.FirstRule.the-variants.{First, Computed}
 use Rattle.redexes.proofs.search.Found.{redex-listed, redex-built}
 use Rattle.steps.proofs.rewrites.Redexes.{found, some-found}
 use Rattle.steps.proofs.rewrites.Listed.{listed-inside}
-use Rattle.steps.proofs.rewrites.Built.{word-puttable, word-rewritten, put-rewrites}
+use Rattle.steps.proofs.rewrites.Built.{word-symbol, word-arity, word-wide, word-puttable, word-rewritten, put-rewrites}
 use Rattle.steps.proofs.rewrites.Sides.{kept-sided, kept-fits, listed-puttable, listed-rewrites}
 use Rattle.steps.proofs.rewrites.rewrite.Statement.{statement}
 use Rattle.steps.proofs.rewrites.rewrite.Tie as tie
@@ -43,7 +45,7 @@ shared c = c .before .before .before
 abbrev kept : tie.After-reduct-length → tie.After-shared-end
 kept c = c .before .before
 
-abbrev put : tie.After-put-reduct2 → tie.After-reduct-length
+abbrev put : tie.After-put-reduct → tie.After-reduct-length
 put c = c .before .before .before
 
 -- a listed rule was found, whose number is that of the match
@@ -78,15 +80,20 @@ sides c = let f = read c in sides-at (listed f .pre .accepted) (inside f) (stand
 
 -- ---- the needs: a built-in rule
 
-put-reduct-requires : tie.Need-put-reduct-requires
-put-reduct-requires c κs = let f = c .before .before in word-puttable (built f .pre) (word-is f)
+put-word-requires : tie.Need-put-word-requires
+put-word-requires c κs =
+    let f = c .before in
+    let e = built f .pre in
+    ((signatureOf (built f .args .book .now), stretchesIn (built f .args .bindings .now), word-puttable e (word-is f)), word-symbol e (word-is f), word-wide e (word-is f))
 
 returns : tie.Need-returns
 returns c =
     let k = c .before .before in
-    let f = k .before .before .before in
+    let f = k .before .before in
     let e = built f in
-    put-rewrites (e .pre) _ (e .args .site .width) _ (word-rewritten (e .pre) (word-is f)) _ _ (k .put-reduct .ensures)
+    let q = word-is f in
+    put-rewrites (e .pre) _ (e .args .site .width) _ (word-rewritten (e .pre) q) _ _
+    (k .put-word .ensures (signatureOf (e .args .book .now)) (stretchesIn (e .args .bindings .now)) (word-puttable (e .pre) q) (word-arity (e .pre) q))
 
 -- ---- a listed one
 
@@ -146,8 +153,8 @@ mul-put-reduct c =
 part-put-reduct-end : tie.Need-part-put-reduct-end
 part-put-reduct-end c = let w = sides (spanned (shared (kept c))) in omega (arith, w .right-fits)
 
-put-reduct-requires-2 : tie.Need-put-reduct-requires-2
-put-reduct-requires-2 c κs =
+put-reduct-requires : tie.Need-put-reduct-requires
+put-reduct-requires c κs =
     let l = c .before .before in
     let d = kept l in
     let r = spanned (shared d) in
@@ -164,14 +171,14 @@ returns-2 c =
     let f = read r in
     let e = d .shared-end in
     listed-rewrites (listed f .pre) (rule-is f .2) (r .rule-at .result) (sides r) (e .result) (e .ensures .1) (e .ensures .2) (l .reduct-length .result) (l .reduct-length .ensures)
-    _ _ (p .put-reduct2 .ensures)
+    _ _ (p .put-reduct .ensures)
 
 pub rewrite-spec : {M : Type 1} → statement M
 rewrite-spec =
     tie.close
     (tie.spec
-    (λ c. search needs) put-reduct-requires (λ c. search needs) returns (λ c. search needs) (λ c. search needs) (λ c. search needs) (λ c κs. search needs)
+    put-word-requires (λ c. search needs) returns (λ c. search needs) (λ c. search needs) (λ c. search needs) (λ c κs. search needs)
     rule-at-requires add-past add-end mul-shared-end (λ c. search needs) (λ c. search needs) part-shared-end-end mul-shared-end-2 (λ c. search needs)
     (λ c. search needs) part-shared-end-end-2 (λ c κs. search needs) (λ c. search needs) mul-reduct-length (λ c. search needs) (λ c. search needs)
     part-reduct-length-end reduct-length-requires sub-put-reduct mul-put-reduct (λ c. search needs) (λ c. search needs) part-put-reduct-end
-    put-reduct-requires-2 (λ c. search needs) returns-2)
+    put-reduct-requires (λ c. search needs) returns-2)

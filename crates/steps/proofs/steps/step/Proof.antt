@@ -138,12 +138,12 @@ returns c =
     steps-measured (begun x .pre) (step-long (begun x .pre) (k .length-at .result) (read-is k) (rewrites x) (c .if1 .taken))
 
 words-requires : tie.Need-words-requires
-words-requires c κs = step-placed (done c) .gapped .lies
+words-requires c κs = step-placed (done c) .later .gapped .lies
 
 add-size : tie.Need-add-size
 add-size c =
     let y = c .before in
-    let z = step-placed (done y) .gapped .lies in
+    let z = step-placed (done y) .later .gapped .lies in
     omega (arith, widths (rewrote y) .length-at .ensures .1, c .words .ensures, z .low, z .high)
 
 sub-size : tie.Need-sub-size
