@@ -3,17 +3,19 @@
 ghost use mathlib.Core.Path.{_≡_};
 ghost use Prim.Native.Nat.{_+_, _-_, _≤_, _<_};
 ghost use lib.ListN.{length, getD, take, drop};
+ghost use Rattle.buffers.specs.moves.Parts.{part};
 ghost use Rattle.system.specs.Limits.{variable, variables};
 ghost use Rattle.system.specs.Signature.{Signature};
 ghost use Rattle.system.specs.Signature.{signatureOf};
 ghost use Rattle.reader.specs.Book.{systemOf, Accepted};
 ghost use Rattle.layout.specs.index.Index.{Indexed};
-ghost use Rattle.rows.specs.Rows.{termIn, Gapped};
+ghost use Rattle.rows.specs.Rows.{Lies, termIn, Gapped};
 ghost use Rattle.rows.specs.gap.Gaps.{wordsIn};
 ghost use Rattle.rows.specs.Measured.{Measured};
 ghost use Rattle.matching.specs.Matching.{sameWords, computed};
 ghost use Rattle.matching.specs.Bindings.{consumed, taken, withBinding, computedRule, matchOf};
 ghost use Rattle.matching.specs.rules.Searches.{Within};
+ghost use Rattle.redexes.specs.search.Parted.{parted};
 ghost use Rattle.redexes.specs.search.Redexes.{bindingWords, boundIn, redexFor, redexOf, Bound};
 use buffers::clear;
 use layout::index::first_of;
@@ -26,6 +28,7 @@ use matching::rules::UNNUMBERED;
 use reader::Shape;
 use rows::gap::Gap;
 use rows::gap::length_at;
+use rows::gap::slot;
 use rows::gap::word_at;
 use rows::gap::words;
 use system::built_ins::LITERAL;
@@ -106,10 +109,36 @@ fn redex_for(found: FirstRule) -> Redex
     }
 }
 
-// Whether the n words of the term from p on are those from q on; the first unequal word tells.
-fn same_at(area: &[u16], gap: Gap, p: usize, q: usize, n: usize) -> bool
+// Whether the n words of the term from p on lie on both sides of the gap.
+fn parted(gap: Gap, p: usize, n: usize) -> bool
+    requires { ⌜ Lies gap × (p + n ≤ wordsIn gap) ⌝ }
+    ensures { λ r. ⌜ r ≡ parted gap p n ⌝ }
+{
+    if gap.front <= p {
+        return false;
+    }
+    gap.front < p + n
+}
+
+// Whether n words of an area, from a on, are those from b on; the first unequal word tells.
+fn same_slots(area: &[u16], a: usize, b: usize, n: usize) -> bool
+    requires { ⌜ (a + n ≤ length (now area)) × (b + n ≤ length (now area)) ⌝ }
+    ensures { λ r. ⌜ r ≡ sameWords (part a n (now (area .entry))) (part b n (now (area .entry))) ⌝ }
+{
+    let mut k = 0;
+    while k < n {
+        if area[a + k] != area[b + k] {
+            return false;
+        }
+        k += 1;
+    }
+    true
+}
+
+// Whether the n words of the term from p on are those from q on, wherever the gap is: each word is looked for.
+fn same_around(area: &[u16], gap: Gap, p: usize, q: usize, n: usize) -> bool
     requires { ⌜ Gapped (now area) gap × (p + n ≤ wordsIn gap) × (q + n ≤ wordsIn gap) ⌝ }
-    ensures { λ r. ⌜ r ≡ sameWords (take n (drop p (termIn (now (area .entry)) gap))) (take n (drop q (termIn (now (area .entry)) gap))) ⌝ }
+    ensures { λ r. ⌜ r ≡ sameWords (part p n (termIn (now (area .entry)) gap)) (part q n (termIn (now (area .entry)) gap)) ⌝ }
 {
     let mut i = 0;
     while i < n {
@@ -119,6 +148,21 @@ fn same_at(area: &[u16], gap: Gap, p: usize, q: usize, n: usize) -> bool
         i += 1;
     }
     true
+}
+
+// Whether the n words of the term from p on are those from q on. Where the gap lies among neither, as mostly, they stand in the row one after
+// another, and no word has to be looked for.
+fn same_at(area: &[u16], gap: Gap, p: usize, q: usize, n: usize) -> bool
+    requires { ⌜ Gapped (now area) gap × (0 < n) × (p + n ≤ wordsIn gap) × (q + n ≤ wordsIn gap) ⌝ }
+    ensures { λ r. ⌜ r ≡ sameWords (take n (drop p (termIn (now (area .entry)) gap))) (take n (drop q (termIn (now (area .entry)) gap))) ⌝ }
+{
+    if parted(gap, p, n) {
+        return same_around(area, gap, p, q, n);
+    }
+    if parted(gap, q, n) {
+        return same_around(area, gap, p, q, n);
+    }
+    same_slots(area, slot(gap, p), slot(gap, q), n)
 }
 
 // How many words of the subterm word l of a left side takes, from word q of the term on; 0, and no binding, where the words are unequal. A

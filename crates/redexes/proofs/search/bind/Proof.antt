@@ -160,7 +160,8 @@ same-at-requires c κs =
     let w = word (long x) in
     let s = stretch x in
     let e = x .before .before .if4 .left in
-    (entry (met w) .pre .0 .1 .gapped, omega arith, inside (variable-met (long x)))
+    let some = variable-met (long x) .if2 .left in
+    (entry (met w) .pre .0 .1 .gapped, omega arith, omega arith, inside (variable-met (long x)))
 
 returns-5 : tie.Need-returns-5
 returns-5 c =
