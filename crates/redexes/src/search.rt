@@ -202,7 +202,7 @@ fn bind(area: &[u16], spot: Spot, bindings: &mut [u16], l: u16, q: usize) -> usi
 }
 
 // The first rule that matches the subterm there; where it is one that the book lists, its bindings are written. Only the rules in the list of
-// the subterm's first word are tried: a rule that starts with another symbol does not match.
+// the subterm's first word are tried, and of these those that start with it: a rule that starts with another symbol does not match.
 pub fn first_redex(
     book: &[u16],
     shape: Shape,
@@ -229,9 +229,13 @@ pub fn first_redex(
         let r = rule_at(book, rule_start(book, shape, index, k));
         let lhs = r.lhs;
         let width = r.width;
+        if book[lhs] != head {
+            k = next_of(book, shape, index, k);
+            continue 'rules;
+        }
         clear(bindings, 0, BINDINGS);
-        let mut j = 0;
-        let mut q = p;
+        let mut j = 1;
+        let mut q = p + 1;
         'words: while j < width {
             let n = bind(area, spot, bindings, book[lhs + j], q);
             if n == 0 {

@@ -1,5 +1,6 @@
 -- The search in the rows: what the loop over the words of a left side keeps, its turns, and the ways out of both loops.
 use Prim.Native.Nat.{ℕ, _+_, _-_, _≤_, _<_}
+use native.Mathlib.Nat.{add-zero}
 use native.Mathlib.Omega.{arith}
 use mathlib.Core.Path.{_≡_, refl, sym, ap, _∙_, subst}
 use mathlib.Core.List.{List, _++_, append-nil}
@@ -9,23 +10,29 @@ use Rattle.buffers.specs.Words.{over, zeros}
 use Rattle.buffers.proofs.Zeros.{length-zeros}
 use Rattle.reader.specs.declared.Shape.{Shape}
 use Rattle.layout.specs.declared.rules.RuleSpan.{RuleSpan}
-use Rattle.system.specs.Limits.{variables}
+use Rattle.system.specs.Limits.{variable, variables}
+use Rattle.system.specs.System.{rule, head}
+use Rattle.system.proofs.Signatures.{few-symbols}
+use Rattle.system.proofs.Forests.{forest-length}
+use Rattle.system.proofs.Rules.{listed-head}
 use Rattle.system.specs.BuiltIns.{literal}
 use Rattle.system.specs.Signature.{signatureOf}
 use Rattle.reader.specs.Book.{systemOf, Accepted}
 use Rattle.layout.specs.index.Accepted.{RulesAt}
 use Rattle.layout.specs.rules.Rules.{ruleSpan}
-use Rattle.layout.proofs.Books.{Turn}
+use Rattle.layout.proofs.Books.{Turn, well}
 use Rattle.matching.specs.declared.Match.{Match}
 use Rattle.redexes.specs.declared.search.Redex.{Redex}
 use Rattle.matching.specs.declared.FirstRule.{FirstRule}
 use Rattle.matching.specs.Matching.{computed}
-use Rattle.matching.specs.Bindings.{noBindings, taken, withBinding, computedRule, matchOf}
+use Rattle.matching.specs.Bindings.{noBindings, consumed, taken, withBinding, computedRule, matchOf}
 use Rattle.matching.specs.rules.Searches.{unnumbered}
+use Rattle.redexes.proofs.search.Binds.{symbol-bound}
 use Rattle.redexes.specs.search.Redexes.{bindingWords, boundIn, redexFor, redexOf, Bound}
 use Rattle.matching.proofs.Sources.{not-computed, match-low, match-words}
+use Rattle.matching.proofs.rules.MatchSteps.{consumed-same, taken-symbol}
 use Rattle.matching.proofs.rules.Searches.{Walked, walk-starts, walk-ends, walk-stops, walk-fits, walk-goes}
-use Rattle.matching.proofs.rules.Lists.{Fails, Along, along-ends, along-here}
+use Rattle.matching.proofs.rules.Lists.{Fails, Along, other-fails, along-ends, along-here}
 
 -- ---- the words that hold the bindings
 
@@ -98,6 +105,38 @@ module _ {b : List ℕ} {sh : Shape} {of at : ℕ} {r : RuleSpan} (turn : Turn b
             sized = e;
             walked = subst (λ q. Walked b (drop p t) of (r .width) (j + 1) q (boundIn bs′ .starts) (boundIn bs′ .lengths)) z (walk-goes turn (v .walked) here takes much (sym is));
           }
+
+-- ---- the first word of a left side, which is a symbol
+
+module _ {b : List ℕ} {sh : Shape} {of at : ℕ} {r : RuleSpan} (turn : Turn b sh of at r) (t : List ℕ) (p : ℕ) where
+  pub first-some : 0 < r .width
+  first-some = let z = forest-length (well b sh (turn .accepted) .wellFormedRules of (turn .more) .left) in omega (arith, turn .here .width)
+
+  own : getD b (r .lhs) 0 ≡ head (rule (systemOf b) of .lhs)
+  own = ap (λ i. getD b i 0) (sym (add-zero (r .lhs))) ∙ turn .here .word 0 first-some
+
+  symbol : getD b (r .lhs) 0 < variable
+  symbol =
+      let w = well b sh (turn .accepted) in
+      omega (arith, own, few-symbols (systemOf b) w, listed-head (systemOf b) w of (turn .more))
+
+  pub first-fails : (getD b (r .lhs) 0 ≡ head (drop p t) → ⊥) → Fails b (drop p t) of
+  first-fails d = other-fails (turn .accepted) (drop p t) of (turn .more) (λ e. d (own ∙ e))
+
+  -- the others are to be matched
+  pub first-goes : getD b (r .lhs) 0 ≡ head (drop p t) → p < length t → (bs : List ℕ) {bs′ : List ℕ} → length bs ≡ bindingWords →
+      bs′ ≡ over bs 0 (zeros bindingWords) → Trying b t p of (r .width) of bs′ 1 (p + 1)
+  first-goes e h bs {bs′} sized c =
+      let v = try-starts turn t p bs sized c in
+      let l = getD b (r .lhs + 0) 0 in
+      let is : l ≡ getD b (r .lhs) 0 = ap (λ i. getD b i 0) (add-zero (r .lhs)) in
+      let z : p - p ≡ 0 = omega arith in
+      let low : l < variable = (let x = symbol in omega arith) in
+      let much : 0 < length (drop p t) = (let n = length-drop p t in omega arith) in
+      let takes : 1 ≡ taken (signatureOf b) (drop p t) l (p - p) (boundIn bs′) =
+      sym (taken-symbol (signatureOf b) (drop p t) l (p - p) (boundIn bs′) low ∙ ap (λ i. consumed (signatureOf b) l (drop i (drop p t))) z
+      ∙ consumed-same (signatureOf b) l (drop p t) much low (is ∙ e)) in
+      try-goes turn t p v first-some takes (λ x. omega arith) (v .sized) (symbol-bound bs′ refl low (p - p) 1)
 
 -- ---- what is found, and what is bound then
 

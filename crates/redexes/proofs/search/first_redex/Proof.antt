@@ -16,7 +16,7 @@ use Rattle.matching.specs.Bindings.{taken}
 use Rattle.redexes.specs.search.Redexes.{boundIn}
 use Rattle.matching.proofs.rules.Lists.{along-starts, along-next}
 use Rattle.redexes.proofs.search.Taking.{word-from}
-use Rattle.redexes.proofs.search.Tries.{Searching, Trying, try-starts, try-fails, try-fits, try-goes, finds-computed, finds-nothing, finds-rule}
+use Rattle.redexes.proofs.search.Tries.{Searching, Trying, first-some, first-fails, first-goes, try-fails, try-fits, try-goes, finds-computed, finds-nothing, finds-rule}
 use borrow.Author.Needs.{needs}
 use Rattle.redexes.proofs.search.first_redex.Statement.{statement}
 use Rattle.redexes.proofs.search.first_redex.Tie as tie
@@ -47,8 +47,14 @@ entry c = start (c .before .before .before)
 abbrev head : tie.After-rule-at Inv-words μ-words Inv-rules μ-rules → tie.At-rules Inv-words μ-words Inv-rules μ-rules
 head c = c .before .before .before .before
 
+abbrev compared : tie.Else3 Inv-words μ-words Inv-rules μ-rules → tie.After-rule-at Inv-words μ-words Inv-rules μ-rules
+compared c = c .before .before
+
+abbrev alike : tie.After-slice-known2 Inv-words μ-words Inv-rules μ-rules → tie.Else3 Inv-words μ-words Inv-rules μ-rules
+alike c = c .before .before .before .before
+
 abbrev cleared : tie.After-slice-known2 Inv-words μ-words Inv-rules μ-rules → tie.After-rule-at Inv-words μ-words Inv-rules μ-rules
-cleared c = c .before .before .before .before
+cleared c = compared (alike c)
 
 abbrev met : tie.After-bind Inv-words μ-words Inv-rules μ-rules → tie.In-words Inv-words μ-words Inv-rules μ-rules
 met c = c .before .before .before
@@ -123,14 +129,60 @@ rule-start-requires c κs = let p = entry (c .before .before) .pre in (p .0, p .
 rule-at-requires : tie.Need-rule-at-requires Inv-words μ-words Inv-rules μ-rules
 rule-at-requires c κs = c .rule-start .ensures .1
 
+-- the first word of the rule's left side is compared with it
+headed : (c : tie.At-rules Inv-words μ-words Inv-rules μ-rules) →
+    c .before .before .before .before .word-at .result ≡ getD (drop (entry c .args .spot .at) (term (entry c))) 0 0
+headed c =
+    let s = entry c in
+    word-from (term s) (s .args .spot .at) 0 (s .args .spot .at) (omega arith) (c .before .before .before .before .word-at .ensures)
+
+within : (s : tie.Start Inv-words μ-words Inv-rules μ-rules) → s .args .spot .at < length (term s)
+within s = let m = s .pre .2 .gapped in let n = words-length m in let i = s .pre .3 in omega arith
+
+mul-if3 : tie.Need-mul-if3 Inv-words μ-words Inv-rules μ-rules
+mul-if3 c =
+    let w = turn c .here in
+    let g = entry (head c) .good in
+    omega arith
+
+shared-slice-read-if3 : tie.Need-shared-slice-read-if3 Inv-words μ-words Inv-rules μ-rules
+shared-slice-read-if3 c =
+    let r = c .before in
+    let s = entry (head r) in
+    let w = turn r .here in
+    let n = first-some (turn r) (term s) (s .args .spot .at) in
+    omega arith
+
+next-of-requires : tie.Need-next-of-requires Inv-words μ-words Inv-rules μ-rules
+next-of-requires c κs = let r = c .before .before in let p = entry (head r) .pre in (p .0, p .1, r .before .before .if2 .taken)
+
+rules-less : tie.Need-rules-less Inv-words μ-words Inv-rules μ-rules
+rules-less c = let l = c .next-of .ensures in let h = c .before .before .before .before .before .if2 .taken in omega arith
+
+rules-again : tie.Need-rules-again Inv-words μ-words Inv-rules μ-rules
+rules-again c =
+    let x = c .before in
+    let r = x .before .before in
+    let h = head r in
+    let s = entry h in
+    let fails = first-fails (turn r) (term s) (s .args .spot .at) (λ e. x .if3 .taken (e ∙ sym (headed h))) in
+    record {
+      sized = h .rules .inv .sized;
+      none-found = h .rules .inv .none-found;
+      along = along-next (s .pre .0) (drop (s .args .spot .at) (term s)) (h .rules .inv .along) (r .before .before .if2 .taken) fails (c .next-of .ensures .0);
+    }
+
+add-q : tie.Need-add-q Inv-words μ-words Inv-rules μ-rules
+add-q c = let s = entry (head (cleared c)) in let h = within s in let y = short s in omega arith
+
 clear-requires : tie.Need-clear-requires Inv-words μ-words Inv-rules μ-rules
-clear-requires c κs = let n = head (c .before) .rules .inv .sized in omega arith
+clear-requires c κs = let n = head (compared (c .before)) .rules .inv .sized in omega arith
 
 words-holds : tie.Need-words-holds Inv-words μ-words Inv-rules μ-rules
 words-holds c =
     let r = cleared c in
     let s = entry (head r) in
-    try-starts (turn r) (term s) (s .args .spot .at) (head r .rules .bindings) (head r .rules .inv .sized) (c .before .before .clear .ensures)
+    first-goes (turn r) (term s) (s .args .spot .at) (alike c .if3 .left ∙ headed (head r)) (within s) (head r .rules .bindings) (head r .rules .inv .sized) (c .before .before .clear .ensures)
 
 add-bind : tie.Need-add-bind Inv-words μ-words Inv-rules μ-rules
 add-bind c = let w = turn (cleared (c .before .before .before)) .here in omega arith
@@ -152,43 +204,43 @@ bind-requires c κs =
     let o = w .before .words .inv in
     ((_, entry (head r) .pre .2), o .onward, turn r .here .low (w .before .words .j) (w .words-test .taken), o .sized, o .walked .lies)
 
-next-of-requires : tie.Need-next-of-requires Inv-words μ-words Inv-rules μ-rules
-next-of-requires c κs =
+next-of-requires-2 : tie.Need-next-of-requires-2 Inv-words μ-words Inv-rules μ-rules
+next-of-requires-2 c κs =
     let k = tried (c .before) in
     let r = read k in
     let p = entry (head r) .pre in
     let e = met k .before .words .inv .same in
     (p .0, p .1, (let l = r .before .before .if2 .taken in omega arith))
 
-rules-less : tie.Need-rules-less Inv-words μ-words Inv-rules μ-rules
-rules-less c =
+rules-less-2 : tie.Need-rules-less-2 Inv-words μ-words Inv-rules μ-rules
+rules-less-2 c =
     let k = tried (c .before .before) in
     let e = met k .before .words .inv .same in
-    let l = c .next-of .ensures in
+    let l = c .next-of2 .ensures in
     let h = read k .before .before .if2 .taken in
     omega arith
 
-rules-again : tie.Need-rules-again Inv-words μ-words Inv-rules μ-rules
-rules-again c =
+rules-again-2 : tie.Need-rules-again-2 Inv-words μ-words Inv-rules μ-rules
+rules-again-2 c =
     let k = tried (c .before .before) in
     let r = read k in
     let h = head r in
     let s = entry h in
     let w = met k .before .words in
-    let fails = try-fails (turn r) (term s) (s .args .spot .at) (w .inv) (met k .words-test .taken) (took k) (c .before .if3 .taken) in
+    let fails = try-fails (turn r) (term s) (s .args .spot .at) (w .inv) (met k .words-test .taken) (took k) (c .before .if4 .taken) in
     record {
       sized = k .bind .kept .1 .1 .0 ∙ w .inv .sized;
       none-found = h .rules .inv .none-found;
-      along = along-next (s .pre .0) (drop (s .args .spot .at) (term s)) (h .rules .inv .along) (r .before .before .if2 .taken) fails (rw (w .inv .same) at (c .next-of .ensures .0));
+      along = along-next (s .pre .0) (drop (s .args .spot .at) (term s)) (h .rules .inv .along) (r .before .before .if2 .taken) fails (rw (w .inv .same) at (c .next-of2 .ensures .0));
     }
 
-add-q : tie.Need-add-q Inv-words μ-words Inv-rules μ-rules
-add-q c =
+add-q-2 : tie.Need-add-q-2 Inv-words μ-words Inv-rules μ-rules
+add-q-2 c =
     let k = tried (c .before) in
     let w = met k .before .words in
     let s = entry (head (read k)) in
     let y = short s in
-    let f = try-fits (turn (read k)) (term s) (s .args .spot .at) (w .inv) (met k .words-test .taken) (took k) (c .if3 .left) (y .0) in
+    let f = try-fits (turn (read k)) (term s) (s .args .spot .at) (w .inv) (met k .words-test .taken) (took k) (c .if4 .left) (y .0) in
     omega arith
 
 words-again : tie.Need-words-again Inv-words μ-words Inv-rules μ-rules
@@ -196,7 +248,7 @@ words-again c =
     let k = tried (c .before) in
     let s = entry (head (read k)) in
     let o = met k .before .words .inv in
-    let much = c .if3 .left in
+    let much = c .if4 .left in
     try-goes (turn (read k)) (term s) (s .args .spot .at) o (met k .words-test .taken) (took k) much (k .bind .kept .1 .1 .0 ∙ o .sized) (k .bind .ensures .1 .0 much)
 
 -- no rule of the list is left
@@ -226,6 +278,6 @@ first-redex-spec =
     tie.close
     (tie.spec
     Inv-words μ-words Inv-rules μ-rules word-at-requires (λ c κs. search needs) computed-at-requires (λ c κs. search needs) returns
-    first-of-requires rules-holds rule-start-requires rule-at-requires clear-requires words-holds add-bind mul-bind shared-slice-read-bind
-    bind-requires next-of-requires rules-less rules-again add-q (λ c. search needs)
+    first-of-requires rules-holds rule-start-requires rule-at-requires mul-if3 shared-slice-read-if3 next-of-requires rules-less rules-again clear-requires add-q
+    words-holds add-bind mul-bind shared-slice-read-bind bind-requires next-of-requires-2 rules-less-2 rules-again-2 add-q-2 (λ c. search needs)
     (λ c. search needs) words-again same-length returns-2 same-length-2 returns-3)
