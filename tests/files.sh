@@ -3,6 +3,7 @@
 [ $# = 1 ] || { printf 'usage: %s PROGRAM\n' "$0" >&2; exit 2; }
 [ -f "$1" ] && [ -x "$1" ] || { printf '%s: %s is no program that can be run\n' "$0" "$1" >&2; exit 2; }
 program=$(realpath "$1")
+tests=$(realpath "$(dirname "$0")")
 folder=$(mktemp -d)
 trap 'rm -rf "$folder"' EXIT
 cd "$folder"
@@ -11,8 +12,12 @@ wrong=0
 
 # words, low byte first
 words() {
-    local w
-    for w in "$@"; do printf "\\x$(printf %02x $((w % 256)))\\x$(printf %02x $((w / 256)))"; done
+    local w bytes=
+    for w in "$@"; do
+        printf -v w '\\x%02x\\x%02x' $((w % 256)) $((w / 256))
+        bytes+=$w
+    done
+    printf "$bytes"
 }
 zeros() { head -c "$1" /dev/zero; }
 no() { rm -rf "$1"; }
@@ -30,6 +35,19 @@ long_and_odd_books() {
     prints 'a book of many bytes too many' long
     zeros 42501 > show.book
     prints 'a book one byte below its limit' odd
+}
+
+# of a program in Python every run from here on is a copy of one start
+started_once() { coproc many { exec python3 "$tests/many.py" "$program"; }; }
+# runs the program with arguments that are words of one string; its exit status is got
+run() { # OUTPUT ARGUMENTS
+    got=0
+    if [ -n "${many_PID:-}" ]; then
+        printf '%s said %s\n' "$1" "$2" >&"${many[1]}"
+        read -r got <&"${many[0]}"
+    else
+        "$program" $2 > "$1" 2> said < /dev/null || got=$?
+    fi
 }
 
 # what the program prints here, its lines given one by one; the last line must be ended too
@@ -50,11 +68,11 @@ prints() { # CASE LINE..
 
 # of a tool with arguments, which are words of one string: its exit status, and its lines one by one
 shows() { # CASE STATUS ARGUMENTS LINE..
-    local name=$1 status=$2 arguments=$3 got=0
+    local name=$1 status=$2 arguments=$3 got
     shift 3
     cases=$((cases + 1))
     { [ $# = 0 ] || printf '%s\n' "$@"; } > expected
-    "$program" $arguments > printed 2> said < /dev/null || got=$?
+    run printed "$arguments"
     if [ "$got" != "$status" ] || [ -s said ] || ! cmp -s expected printed; then
         printf '%s: %s: exit status %s, where %s is due; it should print\n' "$(basename "$program")" "$name" "$got" "$status"
         sed 's/^/    /' expected
@@ -65,9 +83,9 @@ shows() { # CASE STATUS ARGUMENTS LINE..
 }
 # nothing but a line that says why
 refuses() { # CASE ARGUMENTS WHAT IT SAYS
-    local name=$1 got=0
+    local name=$1 got
     cases=$((cases + 1))
-    "$program" $2 > printed 2> said < /dev/null || got=$?
+    run printed "$2"
     if [ "$got" != 2 ] || [ -s printed ] || [ "$(wc -l < said)" != 1 ] || ! grep -q "^$(basename "$program"): .*$3" said; then
         printf '%s: %s: exit status %s, where 2 is due, and it says\n' "$(basename "$program")" "$name" "$got"
         sed 's/^/    /' printed said
@@ -77,9 +95,9 @@ refuses() { # CASE ARGUMENTS WHAT IT SAYS
 
 # with a standard output that is full
 cannot_print() { # CASE ARGUMENTS
-    local name=$1 got=0
+    local name=$1 got
     cases=$((cases + 1))
-    "$program" $2 > /dev/full 2> said < /dev/null || got=$?
+    run /dev/full "$2"
     if [ "$got" != 2 ] || [ "$(wc -l < said)" != 1 ] || ! grep -q "^$(basename "$program"): the standard output: " said; then
         printf '%s: %s, printed where there is no room: exit status %s, where 2 is due, and it says\n' "$(basename "$program")" "$name" "$got"
         sed 's/^/    /' said

@@ -1,5 +1,5 @@
 #!/usr/bin/env bash
-# The stack that each public operation takes, measured from the compiled archives; the desk's task has 4,096 bytes. First the measure is
+# The stack that each public operation takes, measured from the compiled archives; the desk's task has 4,096 bytes. Then the measure itself is
 # tried on small functions: on those that can't be bounded, or are too deep, it must fail. Where no archive is named, both are built, and
 # the header's tables of sizes and stack are held to them.
 #     tests/stack.sh [LIMIT in bytes; 4096 if not said] [ARCHIVE ..]
@@ -19,6 +19,18 @@ to=target/outside
 mkdir -p "$to"
 
 fail() { printf 'stack: FAILED: %s\n' "$*"; exit 1; }
+
+ours=()
+if [ ${#archives[@]} = 0 ]; then
+    for crate in cue cue_replay; do
+        [ "${BUILT:-0}" = 1 ] || rt staticlib "$crate" > "$to/stack.log" 2>&1 || { cat "$to/stack.log"; fail "the archive of $crate is not built"; }
+        ours+=("target/staticlib/lib$crate.a")
+    done
+fi
+for archive in "${archives[@]}" "${ours[@]}"; do
+    echo "stack: $(basename "$archive")"
+    python3 tests/stack.py "$archive" "$limit" || fail "an operation takes more than $limit bytes of stack, or can't be bounded"
+done
 
 # whether the measure of some lines of C prints what is expected
 tried() { # WHAT IT PRINTS, THE LINES [A WORD FOR THE COMPILER]
@@ -50,17 +62,6 @@ tried 'red zone is used by cue_a$' "$leaf"
 tried 'red zone is not used' "$leaf" -mno-red-zone
 tried 'below the red zone' 'int cue_a(void) { int r; __asm__("movl -0x100(%%rsp), %0" : "=r"(r)); return r; }'
 
-ours=()
-if [ ${#archives[@]} = 0 ]; then
-    for crate in cue cue_replay; do
-        [ "${BUILT:-0}" = 1 ] || rt staticlib "$crate" > "$to/stack.log" 2>&1 || { cat "$to/stack.log"; fail "the archive of $crate is not built"; }
-        ours+=("target/staticlib/lib$crate.a")
-    done
-fi
-for archive in "${archives[@]}" "${ours[@]}"; do
-    echo "stack: $(basename "$archive")"
-    python3 tests/stack.py "$archive" "$limit" || fail "an operation takes more than $limit bytes of stack, or can't be bounded"
-done
 [ ${#ours[@]} = 2 ] || exit 0
 
 [ -z "$write" ] || python3 tests/porting.py --write include/cue.h "${ours[@]}"

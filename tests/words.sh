@@ -4,13 +4,14 @@
 #     tests/words.sh PROGRAM
 set -euo pipefail
 . "$(dirname "$0")/files.sh"
+started_once
 text() { printf "$1" > show.txt; }
 # a text that is packed into these words, and the words a line each by unpack
 packs() { # CASE WORD..
     local name=$1
     shift
     rm -f packed
-    "$program" pack show.txt packed 2> said || true
+    run /dev/null 'pack show.txt packed'
     words "$@" > wanted
     still "$name" packed wanted
     shows "$name, and back" 0 'unpack packed' "$@"

@@ -12,7 +12,9 @@ mkdir -p "$to/other"
 for crate in cue cue_replay; do
     [ "${BUILT:-0}" = 1 ] || rt staticlib "$crate" > "$to/bench.log" 2>&1 || { cat "$to/bench.log"; exit 1; }
 done
-flags=()
+# where nothing is measured the build need not be fast
+flags=(-O)
+[ "${1:-}" != 0 ] || flags=()
 for i in "${!others[@]}"; do
     # both builds have the same names: the other's get `other_` before them
     nm -g --defined-only "${others[i]}" | awk 'NF == 3 { print $3, "other_" $3 }' > "$to/other/names$i"
@@ -21,5 +23,5 @@ for i in "${!others[@]}"; do
     # before version 2.1 there were no records
     ! grep -q ' other_cue_replay$' "$to/other/names$i" || flags+=(--cfg other_replay)
 done
-rustc -O --edition 2021 -D warnings -L target/staticlib "${flags[@]}" tests/bench/main.rs -o "$to/bench"
+rustc --edition 2021 -D warnings -L target/staticlib "${flags[@]}" tests/bench/main.rs -o "$to/bench"
 "$to/bench" "${1:-0.3}"
