@@ -27,9 +27,9 @@
  * not called.
  *
  *   linked                                                  bytes   needs           red zone
- *   libcue.a                                               24,362   memset          used
- *   libcue.a, cue_test_strategies and cue_expand alone     18,163   memset          used
- *   libcue_replay.a                                        18,757   memset          used
+ *   libcue.a                                               24,809   memset          used
+ *   libcue.a, cue_test_strategies and cue_expand alone     18,595   memset          used
+ *   libcue_replay.a                                        18,881   memset          used
  *
  * An expansion is lent 8 KB for the answer and 24 KB to work in. The stack that a call takes, read from the compiled archives with everything
  * that is called, is below 4,096 bytes for each function (`bash tests/stack.sh` measures it, and holds both tables to the archives):
@@ -45,12 +45,12 @@
  *   cue_test_strategies     libcue.a                     520
  *   cue_test_weights        libcue.a                     584
  *   cue_weigh               libcue.a                       8
- *   cue_expand              libcue.a                   2,168
- *   cue_expand_checked      libcue.a                   2,200
- *   cue_expand_twice        libcue.a                   2,264
- *   cue_expand_recorded     libcue.a                   2,152
- *   cue_replay              libcue_replay.a            2,424
- *   cue_expand_retraced     libcue_replay.a            4,088
+ *   cue_expand              libcue.a                   2,296
+ *   cue_expand_checked      libcue.a                   2,328
+ *   cue_expand_twice        libcue.a                   2,392
+ *   cue_expand_recorded     libcue.a                   2,280
+ *   cue_replay              libcue_replay.a            2,336
+ *   cue_expand_retraced     libcue_replay.a            3,984
  */
 #ifndef CUE_H
 #define CUE_H
