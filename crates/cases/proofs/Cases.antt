@@ -18,7 +18,7 @@ use Rattle.evaluation.specs.Expansion.{room, earlier, afterChecks, recordAfter}
 use Rattle.rewriting.specs.Trace.{keep}
 use Rattle.rewriting.specs.Trace.{inOrder}
 use Rattle.system.specs.Terms.{among, occurs}
-use Rattle.replay.specs.Activity.{flags, pending, activeAt}
+use Rattle.walks.specs.Activity.{flags, pending, activeAt}
 use Rattle.replay.specs.Replay.{toldBy, replay}
 use Rattle.cases.specs.Cases.{expanding, recording, following, evaluatorCases, starred, literalCases, recordCases, squareCases, sameBook, repeatCases, requestCases}
 

@@ -1,7 +1,3 @@
--- Which positions are active (the walk to one: walk.antt)
-pub mod Arguments
-pub mod Activities
-pub mod Descent
 -- The replay of a record
 pub mod Fillings
 pub mod Pairs

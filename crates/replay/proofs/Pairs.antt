@@ -17,9 +17,9 @@ use Rattle.matching.specs.Matching.{Contraction, contraction, FirstMatch}
 use Rattle.rewriting.specs.Evaluation.{Config, stepped}
 use Rattle.rewriting.specs.Rewriting.{Step}
 use Rattle.rewriting.proofs.Contractions.{first-there, none-there, step-there}
-use Rattle.replay.specs.Activity.{activeAt}
+use Rattle.walks.specs.Activity.{activeAt}
 use Rattle.replay.specs.Replay.{followed, mistold, exceeded, toldBy, judge, replay}
-use Rattle.replay.proofs.Activities.{activeAt-sound, activeAt-complete}
+use Rattle.walks.proofs.Activities.{activeAt-sound, activeAt-complete}
 use Rattle.replay.proofs.Fillings.{match-once}
 
 module _ (s : System) where

@@ -1,7 +1,5 @@
--- The replay of a record, with active positions by computing, and what the operation answers
-pub mod Activity
+-- The replay of a record, and what the operation answers
 pub mod Replay
 pub mod Replaying
--- The walk to a position, and the pairs one after the other: inner
-pub mod walk
+-- The pairs one after the other: inner
 pub mod retrace

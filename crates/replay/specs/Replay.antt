@@ -12,7 +12,7 @@ use Rattle.matching.specs.Matching.{Contraction, contraction}
 use Rattle.rewriting.specs.Trace.{Trace, inOrder}
 use Rattle.rewriting.specs.Evaluation.{Config, stepped}
 use Rattle.rewriting.specs.Rewriting.{Step, Path}
-use Rattle.replay.specs.Activity.{activeAt}
+use Rattle.walks.specs.Activity.{activeAt}
 
 -- how a replay ends: each pair was followed; "the first pair that is wrong or half" was come to (17); or the step that a pair tells of would
 -- leave more than 4,096 words (12). The trace has "the steps completed"

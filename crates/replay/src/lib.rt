@@ -6,7 +6,6 @@ ghost use Rattle.replay.specs.Replaying.{asAnswer, replaying, AcceptsExa
 
 pub mod retrace;
 pub mod scanned;
-pub mod walk;
 
 use reader::scan::scan_book;
 

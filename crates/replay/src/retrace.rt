@@ -12,10 +12,8 @@ ghost use Rattle.steps.specs.steps.Raised.{Raisable, Raised};
 ghost use Rattle.runs.specs.run.RunResult.{Runnable};
 ghost use Rattle.rewriting.specs.Evaluation.{start};
 ghost use Rattle.replay.specs.Replay.{replay};
-ghost use Rattle.replay.specs.walk.Way.{wayIn, PointsIn};
+ghost use Rattle.walks.specs.walk.Way.{wayIn, PointsIn};
 ghost use Rattle.replay.specs.retrace.Retraces.{noWords, placeOf, Follows, Retraces};
-use crate::walk::Finger;
-use crate::walk::find;
 use layout::index::INDEX;
 use layout::index::build_index;
 use reader::Shape;
@@ -34,6 +32,8 @@ use system::numbers::OVERLONG;
 use system::numbers::TAKEN;
 use system::numbers::UNTRUE;
 use system::words::wide;
+use walks::walk::Finger;
+use walks::walk::find;
 
 // A pair of a record: the index of a step in the whole term before it, and the number of its rule.
 pub struct Pair {

@@ -36,16 +36,16 @@ use Rattle.rewriting.proofs.Ways.{way-active}
 use Rattle.steps.specs.rewrites.Rewritten.{Reducible, Rewrites}
 use Rattle.steps.specs.steps.Raised.{Raisable, Raised}
 use Rattle.steps.proofs.steps.Stepping.{Left, left}
-use Rattle.replay.specs.declared.walk.Finger.{Finger}
+use Rattle.walks.specs.declared.walk.Finger.{Finger}
 use Rattle.replay.specs.declared.retrace.Pair.{Pair}
-use Rattle.replay.specs.Activity.{activeAt}
+use Rattle.walks.specs.Activity.{activeAt}
 use Rattle.replay.specs.Replay.{toldBy}
-use Rattle.replay.specs.walk.Way.{wayIn, Points, Found}
+use Rattle.walks.specs.walk.Way.{wayIn, Points, Found}
 use Rattle.replay.specs.declared.retrace.Followed.{Followed}
 use Rattle.replay.specs.retrace.Retraces.{Follows, wrong, long, goes}
 use Rattle.replay.proofs.Pairs.{told-inactive, told-nothing, told-other, right-told}
-use Rattle.replay.proofs.walk.Pointing.{points-bounds}
-use Rattle.replay.proofs.walk.Stepping.{step-words, step-raisable, points-stepped, points-reducible}
+use Rattle.walks.proofs.walk.Pointing.{points-bounds}
+use Rattle.replay.proofs.retrace.Stepping.{step-words, step-raisable, points-stepped, points-reducible}
 
 -- the walk did not come to the pair's position, which is not active
 pub missed : (s : System) {t ws : List ℕ} {f : Finger} (p : Pair) → Found s t ws f (p .at) → (f .at ≡ p .at → ⊥) → toldBy s t (p .at) (p .number) ≡ none

@@ -19,16 +19,16 @@ use Rattle.rows.specs.lengths.Written.{Laid}
 use Rattle.rows.proofs.lengths.Writes.{term-end}
 use Rattle.rewriting.specs.Trace.{Trace}
 use Rattle.rewriting.specs.Evaluation.{Config, start}
-use Rattle.replay.specs.declared.walk.Finger.{Finger}
+use Rattle.walks.specs.declared.walk.Finger.{Finger}
 use Rattle.replay.specs.declared.retrace.Pair.{Pair}
 use Rattle.replay.specs.declared.retrace.Followed.{Followed}
 use Rattle.replay.specs.declared.retrace.Retraced.{Retraced}
 use Rattle.replay.specs.Replay.{replay}
-use Rattle.replay.specs.walk.Way.{Points}
+use Rattle.walks.specs.walk.Way.{Points}
 use Rattle.replay.specs.retrace.Retraces.{placeOf, noWords, Follows, wrong, long, goes, Leaves, Retraces}
 use Rattle.replay.proofs.Pairs.{replay-end, replay-half, replay-wrong, replay-long, replay-goes}
-use Rattle.replay.proofs.walk.Pointing.{points-words}
-use Rattle.replay.proofs.walk.Stepping.{points-start}
+use Rattle.walks.proofs.walk.Pointing.{points-words}
+use Rattle.replay.proofs.retrace.Stepping.{points-start}
 
 -- how a replay ends that stops
 abbrev pub halted : ℕ → ℕ → Retraced

@@ -19,7 +19,7 @@ use Rattle.replay.specs.declared.retrace.Pair.{Pair}
 use Rattle.replay.specs.declared.retrace.Followed.{Followed}
 use Rattle.replay.specs.declared.retrace.Retraced.{Retraced}
 use Rattle.replay.specs.Replay.{Replay, followed, mistold, exceeded, toldBy}
-use Rattle.replay.specs.walk.Way.{Points}
+use Rattle.walks.specs.walk.Way.{Points}
 
 -- the place that goes with a number
 abbrev pub placeOf : ℕ → ℕ → ℕ

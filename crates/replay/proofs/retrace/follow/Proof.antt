@@ -8,9 +8,9 @@ use Rattle.layout.proofs.Books.{well, signature}
 use Rattle.rows.specs.Rows.{termIn}
 use Rattle.rows.specs.gap.Gaps.{wordsIn}
 use Rattle.rows.specs.Measured.{Measured}
-use Rattle.replay.specs.walk.Way.{Points}
+use Rattle.walks.specs.walk.Way.{Points}
 use Rattle.replay.specs.retrace.Retraces.{wrong, long, goes}
-use Rattle.replay.proofs.walk.Pointing.{Bounds, points-bounds}
+use Rattle.walks.proofs.walk.Pointing.{Bounds, points-bounds}
 use Rattle.replay.proofs.retrace.Following.{missed, Searched, other, told, Chosen, reducible, exceeds, next-few, placed-lies, placed-words, way-raisable, way-raised, follows-measured}
 use Rattle.replay.proofs.retrace.follow.Statement.{statement}
 use Rattle.replay.proofs.retrace.follow.Tie as tie

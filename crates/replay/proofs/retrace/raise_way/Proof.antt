@@ -9,7 +9,7 @@ use borrow.Author.Needs.{needs}
 use Rattle.system.specs.Limits.{areaWords, termWords}
 use Rattle.rows.specs.Rows.{countsAt}
 use Rattle.steps.proofs.steps.Raising.{Raising, raising-start, raising-end, raising-within, raising-slot, raising-less, raising-fits, raising-turn}
-use Rattle.replay.specs.walk.Way.{wayIn}
+use Rattle.walks.specs.walk.Way.{wayIn}
 use Rattle.replay.proofs.retrace.raise_way.Statement.{statement}
 use Rattle.replay.proofs.retrace.raise_way.Tie as tie
 

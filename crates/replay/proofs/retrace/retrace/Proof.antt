@@ -9,7 +9,8 @@ use Rattle.reader.specs.Book.{systemOf}
 use Rattle.system.specs.Signature.{signatureOf}
 use Rattle.rows.specs.gap.Gaps.{behind}
 use Rattle.rows.specs.lengths.Written.{Laid}
-use Rattle.replay.proofs.walk.Finding.{points-in, follows-in}
+use Rattle.walks.proofs.walk.Finding.{points-in}
+use Rattle.replay.proofs.retrace.Stepping.{follows-in}
 use Rattle.replay.proofs.retrace.Tracing.{Tracing, tracing-start, traces-end, traces-half, Turns, turns}
 use Rattle.replay.proofs.retrace.retrace.Statement.{statement}
 use Rattle.replay.proofs.retrace.retrace.Tie as tie

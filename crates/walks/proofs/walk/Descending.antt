@@ -14,13 +14,13 @@ use Rattle.system.specs.Terms.{Member, WellFormed, among}
 use Rattle.layout.proofs.Books.{well}
 use Rattle.layout.proofs.entries.Repeats.{among-member, member-among}
 use Rattle.rows.specs.Rows.{countsAt, termIn}
-use Rattle.replay.specs.declared.walk.Argument.{Argument}
-use Rattle.replay.specs.declared.walk.Finger.{Finger}
-use Rattle.replay.specs.walk.Descent.{Above, Held}
-use Rattle.replay.specs.walk.Way.{Over, Found}
-use Rattle.replay.proofs.Arguments.{argument-behind}
-use Rattle.replay.proofs.Descent.{above-here, above-out, above-down}
-use Rattle.replay.proofs.walk.Pointing.{Bounds, points-bounds, points-down}
+use Rattle.walks.specs.declared.walk.Argument.{Argument}
+use Rattle.walks.specs.declared.walk.Finger.{Finger}
+use Rattle.walks.specs.walk.Descent.{Above, Held}
+use Rattle.walks.specs.walk.Way.{Over, Found}
+use Rattle.walks.proofs.Arguments.{argument-behind}
+use Rattle.walks.proofs.Descent.{above-here, above-out, above-down}
+use Rattle.walks.proofs.walk.Pointing.{Bounds, points-bounds, points-down}
 
 module _ (book : List ℕ) (shape : Shape) (accepted : Accepted book shape) {t ws : List ℕ} {f : Finger} {q : ℕ} (v : Over (systemOf book) t ws f q) where
   pub descent-bounds : Bounds ws f

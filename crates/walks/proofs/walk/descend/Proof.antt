@@ -7,12 +7,12 @@ use borrow.Author.Needs.{needs}
 use borrow.Author.Tests.{not-true, not-false}
 use Rattle.reader.specs.Book.{systemOf}
 use Rattle.rows.specs.Rows.{termIn}
-use Rattle.replay.specs.declared.walk.Finger.{Finger}
-use Rattle.replay.specs.walk.Way.{Over}
-use Rattle.replay.proofs.walk.Pointing.{Bounds}
-use Rattle.replay.proofs.walk.Descending.{Turn, descent-bounds, over-in, descended, turn-bounds, argument-ends, descent-stops, descends, few-arguments}
-use Rattle.replay.proofs.walk.descend.Statement.{statement}
-use Rattle.replay.proofs.walk.descend.Tie as tie
+use Rattle.walks.specs.declared.walk.Finger.{Finger}
+use Rattle.walks.specs.walk.Way.{Over}
+use Rattle.walks.proofs.walk.Pointing.{Bounds}
+use Rattle.walks.proofs.walk.Descending.{Turn, descent-bounds, over-in, descended, turn-bounds, argument-ends, descent-stops, descends, few-arguments}
+use Rattle.walks.proofs.walk.descend.Statement.{statement}
+use Rattle.walks.proofs.walk.descend.Tie as tie
 
 abbrev Inv-loop : tie.InvT-loop
 Inv-loop book shape index area₀ q gap level₀ at₀ area level at =

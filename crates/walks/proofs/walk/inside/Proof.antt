@@ -2,9 +2,9 @@
 use mathlib.Core.Path.{sym, _∙_}
 use Rattle.rows.specs.Rows.{termIn}
 use Rattle.rows.proofs.lengths.Measures.{measured-length}
-use Rattle.replay.proofs.walk.Insides.{within-before, within-read}
-use Rattle.replay.proofs.walk.inside.Statement.{statement}
-use Rattle.replay.proofs.walk.inside.Tie as tie
+use Rattle.walks.proofs.walk.Insides.{within-before, within-read}
+use Rattle.walks.proofs.walk.inside.Statement.{statement}
+use Rattle.walks.proofs.walk.inside.Tie as tie
 
 -- ---- the place of the code where the position is tested
 

@@ -16,10 +16,10 @@ use Rattle.layout.proofs.entries.Repeats.{among-member}
 use Rattle.rewriting.specs.Rewriting.{root, below}
 use Rattle.rewriting.proofs.Actives.{active-whole, at-parted}
 use Rattle.rewriting.proofs.Contractions.{active-within}
-use Rattle.replay.specs.Activity.{pending, front, activeAt}
-use Rattle.replay.specs.walk.Descent.{Above, From}
-use Rattle.replay.proofs.Arguments.{argument-first, argument-next, argument-end, argument-of, argument-words}
-use Rattle.replay.proofs.Activities.{pending-add, pending-false, argument-pending, active-pending, activeAt-sound, activeAt-complete}
+use Rattle.walks.specs.Activity.{pending, front, activeAt}
+use Rattle.walks.specs.walk.Descent.{Above, From}
+use Rattle.walks.proofs.Arguments.{argument-first, argument-next, argument-end, argument-of, argument-words}
+use Rattle.walks.proofs.Activities.{pending-add, pending-false, argument-pending, active-pending, activeAt-sound, activeAt-complete}
 
 module _ (s : System) where
   abbrev g : Signature

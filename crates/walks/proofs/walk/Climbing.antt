@@ -9,12 +9,12 @@ use Rattle.system.specs.Terms.{WellFormed}
 use Rattle.rows.specs.Rows.{termIn}
 use Rattle.rows.specs.gap.Gaps.{wordsIn}
 use Rattle.rewriting.proofs.Ways.{way-active, way-top}
-use Rattle.replay.specs.declared.walk.Finger.{Finger}
-use Rattle.replay.specs.walk.Descent.{within, Above}
-use Rattle.replay.specs.walk.Way.{Points, Over}
-use Rattle.replay.proofs.Descent.{above-root}
-use Rattle.replay.proofs.walk.Insides.{within-ends}
-use Rattle.replay.proofs.walk.Pointing.{points-words, points-bounds}
+use Rattle.walks.specs.declared.walk.Finger.{Finger}
+use Rattle.walks.specs.walk.Descent.{within, Above}
+use Rattle.walks.specs.walk.Way.{Points, Over}
+use Rattle.walks.proofs.Descent.{above-root}
+use Rattle.walks.proofs.walk.Insides.{within-ends}
+use Rattle.walks.proofs.walk.Pointing.{points-words, points-bounds}
 
 module _ (s : System) (wf : WellFormed s) {t ws : List ℕ} {f : Finger} (v : Points s t ws f) where
   -- the subterm here holds q

@@ -7,5 +7,3 @@ pub mod Pointing
 pub mod Climbing
 pub mod Descending
 pub mod Finding
--- What a replay does with the finger: it starts at the root, and stays where a step is
-pub mod Stepping

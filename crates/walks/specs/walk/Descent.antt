@@ -10,7 +10,7 @@ use Rattle.system.specs.Signature.{Signature, arity, span, argument}
 use Rattle.system.specs.System.{System}
 use Rattle.reader.specs.Book.{Accepted}
 use Rattle.rewriting.specs.Rewriting.{Active}
-use Rattle.replay.specs.declared.walk.Argument.{Argument}
+use Rattle.walks.specs.declared.walk.Argument.{Argument}
 
 -- the book is accepted, whatever its shape is
 abbrev pub Readable : List ℕ → Type 0

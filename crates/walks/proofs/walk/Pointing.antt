@@ -16,8 +16,8 @@ use Rattle.rows.proofs.lengths.Measures.{words-length, measured-counts, term-co
 use Rattle.rewriting.specs.Ways.{Way, down}
 use Rattle.rewriting.proofs.Contractions.{active-within}
 use Rattle.rewriting.proofs.Ways.{way-active, way-room, way-take}
-use Rattle.replay.specs.declared.walk.Finger.{Finger}
-use Rattle.replay.specs.walk.Way.{wayIn, Points}
+use Rattle.walks.specs.declared.walk.Finger.{Finger}
+use Rattle.walks.specs.walk.Way.{wayIn, Points}
 
 -- the bounds that the code's indices need
 pub record Bounds (ws : List ℕ) (f : Finger) : Type 0 where

@@ -9,9 +9,9 @@ use Rattle.system.specs.Signature.{span}
 use Rattle.rows.specs.Rows.{termIn}
 use Rattle.rows.specs.gap.Gaps.{wordsIn}
 use Rattle.rows.proofs.lengths.Measures.{words-length, measured-length}
-use Rattle.replay.proofs.walk.Hopping.{Hopping, some-argument, hopping-first, hopping-bounds, hopping-next, held-here, held-last}
-use Rattle.replay.proofs.walk.holder.Statement.{statement}
-use Rattle.replay.proofs.walk.holder.Tie as tie
+use Rattle.walks.proofs.walk.Hopping.{Hopping, some-argument, hopping-first, hopping-bounds, hopping-next, held-here, held-last}
+use Rattle.walks.proofs.walk.holder.Statement.{statement}
+use Rattle.walks.proofs.walk.holder.Tie as tie
 
 abbrev Inv-loop : tie.InvT-loop
 Inv-loop book area gap at q last number₀ start₀ number start = Hopping (systemOf book) (termIn area gap) at q last number start

@@ -11,13 +11,10 @@ use Rattle.system.specs.Terms.{WellFormed}
 use Rattle.layout.proofs.Books.{well}
 use Rattle.rows.specs.Rows.{termIn}
 use Rattle.rows.specs.gap.Gaps.{wordsIn}
-use Rattle.replay.specs.declared.walk.Finger.{Finger}
-use Rattle.replay.specs.declared.retrace.Pair.{Pair}
-use Rattle.replay.specs.declared.retrace.Followed.{Followed}
-use Rattle.replay.specs.walk.Way.{Points, PointsIn, Found}
-use Rattle.replay.specs.retrace.Retraces.{Follows}
-use Rattle.replay.proofs.Descent.{above-end}
-use Rattle.replay.proofs.walk.Pointing.{points-words, points-bounds}
+use Rattle.walks.specs.declared.walk.Finger.{Finger}
+use Rattle.walks.specs.walk.Way.{Points, PointsIn, Found}
+use Rattle.walks.proofs.Descent.{above-end}
+use Rattle.walks.proofs.walk.Pointing.{points-words, points-bounds}
 
 module _ (book : List ℕ) (shape : Shape) (accepted : Accepted book shape) {t ws : List ℕ} {f : Finger} (v : Points (systemOf book) t ws f) where
   abbrev s : System
@@ -38,6 +35,3 @@ module _ (book : List ℕ) (shape : Shape) (accepted : Accepted book shape) {t w
 
   pub found-in : {ws′ : List ℕ} {f′ : Finger} {q : ℕ} → Found s (termIn ws (f .gap)) ws′ f′ q → Found s t ws′ f′ q
   found-in {ws′} {f′} {q} = subst (λ y. Found s y ws′ f′ q) (v .term)
-
-  pub follows-in : {p : Pair} {r : Followed} {ws′ : List ℕ} → Follows s (termIn ws (f .gap)) p r ws′ → Follows s t p r ws′
-  follows-in {p} {r} {ws′} = subst (λ y. Follows s y p r ws′) (v .term)

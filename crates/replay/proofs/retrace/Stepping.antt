@@ -1,4 +1,4 @@
--- The finger of a replay: it starts at the root, and a step at it leaves the way to it. What `machine::rewrites::rewrite` asks, and what it leaves.
+-- The finger of a replay: it starts at the root, and a step at it leaves the way to it. What `steps::rewrites::rewrite` asks, and what it leaves.
 use Prim.Native.Nat.{ℕ, _+_, _-_, _≤_, _<_}
 use native.Mathlib.Omega.{arith}
 use mathlib.Core.Path.{_≡_, refl, sym, ap, _∙_, subst}
@@ -17,6 +17,7 @@ use Rattle.system.proofs.Places.{replace-length}
 use Rattle.layout.proofs.Books.{well, signature}
 use Rattle.system.proofs.words.SpanSteps.{span-le}
 use Rattle.rows.specs.declared.gap.Gap.{Gap}
+use Rattle.rows.specs.Rows.{termIn}
 use Rattle.rows.specs.gap.Gaps.{wordsIn}
 use Rattle.rows.specs.Measured.{Measured}
 use Rattle.rows.specs.lengths.Written.{Laid}
@@ -32,9 +33,12 @@ use Rattle.rewriting.proofs.Ways.{way-active, way-step}
 use Rattle.steps.specs.rewrites.Rewritten.{Reducible}
 use Rattle.steps.specs.steps.Raised.{Raisable, Raised}
 use Rattle.steps.proofs.steps.Raising.{raisable, raised-term, raised-measured}
-use Rattle.replay.specs.declared.walk.Finger.{Finger}
-use Rattle.replay.specs.walk.Way.{wayIn, Points}
-use Rattle.replay.proofs.walk.Pointing.{points-words, points-bounds}
+use Rattle.walks.specs.declared.walk.Finger.{Finger}
+use Rattle.walks.specs.walk.Way.{wayIn, Points}
+use Rattle.walks.proofs.walk.Pointing.{points-words, points-bounds}
+use Rattle.replay.specs.declared.retrace.Pair.{Pair}
+use Rattle.replay.specs.declared.retrace.Followed.{Followed}
+use Rattle.replay.specs.retrace.Retraces.{Follows}
 
 -- at the root of a term that was laid in the rows
 pub points-start : (book : List ℕ) (shape : Shape) → Accepted book shape → (t ws : List ℕ) (gap : Gap) → Whole (systemOf book .arities) t →
@@ -119,3 +123,7 @@ module _ (book : List ℕ) (shape : Shape) (accepted : Accepted book shape) {t w
         x = x;
         contracts = ap (λ y. contraction s (drop (f .at) y)) (sym e) ∙ contracts;
       }
+
+  -- what was followed in the term as the area holds it
+  pub follows-in : {p : Pair} {r : Followed} {ws′ : List ℕ} → Follows s (termIn ws (f .gap)) p r ws′ → Follows s t p r ws′
+  follows-in {p} {r} {ws′} = subst (λ y. Follows s y p r ws′) (v .term)

@@ -4,11 +4,11 @@ use borrow.Author.Needs.{needs}
 use Rattle.reader.specs.Book.{systemOf}
 use Rattle.layout.proofs.Books.{well}
 use Rattle.rows.specs.Rows.{termIn}
-use Rattle.replay.specs.walk.Way.{Over}
-use Rattle.replay.proofs.walk.Descending.{over-in}
-use Rattle.replay.proofs.walk.Finding.{found-behind, found-in}
-use Rattle.replay.proofs.walk.find.Statement.{statement}
-use Rattle.replay.proofs.walk.find.Tie as tie
+use Rattle.walks.specs.walk.Way.{Over}
+use Rattle.walks.proofs.walk.Descending.{over-in}
+use Rattle.walks.proofs.walk.Finding.{found-behind, found-in}
+use Rattle.walks.proofs.walk.find.Statement.{statement}
+use Rattle.walks.proofs.walk.find.Tie as tie
 
 -- ---- the places of the code: the entry, where the words are counted, where the finger has gone up, and down
 

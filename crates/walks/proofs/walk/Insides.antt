@@ -9,7 +9,7 @@ use lib.ListN.{drop}
 use lib.Dec.{leb, ltb}
 use borrow.Author.Tests.{leb-true, ltb-true, le-leb, lt-leb, lt-ltb, le-ltb}
 use Rattle.system.specs.Signature.{Signature, span}
-use Rattle.replay.specs.walk.Descent.{within}
+use Rattle.walks.specs.walk.Descent.{within}
 
 module _ (g : Signature) (t : List ℕ) (p q : ℕ) where
   pub within-before : q < p → within g t p q ≡ false

@@ -17,8 +17,8 @@ use Rattle.layout.proofs.entries.Repeats.{among-member, member-among}
 use Rattle.rewriting.specs.Rewriting.{Active, root, below}
 use Rattle.rewriting.proofs.Laws.{next-entry}
 use Rattle.rewriting.proofs.Actives.{active-whole, at-parted}
-use Rattle.replay.specs.Activity.{flags, pending, front, activeAt}
-use Rattle.replay.proofs.Arguments.{argument-of, argument-position}
+use Rattle.walks.specs.Activity.{flags, pending, front, activeAt}
+use Rattle.walks.proofs.Arguments.{argument-of, argument-position}
 
 both-true : (b c : Bool) → b && c ≡ true → (b ≡ true) × (c ≡ true)
 both-true true c h = (refl, h)

@@ -4,12 +4,12 @@ use mathlib.Core.Path.{sym, _∙_}
 use borrow.Author.Needs.{needs}
 use Rattle.system.specs.System.{System}
 use Rattle.system.specs.Terms.{WellFormed}
-use Rattle.replay.specs.declared.walk.Finger.{Finger}
-use Rattle.replay.specs.walk.Way.{PointsIn}
-use Rattle.replay.proofs.walk.Pointing.{Bounds, points-bounds, points-up}
-use Rattle.replay.proofs.walk.Climbing.{climbed-here, climbed-all}
-use Rattle.replay.proofs.walk.climb.Statement.{statement}
-use Rattle.replay.proofs.walk.climb.Tie as tie
+use Rattle.walks.specs.declared.walk.Finger.{Finger}
+use Rattle.walks.specs.walk.Way.{PointsIn}
+use Rattle.walks.proofs.walk.Pointing.{Bounds, points-bounds, points-up}
+use Rattle.walks.proofs.walk.Climbing.{climbed-here, climbed-all}
+use Rattle.walks.proofs.walk.climb.Statement.{statement}
+use Rattle.walks.proofs.walk.climb.Tie as tie
 
 abbrev Inv-loop : tie.InvT-loop
 Inv-loop area q gap level₀ at₀ level at =

@@ -9,9 +9,9 @@ use Rattle.reader.specs.Book.{systemOf}
 use Rattle.system.specs.Signature.{Signature, arity, span, argument}
 use Rattle.system.specs.System.{System}
 use Rattle.layout.proofs.Books.{signature}
-use Rattle.replay.specs.walk.Descent.{Readable, Above, From, Held}
-use Rattle.replay.proofs.Arguments.{argument-first, argument-next}
-use Rattle.replay.proofs.Descent.{above-within, from-first, from-next, from-last}
+use Rattle.walks.specs.walk.Descent.{Readable, Above, From, Held}
+use Rattle.walks.proofs.Arguments.{argument-first, argument-next}
+use Rattle.walks.proofs.Descent.{above-within, from-first, from-next, from-last}
 
 -- q lies in the argument that starts here, with so many others before it, or in one behind it; `last` has as many before it
 pub record Hopping (s : System) (t : List ℕ) (p q last number start : ℕ) : Type 0 where

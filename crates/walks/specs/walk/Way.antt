@@ -11,9 +11,9 @@ use Rattle.system.specs.Terms.{Whole, WellFormed}
 use Rattle.rows.specs.Rows.{countsAt, termIn}
 use Rattle.rows.specs.Measured.{Measured}
 use Rattle.rewriting.specs.Ways.{Way}
-use Rattle.replay.specs.Activity.{activeAt}
-use Rattle.replay.specs.declared.walk.Finger.{Finger}
-use Rattle.replay.specs.walk.Descent.{Above}
+use Rattle.walks.specs.Activity.{activeAt}
+use Rattle.walks.specs.declared.walk.Finger.{Finger}
+use Rattle.walks.specs.walk.Descent.{Above}
 
 -- the positions on a way of so many, in the place of the machine's counts
 abbrev pub wayIn : List ℕ → ℕ → List ℕ
