@@ -1,7 +1,5 @@
 -- Where the words of the redex are read: in place, or set aside
 pub mod Asides
--- How long the reduct is
-pub mod Counted
 -- Words of the term as they stand in the rows
 pub mod Standing
 -- What the variables stand for, as it is read there

@@ -10,17 +10,17 @@ ghost use Rattle.system.specs.System.{instance};
 ghost use Rattle.rows.specs.Rows.{Lies, termIn};
 ghost use Rattle.rows.specs.gap.Gaps.{even};
 ghost use Rattle.rows.specs.lengths.Written.{Written};
-ghost use Rattle.reducts.specs.sides.Sides.{Stretches, stretchesIn};
+ghost use Rattle.sides.specs.sides.Sides.{Stretches, stretchesIn};
 ghost use Rattle.reducts.specs.putting.Replaced.{filling, edge, placeFor, Crowdable, lengthsAside, Puttable, Put};
-use crate::crowded::write_lengths;
-use crate::crowded::write_words;
-use crate::sides::reduct_length;
-use crate::writing::Source;
-use crate::writing::write_reduct;
 use buffers::move_words;
 use rows::gap::Gap;
 use rows::gap::move_gap;
 use rows::lengths::COUNTS;
+use sides::crowded::write_lengths;
+use sides::crowded::write_words;
+use sides::sides::reduct_length;
+use sides::writing::Source;
+use sides::writing::write_reduct;
 use system::limits::TERM_WORDS;
 
 // Words of the term that are to be replaced: how many levels stand around them, the position of the first, and how many they are.

@@ -1,3 +1,2 @@
--- Inner: a rewrite, a step
-pub mod rewrites
+-- Inner: a step
 pub mod steps

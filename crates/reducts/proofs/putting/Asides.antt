@@ -3,7 +3,7 @@ use Prim.Native.Nat.{ℕ, _+_, _-_}
 use Rattle.system.specs.Limits.{termWords}
 use Rattle.rows.specs.declared.gap.Gap.{Gap}
 use Rattle.rows.specs.Rows.{countsAt}
-use Rattle.reducts.specs.declared.writing.Source.{Source}
+use Rattle.sides.specs.declared.writing.Source.{Source}
 use Rattle.reducts.specs.declared.putting.Subterm.{Subterm}
 
 abbrev pub gapSize : Gap → ℕ

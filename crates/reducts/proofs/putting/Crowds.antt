@@ -21,12 +21,12 @@ use Rattle.rows.proofs.lengths.Measures.{measured-behind, measured-counts}
 use Rattle.rows.proofs.lengths.Writes.{over-behind}
 use Rattle.rows.proofs.lengths.Lengthens.{measured-over, written-lengthened}
 use Rattle.matching.specs.rules.Searches.{reductLength}
-use Rattle.reducts.specs.sides.Sides.{Stretches}
+use Rattle.sides.specs.sides.Sides.{Stretches}
 use Rattle.reducts.specs.declared.putting.Subterm.{Subterm}
-use Rattle.reducts.specs.writing.Reduct.{stretchAt, stretch, reduct}
-use Rattle.reducts.specs.crowded.Passes.{Beyond, Passable, Told, Lengthable}
+use Rattle.sides.specs.writing.Reduct.{stretchAt, stretch, reduct}
+use Rattle.sides.specs.crowded.Passes.{Beyond, Passable, Told, Lengthable}
 use Rattle.reducts.specs.putting.Replaced.{filling, Puttable, Crowdable, lengthsAside}
-use Rattle.reducts.proofs.Overs.{over-aside}
+use Rattle.sides.proofs.Overs.{over-aside}
 use Rattle.reducts.proofs.putting.Asides.{wordsAway, lengthsAway}
 use Rattle.reducts.proofs.putting.Sources.{read-removed, beyond-removed, beyond-lengths, told-lengths}
 use Rattle.reducts.proofs.putting.Writables.{same-filled, reduct-counted}

@@ -9,10 +9,10 @@ use Rattle.rows.specs.declared.gap.Gap.{Gap}
 use Rattle.rows.specs.gap.Gaps.{wordsIn, even, Moved}
 use Rattle.rows.specs.lengths.Written.{Written}
 use Rattle.matching.specs.rules.Searches.{reductLength}
-use Rattle.reducts.specs.sides.Sides.{Stretches}
+use Rattle.sides.specs.sides.Sides.{Stretches}
 use Rattle.reducts.specs.declared.putting.Subterm.{Subterm}
 use Rattle.reducts.specs.declared.putting.Place.{Place}
-use Rattle.reducts.specs.writing.Reduct.{reduct, Writable}
+use Rattle.sides.specs.writing.Reduct.{reduct, Writable}
 use Rattle.reducts.specs.putting.Replaced.{edge, placeFor, Puttable, Crowdable, Done, TooLong, Put}
 use Rattle.reducts.proofs.putting.Asides.{gapSize}
 use Rattle.reducts.proofs.putting.Writables.{reduct-counted, writable-behind, writable-placed, filled-placed}

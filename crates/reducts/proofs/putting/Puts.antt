@@ -25,9 +25,9 @@ use Rattle.rows.proofs.lengths.Measures.{row-even, row-first, row-drop, measure
 use Rattle.rows.proofs.lengths.Writes.{written-over}
 use Rattle.matching.specs.rules.Searches.{reductLength}
 use Rattle.matching.proofs.Matched.{instance-nil, instance-symbol}
-use Rattle.reducts.specs.sides.Sides.{Stretches}
+use Rattle.sides.specs.sides.Sides.{Stretches}
 use Rattle.reducts.specs.declared.putting.Subterm.{Subterm}
-use Rattle.reducts.specs.writing.Reduct.{reduct}
+use Rattle.sides.specs.writing.Reduct.{reduct}
 use Rattle.reducts.specs.putting.Replaced.{filling, Filled, Puttable, Crowdable, lengthsAside, spliced, Placed, Done, TooLong, Put, fits, exceeds}
 use Rattle.reducts.proofs.putting.Asides.{gapSize, placedBehind}
 use Rattle.reducts.proofs.putting.Writables.{reduct-counted, opened, filled-behind}

@@ -17,13 +17,13 @@ use Rattle.rows.specs.declared.gap.Gap.{Gap}
 use Rattle.rows.specs.Rows.{countsAt, termIn}
 use Rattle.rows.specs.gap.Gaps.{wordsIn}
 use Rattle.rows.proofs.gap.Closed.{closed-length}
-use Rattle.reducts.specs.sides.Sides.{Stretches}
+use Rattle.sides.specs.sides.Sides.{Stretches}
 use Rattle.reducts.specs.declared.putting.Subterm.{Subterm}
-use Rattle.reducts.specs.writing.Reduct.{stretchAt, stretch, Unwritten}
-use Rattle.reducts.specs.crowded.Passes.{Beyond, Told}
+use Rattle.sides.specs.writing.Reduct.{stretchAt, stretch, Unwritten}
+use Rattle.sides.specs.crowded.Passes.{Beyond, Told}
 use Rattle.reducts.specs.putting.Replaced.{filling, Filled, Puttable, lengthsAside}
-use Rattle.reducts.proofs.Overs.{over-read, part-part}
-use Rattle.reducts.proofs.writing.Places.{stretch-before, stretch-later}
+use Rattle.sides.proofs.Overs.{over-read, part-part}
+use Rattle.sides.proofs.writing.Places.{stretch-before, stretch-later}
 use Rattle.reducts.proofs.putting.Asides.{gapSize, placedBehind, placed, wordsAway, lengthsAway}
 use Rattle.reducts.proofs.putting.Standing.{Standing, stands-before, stands-behind, standing-whole, standing-told, standing-lengths}
 

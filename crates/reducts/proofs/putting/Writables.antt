@@ -14,12 +14,12 @@ use Rattle.rows.specs.gap.Gaps.{even}
 use Rattle.rows.proofs.lengths.Measures.{measured-after}
 use Rattle.matching.specs.rules.Searches.{reductLength}
 use Rattle.matching.proofs.Matched.{instance-cong}
-use Rattle.reducts.specs.sides.Sides.{Stretches}
+use Rattle.sides.specs.sides.Sides.{Stretches}
 use Rattle.reducts.specs.declared.putting.Subterm.{Subterm}
-use Rattle.reducts.specs.writing.Reduct.{stretch, reduct, Writable}
+use Rattle.sides.specs.writing.Reduct.{stretch, reduct, Writable}
 use Rattle.reducts.specs.putting.Replaced.{filling, Puttable}
 use Rattle.reducts.proofs.putting.Asides.{gapSize, placedBehind, placed}
-use Rattle.reducts.proofs.putting.Counted.{instance-counted, count-bound}
+use Rattle.sides.proofs.Counted.{instance-counted, count-bound}
 use Rattle.reducts.proofs.putting.Sources.{filling-length, filling-small, read-behind, unwritten-behind, read-placed, unwritten}
 
 module _ {g : Signature} {side ws : List ℕ} {gap : Gap} {u : Subterm} {c : Stretches} (p : Puttable g side ws gap u c) where

@@ -21,7 +21,7 @@ use Rattle.matching.specs.rules.Searches.{reductLength}
 use Rattle.reducts.specs.declared.putting.Place.{Place}
 use Rattle.reducts.specs.declared.putting.Reduced.{Reduced}
 use Rattle.reducts.specs.declared.putting.Subterm.{Subterm}
-use Rattle.reducts.specs.sides.Sides.{Sided, Stretches}
+use Rattle.sides.specs.sides.Sides.{Sided, Stretches}
 
 -- ---- the reduct put in the place of words
 

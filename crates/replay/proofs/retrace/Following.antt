@@ -33,7 +33,7 @@ use Rattle.redexes.proofs.search.Found.{redex-some, redex-number}
 use Rattle.rewriting.specs.Rewriting.{Active}
 use Rattle.rewriting.proofs.Contractions.{first-there}
 use Rattle.rewriting.proofs.Ways.{way-active}
-use Rattle.steps.specs.rewrites.Rewritten.{Reducible, Rewrites}
+use Rattle.rewrites.specs.rewrites.Rewritten.{Reducible, Rewrites}
 use Rattle.steps.specs.steps.Raised.{Raisable, Raised}
 use Rattle.steps.proofs.steps.Stepping.{Left, left}
 use Rattle.walks.specs.declared.walk.Finger.{Finger}

@@ -1,4 +1,4 @@
--- The finger of a replay: it starts at the root, and a step at it leaves the way to it. What `steps::rewrites::rewrite` asks, and what it leaves.
+-- The finger of a replay: it starts at the root, and a step at it leaves the way to it. What `rewrites::rewrites::rewrite` asks, and what it leaves.
 use Prim.Native.Nat.{ℕ, _+_, _-_, _≤_, _<_}
 use native.Mathlib.Omega.{arith}
 use mathlib.Core.Path.{_≡_, refl, sym, ap, _∙_, subst}
@@ -30,7 +30,7 @@ use Rattle.reducts.specs.putting.Replaced.{Placed}
 use Rattle.rewriting.specs.Ways.{Way, top}
 use Rattle.rewriting.proofs.Contractions.{active-within, replaced-whole}
 use Rattle.rewriting.proofs.Ways.{way-active, way-step}
-use Rattle.steps.specs.rewrites.Rewritten.{Reducible}
+use Rattle.rewrites.specs.rewrites.Rewritten.{Reducible}
 use Rattle.steps.specs.steps.Raised.{Raisable, Raised}
 use Rattle.steps.proofs.steps.Raising.{raisable, raised-term, raised-measured}
 use Rattle.walks.specs.declared.walk.Finger.{Finger}

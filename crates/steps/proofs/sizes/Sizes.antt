@@ -21,11 +21,11 @@ use Rattle.matching.specs.rules.Searches.{reductLength}
 use Rattle.matching.proofs.Reducts.{match-word}
 use Rattle.matching.proofs.Splits.{side-length, match-fits}
 use Rattle.reducts.specs.declared.putting.Subterm.{Subterm}
-use Rattle.reducts.specs.sides.Sides.{Sided, stretchesIn}
-use Rattle.reducts.proofs.putting.Counted.{count-bound}
-use Rattle.steps.specs.rewrites.Rewritten.{Contracts, Reducible, rewritten}
-use Rattle.steps.proofs.rewrites.Redexes.{words, small, width-here, ends, redex-here, found, found-here, lengths-are}
-use Rattle.steps.proofs.rewrites.Listed.{listed-contracts, right-sided}
+use Rattle.sides.specs.sides.Sides.{Sided, stretchesIn}
+use Rattle.sides.proofs.Counted.{count-bound}
+use Rattle.rewrites.specs.rewrites.Rewritten.{Contracts, Reducible, rewritten}
+use Rattle.rewrites.proofs.rewrites.Redexes.{words, small, width-here, ends, redex-here, found, found-here, lengths-are}
+use Rattle.rewrites.proofs.rewrites.Listed.{listed-contracts, right-sided}
 
 module _ {book index ws : List ℕ} {gap : Gap} {u : Subterm} {m : Redex} {bs : List ℕ} (asked : Reducible book index ws gap u m bs) where
   abbrev s : System

@@ -24,7 +24,7 @@ use Rattle.rewriting.specs.Ways.{everyArgument}
 use Rattle.rewriting.proofs.OpenLevels.{opened-room}
 use Rattle.machine.specs.declared.advance.State.{State}
 use Rattle.machine.specs.advance.Area.{baseOf, outerIn, countIn, lastWords, Stands}
-use Rattle.steps.specs.rewrites.Rewritten.{Rewrites}
+use Rattle.rewrites.specs.rewrites.Rewritten.{Rewrites}
 use Rattle.steps.specs.steps.Raised.{Raisable, Raised, wayIn}
 use Rattle.steps.specs.steps.Stepped as to
 use Rattle.steps.specs.steps.Stepped.{here, Steppable, Steps}

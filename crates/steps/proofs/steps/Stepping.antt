@@ -29,7 +29,7 @@ use Rattle.rewriting.proofs.Ways.{way-room}
 use Rattle.rewriting.proofs.Everywhere.{every-formed, every-opened}
 use Rattle.machine.specs.declared.advance.State.{State}
 use Rattle.machine.specs.advance.Area.{baseOf, outerIn, countIn, Valid}
-use Rattle.steps.specs.rewrites.Rewritten.{Reducible, rewritten, Rewritten, done, long, Rewrites}
+use Rattle.rewrites.specs.rewrites.Rewritten.{Reducible, rewritten, Rewritten, done, long, Rewrites}
 use Rattle.steps.specs.steps.Raised.{wayIn}
 use Rattle.steps.specs.steps.Stepped as to
 use Rattle.steps.specs.steps.Stepped.{here, Steppable, Steps}

@@ -8,9 +8,9 @@ use Rattle.system.specs.Signature.{signatureOf}
 use Rattle.rows.specs.gap.Gaps.{Moved}
 use Rattle.reducts.specs.putting.Replaced.{edge, Crowdable}
 use Rattle.matching.specs.rules.Searches.{reductLength}
-use Rattle.reducts.specs.sides.Sides.{stretchesIn}
+use Rattle.sides.specs.sides.Sides.{stretchesIn}
 use Rattle.reducts.proofs.putting.Asides.{gapSize}
-use Rattle.reducts.proofs.Bindings.{binding-words}
+use Rattle.sides.proofs.Bindings.{binding-words}
 use Rattle.reducts.proofs.putting.Writables.{reduct-bound}
 use Rattle.reducts.proofs.putting.Puts.{spared-aside, put-behind}
 use Rattle.reducts.proofs.putting.Edges.{edge-within, edge-long, edge-crowdable, edge-writable, edge-written}

@@ -16,10 +16,10 @@ use Rattle.matching.specs.rules.Searches.{reductLength}
 use Rattle.redexes.specs.search.Redexes.{bindingWords}
 use Rattle.redexes.proofs.search.Found.{redex-listed, redex-built}
 use Rattle.machine.specs.advance.Area.{frameWords}
-use Rattle.steps.specs.rewrites.Rewritten.{Reducible}
+use Rattle.rewrites.specs.rewrites.Rewritten.{Reducible}
 use Rattle.steps.specs.steps.Stepped.{here, subtermHere}
-use Rattle.steps.proofs.rewrites.Redexes.{found, some-found, words, small, ends}
-use Rattle.steps.proofs.rewrites.Listed.{listed-inside}
+use Rattle.rewrites.proofs.rewrites.Redexes.{found, some-found, words, small, ends}
+use Rattle.rewrites.proofs.rewrites.Listed.{listed-inside}
 use Rattle.steps.proofs.steps.Stepping.{step-bounds, step-reducible}
 use Rattle.steps.proofs.sizes.Sizes.{size-built, size-sided, size-listed, size-bound}
 use Rattle.steps.proofs.sizes.size_after.Statement.{statement}

@@ -10,7 +10,7 @@ use Rattle.system.specs.Limits.{areaWords, levels}
 use Rattle.rows.specs.Rows.{countsAt, lengthsIn}
 use Rattle.rows.specs.gap.Gaps.{wordsIn}
 use Rattle.machine.specs.advance.Area.{frameWords}
-use Rattle.steps.specs.rewrites.Rewritten.{Reducible, Rewrites}
+use Rattle.rewrites.specs.rewrites.Rewritten.{Reducible, Rewrites}
 use Rattle.steps.specs.steps.Stepped.{here}
 use Rattle.steps.proofs.steps.Stepping.{step-bounds, step-few, step-reducible, step-long, steps-measured}
 use Rattle.steps.proofs.steps.Rewrote.{Rewrote, step-placed, step-words, step-raisable, step-raisable-levels, step-done}

@@ -1,6 +1,0 @@
--- Lists that end alike
-pub mod Ends
--- Words written over a list
-pub mod Overs
--- What the words of the bindings tell
-pub mod Bindings

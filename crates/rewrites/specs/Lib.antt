@@ -1,0 +1,2 @@
+-- Inner: a rewrite
+pub mod rewrites
