@@ -214,8 +214,8 @@ for tool in rt gcc g++ rustc python3 as ld nm objdump objcopy; do
     command -v "$tool" > /dev/null || fail "the tool $tool is missing"
 done
 
-# What parts need and another tool makes comes first (after rt ci it is there), so that none of them makes what another reads. Then long parts before
-# short ones; the random run, of two threads, has the others beside it
+# What parts need and another tool makes comes first (after rt ci it is there), so that none of them makes what another reads. Then what others wait
+# for, and long parts before short ones; last the random run, which has two threads and so leaves no processor idle
 quiet rt check cue expand check_book
 rm -f target/log/cue.say
 start cue_archive
@@ -229,11 +229,11 @@ start second
 start exports
 start stack
 ended second
-start random
 start planted
-start header
 start benchmark
+start header
 start weights
 start steps
+start random
 show exports stack header random planted words programs steps weights places benchmark
 say "all is well"

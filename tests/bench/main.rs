@@ -140,7 +140,7 @@ fn expansion(w: &Work, least: f64, agree: &mut bool) {
         }));
     }
     let times = measure(least, calls);
-    let maude = if w.levels { None } else { in_maude(w, &b, &words, o.steps, agree) };
+    let maude = if w.levels { None } else { in_maude(w, &b, &words, o.steps, least, agree) };
     line(&w.label, w.cue.len().max(words.len()), o.steps, &times, maude);
 }
 
@@ -150,9 +150,10 @@ fn takes_part(other: &Archive, w: &Work) -> bool {
     !w.deep && !(w.levels && refuses(9)) && !(w.twins && refuses(7))
 }
 
-/// Maude's answer is to be the same; its speed, if it tells one.
-fn in_maude(w: &Work, b: &Book, words: &[u16], steps: u32, agree: &mut bool) -> Option<maude::Rate> {
+/// Maude's answer is to be the same; its speed, if it tells one, where times are measured.
+fn in_maude(w: &Work, b: &Book, words: &[u16], steps: u32, least: f64, agree: &mut bool) -> Option<maude::Rate> {
     match maude::run(&w.label, b, &w.cue)? {
+        Ok(answer) if answer == words && least == 0.0 => None,
         Ok(answer) if answer == words => maude::rate(&w.label, b, &w.cue, steps),
         other => {
             println!("{}: maude has another answer: {other:?}", w.label);
