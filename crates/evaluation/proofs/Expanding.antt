@@ -20,10 +20,10 @@ use Rattle.reader.proofs.Accepts.{read-sound}
 use Rattle.terms.proofs.Answering as answering
 use Rattle.system.proofs.TermChecks.{fault-whole}
 use Rattle.reader.specs.Book.{systemOf, Accepted}
+use Rattle.rows.proofs.lengths.Measures.{words-length}
 use Rattle.rows.specs.declared.gap.Gap.{Gap}
 use Rattle.rows.specs.Rows.{closed, termIn, Lies}
 use Rattle.rows.specs.gap.Gaps.{wordsIn}
-use Rattle.rows.proofs.gap.Closed.{closed-length}
 use Rattle.rewriting.specs.Evaluation.{Limits, Outcome, finished, stopped, evaluation}
 use Rattle.runs.specs.declared.run.RunResult.{RunResult}
 use Rattle.runs.specs.run.RunResult.{outcomeNumber, left, Ran}
@@ -216,7 +216,7 @@ module _ (work ws : List ℕ) (room : areaWords ≤ length work) (size : length 
 
   -- the words around a gap are handed back, and so many they are
   pub whole-words : {t : List ℕ} {gap : Gap} → Lies gap → termIn ws gap ≡ t → (wordsIn gap ≡ length t) × (termIn whole gap ≡ t)
-  whole-words {gap = gap} l e = (sym (closed-length ws gap (record { room = omega arith; lies = l })) ∙ ap length e, whole-term gap ∙ e)
+  whole-words {gap = gap} l e = (sym (words-length {ws = ws} {gap = gap} (record { room = omega arith; lies = l })) ∙ ap length e, whole-term gap ∙ e)
 
   -- the end: the numbers, the answer buffer and the work buffer
   pub finishes : (o : Outcome) (e : RunResult) (out : List ℕ) → Ran o e ws →

@@ -105,6 +105,7 @@ fn goes_before(gap: Gap, u: Subterm, k: usize) -> bool
     8 * gap.front <= 8 * u.at + u.width
 }
 
+// Where the gap is brought: to the first word of u, or behind the last.
 fn edge(u: Subterm, before: bool) -> usize
     requires { ⌜ u .at + u .width ≤ termWords ⌝ }
     ensures { λ r. ⌜ r ≡ edge u before ⌝ }
@@ -115,6 +116,8 @@ fn edge(u: Subterm, before: bool) -> usize
     u.at + u.width
 }
 
+// Where a reduct of k words is written, the gap being at that edge of u, so that what follows the words of u stays where it is: before the gap, with
+// all words of the redex behind it; or up to what follows, with the words of u before the gap.
 fn place_for(gap: Gap, u: Subterm, k: usize, before: bool) -> Place
     requires { ⌜ Lies gap × (u .at + u .width ≤ termWords) × (k ≤ gap .back - gap .front) ⌝ }
     ensures { λ r. ⌜ r ≡ placeFor gap u k before ⌝ }

@@ -12,10 +12,10 @@ use Rattle.reader.specs.Book.{systemOf, Accepted}
 use Rattle.layout.proofs.Books.{well}
 use Rattle.rewriting.specs.Machine.{position}
 use Rattle.rewriting.proofs.OpenLevels.{opened-room}
+use Rattle.rows.proofs.lengths.Measures.{words-length}
 use Rattle.rows.specs.declared.gap.Gap.{Gap}
 use Rattle.rows.specs.Rows.{termIn, Gapped}
 use Rattle.rows.specs.gap.Gaps.{wordsIn}
-use Rattle.rows.proofs.gap.Closed.{closed-length}
 use Rattle.machine.specs.advance.Area.{outerIn, countIn, Valid, frameWords, Tracks}
 use Rattle.machine.proofs.advance.States.{valid-within}
 
@@ -55,7 +55,7 @@ module _ (b : List ℕ) (sh : Shape) (acc : Accepted b sh) (ws positions : List 
   spot = v .positioned level (omega (arith, levels)) ∙ ap (λ y. position s t y base) (take-all level outer (omega (arith, levels)))
 
   words : length t ≡ wordsIn gap
-  words = closed-length ws gap (v .represents .measured .gapped)
+  words = words-length (v .represents .measured .gapped)
 
   pub bounds : Bounds ws positions gap base level
   bounds =

@@ -20,8 +20,8 @@ use Rattle.rows.specs.lengths.Written.{Written}
 use Rattle.system.proofs.Forests.{span-zero}
 use Rattle.system.proofs.Spans.{spans-word}
 use Rattle.rows.proofs.gap.Rows.{word-row-length, length-row-length}
-use Rattle.rows.proofs.gap.Closed.{closed-length}
-use Rattle.rows.proofs.lengths.Measures.{row-even, row-first, row-drop, measured-moved, measured-after, word-row-same, length-row-same}
+use Rattle.rows.proofs.gap.Closed.{closed-behind}
+use Rattle.rows.proofs.lengths.Measures.{words-length, row-even, row-first, measured-moved, measured-after, word-row-same, length-row-same}
 use Rattle.rows.proofs.lengths.Writes.{written-over}
 use Rattle.matching.specs.rules.Searches.{reductLength}
 use Rattle.matching.proofs.Matched.{instance-nil, instance-symbol}
@@ -92,7 +92,7 @@ module _ {g : Signature} {side ws : List ℕ} {gap : Gap} {u : Subterm} {c : Str
   -- how long the term becomes
   pub spliced-length : length (spliced side t u c) + u .width ≡ wordsIn gap + reductLength (c .lengths) side
   spliced-length =
-      let long = closed-length ws gap (p .measured .gapped) in
+      let long = words-length (p .measured .gapped) in
       let x = length-append (take (u .at) t ++ new) (drop (u .at + u .width) t) in
       let y = length-append (take (u .at) t) new in
       let within = p .within in
@@ -109,8 +109,8 @@ module _ {g : Signature} {side ws : List ℕ} {gap : Gap} {u : Subterm} {c : Str
       let long = word-row-length ws (o .room) in
       let i = u .at + u .width - gap .front in
       let there : gap .front + i ≡ u .at + u .width = omega arith in
-      row-drop row (h .front) (h .back) (o .lies .low) (o .lies .high) long ∙ ap (λ b. drop b row) (sym e) ∙ sym (drop-drop i (gap .back) row)
-      ∙ ap (drop i) (sym (row-drop row (gap .front) (gap .back) (lies .low) (lies .high) long)) ∙ drop-drop i (gap .front) t ∙ ap (λ b. drop b t) there
+      closed-behind h row (o .lies) long ∙ ap (λ b. drop b row) (sym e) ∙ sym (drop-drop i (gap .back) row)
+      ∙ ap (drop i) (sym (closed-behind gap row lies long)) ∙ drop-drop i (gap .front) t ∙ ap (λ b. drop b t) there
 
   module _ {ws₁ ws₂ : List ℕ} {there left : Gap} {b : ℕ} (r : Spared ws u ws₁) (w : Written g ws₁ there (there .front) ws₂ b new)
       (before : u .at ≤ gap .front) (fits : u .at ≤ b) (rest : drop (there .front) (termIn ws there) ≡ drop (u .at + u .width) t)
@@ -163,7 +163,7 @@ module _ {g : Signature} {side ws : List ℕ} {gap : Gap} {u : Subterm} {c : Str
       };
       before = lengths-before;
       outer = ap (take (u .level)) (w .counts) ∙ r .outer;
-      rest = λ n h. ap (drop n) (w .counts) ∙ r .rest n (let z = closed-length ws gap (p .measured .gapped) in omega (arith, p .within));
+      rest = λ n h. ap (drop n) (w .counts) ∙ r .rest n (let z = words-length (p .measured .gapped) in omega (arith, p .within));
     }
 
 -- ---- the ways out, seen from where the gap was
@@ -224,7 +224,8 @@ module _ {g : Signature} {side ws : List ℕ} {gap : Gap} {u : Subterm} {c : Str
     pub put-long : gap′ .back < u .at + k → Put g side ws gap u c (TooLong gap′) ws′
     put-long h = exceeds (omega (arith, length-moved)) gap′ refl (record { measured = q′ .measured; total = q′ .total; term = v .words; counts = v .counts })
 
-    pub put-behind : {ws₁ ws₂ : List ℕ} {b : ℕ} → Spared ws′ u ws₁ → Written g ws₁ (even (gap′ .back)) (gap′ .back) ws₂ b (instance (filling (termIn ws′ gap′) u c) side) →
+    pub put-behind : {ws₁ ws₂ : List ℕ} {b : ℕ} → Spared ws′ u ws₁ →
+        Written g ws₁ (even (gap′ .back)) (gap′ .back) ws₂ b (instance (filling (termIn ws′ gap′) u c) side) →
         u .at + k ≤ gap′ .back → Put g side ws gap u c (Done (record { front = u .at; back = b })) ws₂
     put-behind {ws₂} {b} r w room =
         let d = v .gapped .lies in
@@ -233,7 +234,7 @@ module _ {g : Signature} {side ws : List ℕ} {gap : Gap} {u : Subterm} {c : Str
         let lies : Lies (record { front = u .at; back = b }) = record { low = omega arith; high = omega (arith, d .high) } in
         placed-moved v
         (placed-written q′ r w (omega (arith, v .front)) (omega arith) (follows q′ (even (gap′ .back)) o (omega (arith, v .front)) (omega (arith, v .front))) (omega arith) lies
-        (λ row n. row-drop row (u .at) b (lies .low) (lies .high) n ∙ ap (drop b) (sym (row-even (gap′ .back) row))))
+        (λ row n. closed-behind (record { front = u .at; back = b }) row lies n ∙ ap (drop b) (sym (row-even (gap′ .back) row))))
         (omega (arith, length-moved))
 
     -- a word without arguments, written over the first of them
@@ -253,6 +254,7 @@ module _ {g : Signature} {side ws : List ℕ} {gap : Gap} {u : Subterm} {c : Str
           let begins : Onward g ws′ after (u .at + 1) = record { measured = measured-after (q′ .measured) after o (omega arith); before = omega arith } in
           let written = written-over ws′ (u .at) (w ∷ []) (1 ∷ []) refl (omega (arith, o .lies .low, d .high)) (v .gapped .room) refl begins told in
           placed-moved v
-          (placed-written q′ (spared-none ws′ u) (subst (Written g ws′ after (u .at + 1) (set (set ws′ (u .at) w) (termWords + u .at) 1) (u .at)) is written) (omega (arith, v .front)) (omega arith)
+          (placed-written q′ (spared-none ws′ u)
+          (subst (Written g ws′ after (u .at + 1) (set (set ws′ (u .at) w) (termWords + u .at) 1) (u .at)) is written) (omega (arith, v .front)) (omega arith)
           (follows q′ after o (omega (arith, v .front)) (omega (arith, v .front))) (omega arith) (o .lies) (λ row m. refl))
           (omega (arith, length-moved, reduct-counted q′, o .lies .low))

@@ -13,10 +13,10 @@ use Rattle.buffers.proofs.Over.{length-part, part-below, part-above}
 use Rattle.system.specs.Limits.{termWords, variable}
 use Rattle.system.specs.Signature.{Signature}
 use Rattle.system.specs.Terms.{Member}
+use Rattle.rows.proofs.lengths.Measures.{words-length}
 use Rattle.rows.specs.declared.gap.Gap.{Gap}
 use Rattle.rows.specs.Rows.{countsAt, termIn}
 use Rattle.rows.specs.gap.Gaps.{wordsIn}
-use Rattle.rows.proofs.gap.Closed.{closed-length}
 use Rattle.sides.specs.sides.Sides.{Stretches}
 use Rattle.reducts.specs.declared.putting.Subterm.{Subterm}
 use Rattle.sides.specs.writing.Reduct.{stretchAt, stretch, Unwritten}
@@ -41,7 +41,7 @@ module _ {g : Signature} {side ws : List ℕ} {gap : Gap} {u : Subterm} {c : Str
 
   -- it ends in the term
   inside₀ : u .at + start₀ + n₀ ≤ wordsIn gap
-  inside₀ = let z = closed-length ws gap (p .measured .gapped) in let y = f₀ .within in omega arith
+  inside₀ = let z = words-length (p .measured .gapped) in let y = f₀ .within in omega arith
 
   pub filling-length : length (filling (termIn ws gap) u c v) ≡ n₀
   filling-length = length-part (u .at + start₀) n₀ (termIn ws gap) (f₀ .within)

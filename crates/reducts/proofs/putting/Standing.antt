@@ -9,6 +9,7 @@ use Rattle.buffers.specs.moves.Parts.{part}
 use Rattle.system.specs.Limits.{termWords}
 use Rattle.system.specs.Signature.{Signature}
 use Rattle.system.specs.Terms.{Whole}
+use Rattle.rows.proofs.lengths.Measures.{words-length}
 use Rattle.rows.specs.declared.gap.Gap.{Gap}
 use Rattle.rows.specs.Rows.{wordRow, lengthRow, Lies, Gapped, closed, termIn, lengthsIn}
 use Rattle.rows.specs.gap.Gaps.{wordsIn}
@@ -16,7 +17,7 @@ use Rattle.system.specs.Spans.{spans}
 use Rattle.rows.specs.Measured.{Measured}
 use Rattle.system.proofs.Spans.{spans-stretch}
 use Rattle.rows.proofs.gap.Rows.{part-take, word-row-length, length-row-length, word-row-part, length-row-part}
-use Rattle.rows.proofs.gap.Closed.{closed-front, closed-behind, closed-length}
+use Rattle.rows.proofs.gap.Closed.{closed-front, closed-behind}
 use Rattle.reducts.proofs.putting.Asides.{gapSize}
 
 -- ---- over one row
@@ -72,7 +73,7 @@ module _ {g : Signature} {ws : List ℕ} {gap : Gap} {from a n : ℕ} (m : Measu
   -- these are what the subterm's own are
   pub standing-told : a + n ≤ wordsIn gap → part (termWords + from) n ws ≡ spans g (part a n (termIn ws gap))
   standing-told l =
-      let long = closed-length ws gap (m .gapped) in
+      let long = words-length (m .gapped) in
       s .lengths ∙ ap (part a n) (m .lengths) ∙ sym (spans-stretch g (termIn ws gap) a n (omega arith) whole)
 
   pub standing-lengths : a + n ≤ wordsIn gap → part (termWords + from) n ws ≡ spans g (part from n ws)

@@ -13,11 +13,11 @@ use Rattle.system.specs.Terms.{WellFormed}
 use Rattle.reader.specs.Book.{systemOf}
 use Rattle.system.proofs.Forests.{span-forest}
 use Rattle.layout.proofs.Books.{well, signature}
+use Rattle.rows.proofs.lengths.Measures.{words-length}
 use Rattle.rows.specs.declared.gap.Gap.{Gap}
 use Rattle.rows.specs.Rows.{termIn}
 use Rattle.rows.specs.gap.Gaps.{wordsIn}
 use Rattle.rows.specs.Measured.{Measured}
-use Rattle.rows.proofs.gap.Closed.{closed-length}
 use Rattle.matching.specs.declared.Match.{Match}
 use Rattle.redexes.specs.declared.search.Redex.{Redex}
 use Rattle.matching.specs.declared.FirstRule.the-variants.{First}
@@ -58,7 +58,7 @@ module _ {book index ws : List ℕ} {gap : Gap} {u : Subterm} {m : Redex} {bs : 
   redex-parted = at-parted s redex-here
 
   pub words : length t ≡ wordsIn gap
-  words = closed-length ws gap (asked .measured .gapped)
+  words = words-length (asked .measured .gapped)
 
   pub small : wordsIn gap ≤ termWords
   small = let l = asked .measured .gapped .lies in omega (arith, l .low, l .high)

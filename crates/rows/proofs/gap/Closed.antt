@@ -76,9 +76,6 @@ slot-bound g i lies h = at (ltb i (g .front)) refl
 -- ---- over an area
 
 module _ (ws : List ℕ) (g : Gap) (h : Gapped ws g) where
-  pub closed-length : length (termIn ws g) ≡ wordsIn g
-  closed-length = closed-row-length g (wordRow ws) (h .lies) (word-row-length ws (h .room))
-
   pub term-at : (i : ℕ) → i < wordsIn g → getD ws (slotOf g i) 0 ≡ getD (termIn ws g) i 0
   term-at i b =
       sym (word-row-at ws (slotOf g i) (slot-bound g i (h .lies) b)) ∙ closed-at g (wordRow ws) (h .lies) (word-row-length ws (h .room)) i

@@ -3,8 +3,8 @@ use Prim.Native.Nat.{ℕ, _+_, _-_, _≤_}
 use native.Mathlib.Omega.{arith}
 use mathlib.Core.Path.{_≡_, refl, sym, ap, _∙_}
 use mathlib.Core.List.{List, _++_}
-use lib.ListN.{length, getD, take, drop, length-append, length-drop, take-append-drop}
-use lib.Seq.{length-take-le, take-take, drop-drop, drop-at, getD-drop, take-append-le, drop-append-le}
+use lib.ListN.{length, getD, take, drop, take-append-drop}
+use lib.Seq.{length-take-le, take-take, drop-drop, getD-drop, take-append-le, drop-append-le}
 use Rattle.buffers.proofs.Over.{part-slice}
 use Rattle.system.specs.Limits.{termWords}
 use Rattle.system.specs.Signature.{Signature, span}
@@ -16,6 +16,7 @@ use Rattle.rows.specs.Measured.{Measured}
 use Rattle.rows.specs.lengths.Later.{MeasuredFrom}
 use Rattle.system.proofs.Spans.{spans-drop, spans-at}
 use Rattle.rows.proofs.gap.Rows.{word-row-length, length-row-length}
+use Rattle.rows.proofs.gap.Closed.{closed-row-length, closed-behind}
 
 -- ---- a row around a gap
 
@@ -50,27 +51,15 @@ module _ (gap : Gap) (n : ℕ) (before : n ≤ gap .front) where
   row-rest row row′ fits fits′ low e =
       row-later row′ fits′ low ∙ ap (λ z. take (gap .front - n) z ++ drop (gap .back - n) z) e ∙ sym (row-later row fits low)
 
-module _ (row : List ℕ) (p b : ℕ) (low : p ≤ b) (high : b ≤ termWords) (long : length row ≡ termWords) where
-  abbrev gap : Gap
-  gap = record { front = p; back = b }
-
-  pub row-words : length (closed gap row) ≡ p + (termWords - b)
-  unfolding closed
-  row-words = length-append (take p row) (drop b row) ∙ (let z = length-take-le p row (omega arith) in let y = length-drop b row in omega arith)
-
-  pub row-drop : drop p (closed gap row) ≡ drop b row
-  unfolding closed
-  row-drop = drop-at (take p row) (drop b row) p (length-take-le p row (omega arith))
-
 -- as many words as the gap leaves
 pub words-length : {ws : List ℕ} {gap : Gap} → Gapped ws gap → length (termIn ws gap) ≡ wordsIn gap
-words-length {ws} {gap} h = row-words (wordRow ws) (gap .front) (gap .back) (h .lies .low) (h .lies .high) (word-row-length ws (h .room))
+words-length {ws} {gap} h = closed-row-length gap (wordRow ws) (h .lies) (word-row-length ws (h .room))
 
 -- the term behind the gap, whatever stands before it
 pub term-behind : {ws : List ℕ} {gap : Gap} → Gapped ws gap → termIn ws (behind (gap .back)) ≡ drop (gap .front) (termIn ws gap)
 term-behind {ws} {gap} h =
     row-behind (gap .back) (wordRow ws)
-    ∙ sym (row-drop (wordRow ws) (gap .front) (gap .back) (h .lies .low) (h .lies .high) (word-row-length ws (h .room)))
+    ∙ sym (closed-behind gap (wordRow ws) (h .lies) (word-row-length ws (h .room)))
 
 -- ---- the lengths are true
 
@@ -87,7 +76,7 @@ module _ {g : Signature} {ws : List ℕ} where
       record {
         gapped = record { room = h .room; lies = record { low = omega arith; high = h .lies .high } };
         lengths =
-            row-behind b (lengthRow ws) ∙ sym (row-drop (lengthRow ws) f b (h .lies .low) (h .lies .high) (length-row-length ws (h .room)))
+            row-behind b (lengthRow ws) ∙ sym (closed-behind gap (lengthRow ws) (h .lies) (length-row-length ws (h .room)))
             ∙ ap (drop f) (m .lengths) ∙ sym (spans-drop g (termIn ws gap) f) ∙ ap (spans g) (sym (term-behind h));
       }
 
@@ -122,7 +111,7 @@ module _ {g : Signature} {ws : List ℕ} where
       let n = hole .back - gap .back in
       let e : gap .back + n ≡ hole .back = omega arith in
       let rest : (row : List ℕ) → length row ≡ termWords → drop (hole .front) (closed hole row) ≡ drop n (closed (behind (gap .back)) row) =
-      λ row long. row-drop row (hole .front) (hole .back) (h .lies .low) (h .lies .high) long
+      λ row long. closed-behind hole row (h .lies) long
       ∙ ap (λ k. drop k row) (sym e) ∙ sym (drop-drop n (gap .back) row) ∙ ap (drop n) (sym (row-behind (gap .back) row)) in
       record {
         gapped = h;

@@ -5,7 +5,7 @@ use native.Mathlib.Omega.{arith}
 use mathlib.Core.Path.{_≡_, refl, sym, ap, _∙_, subst}
 use mathlib.Core.List.{List, [], _∷_, _++_, append-assoc, append-nil}
 use lib.ListN.{length, take, drop, set, length-append, length-drop, drop-of-length-le}
-use lib.Seq.{length-sets, sets-eq, drop-at, drop-drop, take-take, take-append-le, drop-append-le, take-append-seam, take-set-lt, drop-set-add, length-take-le}
+use lib.Seq.{length-sets, sets-eq, drop-at, drop-drop, take-take, take-append-le, drop-append-le, take-append-seam, length-take-le}
 use Rattle.buffers.specs.Words.{over}
 use Rattle.buffers.specs.moves.Parts.{part}
 use Rattle.buffers.proofs.Over.{length-part, part-above, take-over, drop-over}
@@ -20,20 +20,11 @@ use Rattle.rows.specs.Measured.{Measured}
 use Rattle.rows.specs.lengths.Later.{Onward}
 use Rattle.rows.specs.lengths.Written.{Written, Copyable, Laid}
 use Rattle.system.proofs.Spans.{spans-word, spans-append}
-use Rattle.rows.proofs.gap.Rows.{word-row-length, length-row-length}
-use Rattle.rows.proofs.lengths.Measures.{row-behind, row-even, row-words, words-length}
+use Rattle.rows.proofs.gap.Rows.{take-over-lt, drop-over-add, word-row-length, length-row-length}
+use Rattle.rows.proofs.gap.Closed.{closed-row-length}
+use Rattle.rows.proofs.lengths.Measures.{row-behind, row-even, words-length}
 
--- ---- written over a list, as the front and the rest of it see it
-
-over-front : (n : ℕ) (l : List ℕ) (i : ℕ) (vs : List ℕ) → i + length vs ≤ n → take n (over l i vs) ≡ over (take n l) i vs
-over-front n l i [] h = refl
-over-front n l i (v ∷ vs) h = over-front n (set l i v) (suc i) vs (omega arith) ∙ ap (λ z. over z (suc i) vs) (take-set-lt n l i v (omega arith))
-
-over-rest : (n : ℕ) (l : List ℕ) (i : ℕ) (vs : List ℕ) → drop n (over l (n + i) vs) ≡ over (drop n l) i vs
-over-rest n l i [] = refl
-over-rest n l i (v ∷ vs) =
-    let e : suc (n + i) ≡ n + suc i = omega arith in
-    ap (λ k. drop n (over (set l (n + i) v) k vs)) e ∙ over-rest n (set l (n + i) v) (suc i) vs ∙ ap (λ z. over z (suc i) vs) (drop-set-add n l i v)
+-- ---- written over a list, as the rest of it sees it
 
 pub over-behind : (l : List ℕ) (i : ℕ) (vs : List ℕ) → i + length vs ≤ length l → drop i (over l i vs) ≡ vs ++ drop (i + length vs) l
 over-behind l i vs h =
@@ -50,7 +41,7 @@ row-over gap row i vs h low high =
     let r = drop (gap .back) row in
     let long : length f ≡ gap .front = length-take-le (gap .front) row (omega arith) in
     let m : i + length vs ≤ length (f ++ r) = (let z = length-append f r in omega arith) in
-    (λ j. over-front (gap .front) row i vs h j ++ drop-over (gap .back) row i vs (omega arith) j)
+    (λ j. take-over-lt (gap .front) row i vs h j ++ drop-over (gap .back) row i vs (omega arith) j)
     ∙ ap (λ z. z ++ r) (sets-eq vs f i (omega arith)) ∙ append-assoc (take i f ++ vs) (drop (i + length vs) f) r
     ∙ (λ j. (sym (take-append-le i f r (omega arith)) j ++ vs) ++ sym (drop-append-le (i + length vs) f r (omega arith)) j)
     ∙ sym (sets-eq vs (f ++ r) i m)
@@ -65,12 +56,12 @@ module _ (ws : List ℕ) (at : ℕ) (new ls : List ℕ) (same : length ls ≡ le
   both-length = length-sets (over ws at new) (termWords + at) ls ∙ length-sets ws at new
 
   both-words : wordRow both ≡ over (wordRow ws) at new
-  both-words = take-over termWords (over ws at new) (termWords + at) ls (omega arith) ∙ over-front termWords ws at new fits
+  both-words = take-over termWords (over ws at new) (termWords + at) ls (omega arith) ∙ take-over-lt termWords ws at new fits
 
   both-lengths : lengthRow both ≡ over (lengthRow ws) at ls
   both-lengths =
-      ap (take termWords) (over-rest termWords (over ws at new) at ls ∙ ap (λ z. over z at ls) (drop-over termWords ws at new fits))
-      ∙ over-front termWords (drop termWords ws) at ls (omega arith)
+      ap (take termWords) (drop-over-add termWords (over ws at new) at ls ∙ ap (λ z. over z at ls) (drop-over termWords ws at new fits))
+      ∙ take-over-lt termWords (drop termWords ws) at ls (omega arith)
 
   both-counts : drop countsAt both ≡ drop countsAt ws
   both-counts = drop-over countsAt (over ws at new) (termWords + at) ls (omega arith) ∙ drop-over countsAt ws at new (omega arith)
@@ -85,7 +76,7 @@ module _ (ws : List ℕ) (at : ℕ) (new ls : List ℕ) (same : length ls ≡ le
         let high = lies .high in
         let e : at + length vs ≡ to = omega arith in
         ap (drop at) (row-over gap row at vs (omega arith) low (omega arith))
-        ∙ over-behind (closed gap row) at vs (let z = row-words row (gap .front) (gap .back) low high long in omega arith)
+        ∙ over-behind (closed gap row) at vs (let z = closed-row-length gap row lies long in omega arith)
         ∙ ap (λ b. vs ++ drop b (closed gap row)) e
 
     both-term : drop at (termIn both gap) ≡ new ++ drop to (termIn ws gap)
