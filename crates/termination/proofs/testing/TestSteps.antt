@@ -1,12 +1,12 @@
 -- The test by weights, rule by rule, in the terms of its loop; and how it ends for a book that was scanned.
-use Prim.Native.Nat.{ℕ, _+_, _-_, _≤_, _<_}
+use Prim.Native.Nat.{ℕ, _+_, _≤_, _<_}
 use native.Mathlib.Omega.{arith}
 use mathlib.Core.Path.{_≡_, sym, ap, _∙_}
-use mathlib.Core.Bool.{Bool, true, false, cond}
+use mathlib.Core.Bool.{Bool, true, false}
 use mathlib.Core.Option.{none, some}
 use mathlib.Core.List.{List}
-use lib.ListN.{length, getD, take, drop}
-use lib.Dec.{ltb, eqb}
+use lib.ListN.{length, getD}
+use lib.Dec.{eqb}
 use borrow.Author.Tests.{lt-ltb, le-ltb}
 use Rattle.reader.specs.declared.Shape.{Shape}
 use Rattle.system.specs.declared.Answer.{Answer}
@@ -17,13 +17,12 @@ use Rattle.system.specs.System.{Rule, rule}
 use Rattle.system.specs.Terms.{WellFormedRule}
 use Rattle.reader.specs.Parser.{read}
 use Rattle.reader.specs.Book.{systemOf, Accepted}
-use Rattle.layout.specs.rules.Rules.{ruleSpan}
 use Rattle.reader.specs.scan.Sections.{scanOf}
 use Rattle.system.proofs.BuiltIns.{both}
 use Rattle.system.proofs.Members.{member-getD, numbered-below}
 use Rattle.layout.proofs.Accepting.{scan-accepted}
-use Rattle.layout.proofs.Books.{Rest, turn-of, sides-at, rule-count, symbol-count, signature, first-rest}
-use Rattle.system.proofs.FirstFailing.{sought, sought-starts, sought-ends, sought-passes, sought-fails}
+use Rattle.layout.proofs.Books.{symbol-count, signature}
+use Rattle.layout.proofs.Seeking.{between, Sides, Seeks, seek-ends}
 use Rattle.termination.specs.Weights.{Weights}
 use Rattle.termination.specs.WeightTest.{falls, weighs, inRange, firstRising, fallAnswer, misweighedAnswer, weightsAnswer}
 use Rattle.matching.specs.rules.Searches.{NumberedSide}
@@ -31,20 +30,9 @@ use Rattle.termination.proofs.Tests.{weights-misweighed, weights-tested
 
 -- ---- the rules, one after the other
 
--- the words of a book from one index up to another
-abbrev pub between : List ℕ → ℕ → ℕ → List ℕ
-between b from end = take (end - from) (drop from b)
-
 -- rule number k falls
 abbrev pub fallsAt : List ℕ → Weights → ℕ → Bool
 fallsAt b m k = falls m (rule (systemOf b) k)
-
--- the rules from number k on stand from the index `at` on; those before `first` are still to be looked at, and `first`, if it is a rule, does not fall. The
--- book has n rules
-pub record Through (b : List ℕ) (n : ℕ) (m : Weights) (k at first : ℕ) : Type 0 where
-  pub inside : first ≤ n
-  pub rest : Rest b k at
-  pub goes : sought (fallsAt b m) n k first ≡ firstRising m (systemOf b)
 
 -- the sides of a well-formed rule
 module _ {g : Signature} {r : Rule} (law : WellFormedRule g r) where
@@ -60,76 +48,25 @@ module _ {g : Signature} {r : Rule} (law : WellFormedRule g r) where
     known = λ j l. let z = law .known (getD (r .rhs) j 0) (member-getD (r .rhs) j l) in let z′ = law .variableBound in omega arith;
   }
 
--- the sides of rule number k, which stands at p
-pub record Sides (b : List ℕ) (k : ℕ) (p : RuleSpan) : Type 0 where
-  pub left-fits : p .lhs + p .width ≤ length b
-  pub right-fits : p .next ≤ length b
-  pub right-starts : p .rhs ≤ p .next
+module _ {b : List ℕ} {k : ℕ} {p : RuleSpan} (s : Sides b k p) where
   pub numbered-left : NumberedSide (between b (p .lhs) (p .lhs + p .width))
+  numbered-left = rw (s .left) (left-numbered (s .law))
+
   pub numbered-right : NumberedSide (between b (p .rhs) (p .next))
-  pub same : record { lhs = between b (p .lhs) (p .lhs + p .width); rhs = between b (p .rhs) (p .next) } ≡ rule (systemOf b) k
+  numbered-right = rw (s .right) (right-numbered (s .law))
 
-module _ {b : List ℕ} {sh : Shape} (m : Weights) (acc : Accepted b sh) where
-  pub test-starts : Through b (sh .rules) m 0 (sh .«first_rule») (sh .rules)
-  test-starts = record {
-    inside = omega arith;
-    rest = first-rest b sh acc;
-    goes = rw (rule-count b sh acc) (sought-starts (fallsAt b m) (length (systemOf b .rules)));
-  }
+  -- what was found of its sides is so of the rule
+  pub found-falling : (m : Weights) {x y : Bool} →
+      x ≡ falls m (record { lhs = between b (p .lhs) (p .lhs + p .width); rhs = between b (p .rhs) (p .next) }) → x ≡ y → fallsAt b m k ≡ y
+  found-falling m is q = ap (falls m) (sym (s .same)) ∙ sym is ∙ q
 
-  module _ {k at first : ℕ} (so : Through b (sh .rules) m k at first) where
-    -- all were looked at, or one was found
-    module _ (h : first ≤ k) where
-      ended : cond (ltb first (sh .rules)) (some first) none ≡ firstRising m (systemOf b)
-      ended = sym (sought-ends (fallsAt b m) (sh .rules) k first h) ∙ so .goes
+-- how the search ends: all were looked at, or one was found
+module _ {b : List ℕ} {sh : Shape} (m : Weights) (acc : Accepted b sh) {k at first : ℕ} (so : Seeks b (sh .rules) (fallsAt b m) k at first) (h : first ≤ k) where
+  pub test-rises : first < sh .rules → fallAnswer (some first) ≡ fallAnswer (firstRising m (systemOf b))
+  test-rises l = ap fallAnswer (rw (lt-ltb first (sh .rules) l) at (seek-ends acc (fallsAt b m) so h))
 
-      pub test-rises : first < sh .rules → fallAnswer (some first) ≡ fallAnswer (firstRising m (systemOf b))
-      test-rises l = ap fallAnswer (rw (lt-ltb first (sh .rules) l) at ended)
-
-      pub test-falls : sh .rules ≤ first → fallAnswer none ≡ fallAnswer (firstRising m (systemOf b))
-      test-falls l = ap fallAnswer (rw (le-ltb first (sh .rules) l) at ended)
-
-    module _ (seeking : k < first) {p : RuleSpan} (e : p ≡ ruleSpan b at) where
-      more : k < sh .rules
-      more = let z = so .inside in omega arith
-
-      pub sides : Sides b k p
-      sides =
-          let t = turn-of acc more (so .rest) e .here in
-          let s = sides-at acc more (so .rest) e in
-          let n : p .next - p .rhs ≡ p .size = (let z = t .ends in omega arith) in
-          let l = t .words in
-          let r : between b (p .rhs) (p .next) ≡ rule (systemOf b) k .rhs = rw n (s .right) in
-          record {
-            left-fits = s .left-fits;
-            right-fits = t .fits;
-            right-starts = (let z = t .ends in omega arith);
-            numbered-left = rw l (left-numbered (t .law));
-            numbered-right = rw r (right-numbered (t .law));
-            same = λ i. record { lhs = l i; rhs = r i };
-          }
-
-      -- by what was found of its sides: it is the first, or the search goes on
-      module _ {x : Bool} (is : x ≡ falls m (record { lhs = between b (p .lhs) (p .lhs + p .width); rhs = between b (p .rhs) (p .next) })) where
-        found : {y : Bool} → x ≡ y → fallsAt b m k ≡ y
-        found q = ap (falls m) (sym (sides .same)) ∙ sym is ∙ q
-
-        after : Rest b (k + 1) (p .next)
-        after = turn-of acc more (so .rest) e .here .rest
-
-        pub goes-rising : x ≡ false → Through b (sh .rules) m (k + 1) (p .next) k
-        goes-rising q = record {
-          inside = (let z = more in omega arith);
-          rest = after;
-          goes = sought-fails (fallsAt b m) (sh .rules) k first seeking (so .inside) (found q) ∙ so .goes;
-        }
-
-        pub goes-falling : x ≡ true → Through b (sh .rules) m (k + 1) (p .next) first
-        goes-falling q = record {
-          inside = so .inside;
-          rest = after;
-          goes = sought-passes (fallsAt b m) (sh .rules) k first seeking (found q) ∙ so .goes;
-        }
+  pub test-falls : sh .rules ≤ first → fallAnswer none ≡ fallAnswer (firstRising m (systemOf b))
+  test-falls l = ap fallAnswer (rw (le-ltb first (sh .rules) l) at (seek-ends acc (fallsAt b m) so h))
 
 -- ---- of a book that was scanned
 

@@ -5,12 +5,13 @@ use mathlib.Core.Logic.{⊎-elim}
 use borrow.Author.Needs.{needs}
 use borrow.Author.Tests.{not-true, not-false}
 use Rattle.layout.proofs.Books.{room}
-use Rattle.termination.proofs.testing.TestSteps.{Through, Sides, sides, test-starts, test-rises, test-falls, goes-rising, goes-falling}
+use Rattle.layout.proofs.Seeking.{Sides, Seeks, sides, seek-starts, seek-fails, seek-passes}
+use Rattle.termination.proofs.testing.TestSteps.{fallsAt, numbered-left, numbered-right, found-falling, test-rises, test-falls}
 use Rattle.termination.proofs.testing.tested.Statement.{statement}
 use Rattle.termination.proofs.testing.tested.Tie as tie
 
 abbrev Inv-loop : tie.InvT-loop
-Inv-loop book weights rules k₀ at₀ first₀ k at first = Through book rules weights k at first
+Inv-loop book weights rules k₀ at₀ first₀ k at first = Seeks book rules (fallsAt book weights) k at first
 
 abbrev μ-loop : tie.MeasureT-loop
 μ-loop book weights rules k₀ at₀ first₀ k at first = rules - k
@@ -31,12 +32,13 @@ here : (c : tie.After-rule-at Inv-loop μ-loop) →
     let h = head c in Sides (entry h .args .book .now) (h .loop .k) (c .rule-at .result)
 here c =
     let h = head c in
-    let s = entry h in sides (s .args .weights .now) (s .pre .0) (h .loop .inv) (c .before .loop-test .taken) (c .rule-at .ensures)
+    let s = entry h in
+    sides (s .pre .0) (fallsAt (s .args .book .now) (s .args .weights .now)) (h .loop .inv) (c .before .loop-test .taken) (c .rule-at .ensures)
 
 -- ---- the needs
 
 loop-holds : tie.Need-loop-holds Inv-loop μ-loop
-loop-holds c = let s = c .before .before in test-starts (s .args .weights .now) (s .pre .0)
+loop-holds c = let s = c .before .before in seek-starts (s .pre .0) (fallsAt (s .args .book .now) (s .args .weights .now))
 
 rule-at-requires : tie.Need-rule-at-requires Inv-loop μ-loop
 rule-at-requires c κs =
@@ -70,7 +72,7 @@ falls-requires : tie.Need-falls-requires Inv-loop μ-loop
 falls-requires c κs =
     let r = c .before .before .before in
     let z = here r in
-    (entry (head r) .pre .1, z .numbered-left, z .numbered-right)
+    (entry (head r) .pre .1, numbered-left z, numbered-right z)
 
 add-k : tie.Need-add-k Inv-loop μ-loop
 add-k c =
@@ -94,10 +96,11 @@ loop-again c =
     let m = s .args .weights .now in
     let so = h .loop .inv in
     let seeking = r .before .loop-test .taken in
+    let test = fallsAt (s .args .book .now) m in
     let is = c .before .falls .ensures in
     ⊎-elim
-    (λ w. rw (w .1) (goes-rising m (s .pre .0) so seeking (r .rule-at .ensures) is (not-true _ (w .0 .taken))))
-    (λ w. rw (w .1) (goes-falling m (s .pre .0) so seeking (r .rule-at .ensures) is (not-false _ (w .0 .left))))
+    (λ w. rw (w .1) (seek-fails (s .pre .0) test so seeking (r .rule-at .ensures) (found-falling (here r) m is (not-true _ (w .0 .taken)))))
+    (λ w. rw (w .1) (seek-passes (s .pre .0) test so seeking (r .rule-at .ensures) (found-falling (here r) m is (not-false _ (w .0 .left)))))
     (c .if1 .came)
 
 returns : tie.Need-returns Inv-loop μ-loop
