@@ -1,11 +1,15 @@
--- A step is a rewrite of an instance of a left side in its context.
-use Prim.Native.Nat.{ℕ}
+-- A step, and a step anywhere, is a rewrite of an instance of a left side in its context.
+use Prim.Native.Nat.{ℕ, _+_}
 use mathlib.Core.Path.{_≡_, sym, ap, _∙_}
 use mathlib.Core.List.{List, _++_}
+use lib.ListN.{take, drop, take-append-drop}
+use lib.Seq.{drop-drop}
+use Rattle.system.specs.Signature.{span, subterm, replace}
 use Rattle.system.specs.System.{System, Rule, instance}
 use Rattle.system.specs.Rules.{RuleOf}
 use Rattle.system.specs.Terms.{Whole, WellFormed}
 use Rattle.rewriting.specs.Rewriting.{Step}
+use Rattle.rewriting.specs.Anywhere.{AnyStep}
 use Rattle.rewriting.proofs.Contractions.{there, subterm-there, replace-there}
 
 -- a rewrite anywhere in a term, by any rule that matches there: what a step is without its strategy. t is an instance of a left side between
@@ -34,4 +38,24 @@ step-rewrites s wf h d =
       whole = d .match .whole;
       here = x .equal ∙ ap (λ u. x .before ++ (u ++ x .behind)) (sym (d .match .equal ∙ subterm-there s wf h (d .active)));
       there = d .next ∙ replace-there s wf h (d .active) (instance (d .match .σ) (d .chosen .rhs));
+    }
+
+-- without strategies the two lists are the words before the position, and those behind the subterm there
+pub any-rewrites : (s : System) {t t′ : List ℕ} → AnyStep s t t′ → Rewrites s t t′
+unfolding subterm replace
+any-rewrites s {t} d =
+    let p = d .at in
+    let n = span (s .arities) (drop p t) 1 in
+    record {
+      number = d .number;
+      chosen = d .chosen;
+      known = d .known;
+      before = take p t;
+      behind = drop (p + n) t;
+      σ = d .match .σ;
+      whole = d .match .whole;
+      here = sym (take-append-drop p t)
+          ∙ ap (λ u. take p t ++ u) (sym (take-append-drop n (drop p t)) ∙ ap (λ u. u ++ drop n (drop p t)) (sym (d .match .equal))
+          ∙ ap (λ u. instance (d .match .σ) (d .chosen .lhs) ++ u) (drop-drop n p t));
+      there = d .next;
     }

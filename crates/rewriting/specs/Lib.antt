@@ -2,6 +2,7 @@
 pub mod Trace
 pub mod Evaluation
 pub mod Rewriting
+pub mod Anywhere
 pub mod Outcomes
 pub mod Stopped
 -- The evaluation as a machine
