@@ -51,3 +51,7 @@ maxSteps = 4294967295
 -- "a weight from 1 to 1,000" (02, F-6)
 abbrev pub maxWeight : ℕ
 maxWeight = 1000
+
+-- "the kind (0 to 63)" (02, F-8)
+abbrev pub maxSort : ℕ
+maxSort = 63

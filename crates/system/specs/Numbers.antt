@@ -52,6 +52,12 @@ pub data Verdict : Type 0 where
   misweighed : Verdict
   -- 02, F-6: a "rule that doesn't fall"
   rising : Verdict
+  -- 02, F-8: "a list of wrong length or a kind above 63"
+  missorted : Verdict
+  -- 02, F-8: a rule that does not pass, as both its sides are not "well-kinded with equal kind", or a placeholder has two
+  illRule : Verdict
+  -- 02, F-8: "a cue that isn't well-kinded"
+  illTerm : Verdict
 
 abbrev pub numberOf : Verdict → ℕ
 numberOf taken = 0
@@ -74,6 +80,9 @@ numberOf (stopping full) = 16
 numberOf untrue = 17
 numberOf misweighed = 18
 numberOf rising = 19
+numberOf missorted = 20
+numberOf illRule = 21
+numberOf illTerm = 22
 
 -- the number of a fault, and of a limit
 abbrev pub faultNumber : Fault → ℕ

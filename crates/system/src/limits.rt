@@ -34,3 +34,6 @@ pub const MAX_STEPS: u32 = 4294967295;
 
 // The largest weight of a symbol.
 pub const MAX_WEIGHT: usize = 1000;
+
+// The largest sort.
+pub const MAX_SORT: usize = 63;

@@ -47,3 +47,10 @@ pub const UNTRUE: u32 = 17;
 pub const MISWEIGHED: u32 = 18;
 
 pub const RISING: u32 = 19;
+
+// The sort test (02, F-8): what was lent is not a list of sorts for the book, a rule is not well-sorted, or the term is not.
+pub const MISSORTED: u32 = 20;
+
+pub const ILL_RULE: u32 = 21;
+
+pub const ILL_TERM: u32 = 22;
