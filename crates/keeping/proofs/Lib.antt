@@ -1,0 +1,2 @@
+-- Kinds in the evaluator's answers
+pub mod Kept
