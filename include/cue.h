@@ -1,5 +1,5 @@
 /*
- * The cue expander: show books, the order test, the test by weights, expansion, and the record of an expansion's steps.
+ * The cue expander: show books, the order test, the tests by weights and by kinds, expansion, and the record of an expansion's steps.
  *
  * Two archives: cue_replay and cue_expand_retraced, which a support desk uses, are in libcue_replay.a, all other functions in libcue.a
  * (`rt staticlib cue_replay` and `rt staticlib cue` write them to target/staticlib/). A desk links libcue.a alone. Neither needs the other,
@@ -11,10 +11,10 @@
  * heap, or holds state between calls; each may be called from any thread.
  *
  * For a show a desk needs two of these functions: cue_test_strategies once for a book, and cue_expand for each cue. A theatre that wants
- * books which can't run on needs two more: cue_test_weights once for a book and its list of weights, and cue_weigh for a cue's allowance. To
- * see an expansion again, cue_expand_recorded tells its steps and cue_replay follows them. cue_expand_checked, cue_expand_twice and
- * cue_expand_retraced are what these promise together, as functions of their own; cue_version tells the version, and the others look at a
- * book or a cue.
+ * books which can't run on needs two more: cue_test_weights once for a book and its list of weights, and cue_weigh for a cue's allowance. That no
+ * rule sends a colour to a dimmer, cue_test_kinds tells of a book and a cue. To see an expansion again, cue_expand_recorded tells its steps and
+ * cue_replay follows them. cue_expand_checked, cue_expand_twice and cue_expand_retraced are what these promise together, as functions of their
+ * own; cue_version tells the version, and the others look at a book or a cue.
  *
  * Names. The show designers' words and the words of the field stand side by side: a book is a rewrite system, a name a symbol, an
  * order a strategy, a placeholder a variable, a cue a term, a part of it a subterm, and a place a position.
@@ -27,8 +27,8 @@
  * not called.
  *
  *   linked                                                  bytes   needs           red zone
- *   libcue.a                                               24,809   memset          used
- *   libcue.a, cue_test_strategies and cue_expand alone     18,595   memset          used
+ *   libcue.a                                               28,168   memset          used
+ *   libcue.a, cue_test_strategies and cue_expand alone     18,707   memset          used
  *   libcue_replay.a                                        18,881   memset          used
  *
  * An expansion is lent 8 KB for the answer and 24 KB to work in. The stack that a call takes, read from the compiled archives with everything
@@ -45,6 +45,7 @@
  *   cue_test_strategies     libcue.a                     520
  *   cue_test_weights        libcue.a                     584
  *   cue_weigh               libcue.a                       8
+ *   cue_test_kinds          libcue.a                   3,712
  *   cue_expand              libcue.a                   2,296
  *   cue_expand_checked      libcue.a                   2,328
  *   cue_expand_twice        libcue.a                   2,392
@@ -68,13 +69,14 @@ extern "C" {
  * cue_version.
  */
 #define CUE_VERSION_MAJOR 4
-#define CUE_VERSION_MINOR 0
+#define CUE_VERSION_MINOR 1
 #define CUE_VERSION (CUE_VERSION_MAJOR * 65536UL + CUE_VERSION_MINOR)
 
 /* Sizes, in words. */
 #define CUE_TERM_WORDS 4096 /* the most words of a cue, and the least of an answer buffer */
 #define CUE_WORK_WORDS 12288 /* the least words of a work buffer: 8,192 before version 3.0 */
 #define CUE_BOOK_WORDS 21251 /* the longest book that can be accepted */
+#define CUE_KINDS_WORDS 2304 /* the longest list of kinds that can be accepted */
 
 /* Limits of a book and of an expansion. */
 #define CUE_SYMBOLS 256 /* the most names of a book */
@@ -86,6 +88,7 @@ extern "C" {
 #define CUE_VARIABLE 32768 /* placeholder k is the word 32768 + k */
 #define CUE_LEVELS 64 /* the deepest level at which an argument is evaluated; the whole cue is level 1 */
 #define CUE_MAX_WEIGHT 1000 /* the largest weight of a name */
+#define CUE_MAX_KIND 63 /* the largest kind */
 
 /*
  * Dimmer levels, and the built-in words for them. They may stand in cues and on both sides of rules, but a left side does not start with
@@ -121,7 +124,10 @@ enum {
   CUE_RECORD_FULL = 16, /* a step finds fewer than two words left in the record */
   CUE_NO_STEP = 17,   /* a pair of a record is half, or tells of no step */
   CUE_MISWEIGHED = 18, /* the list of weights does not have one weight from 1 to 1,000 for each name */
-  CUE_RISING = 19     /* a rule does not fall */
+  CUE_RISING = 19,    /* a rule does not fall */
+  CUE_MISKINDED = 20, /* the list of kinds does not have one kind from 0 to 63 for each name and each of its arguments */
+  CUE_ILL_RULE = 21,  /* a rule's sides are not well-kinded with equal kind, or a placeholder has two kinds */
+  CUE_ILL_CUE = 22    /* the cue is not well-kinded */
 };
 
 #if defined(__cplusplus) || (defined(__STDC_VERSION__) && __STDC_VERSION__ >= 199901L)
@@ -129,7 +135,7 @@ enum {
 static inline const char *cue_word(uint32_t number) {
   static const char *const words[] = {"taken",   "short",      "count",   "entry", "stranger", "ragged", "headless", "stray",
                                       "surplus", "broken cue", "cramped", "spent", "overlong", "nested", "unsettled",
-                                      "builtin", "full",       "pair",    "weights", "rising"};
+                                      "builtin", "full",       "pair",    "weights", "rising",  "kinds",  "ill rule", "ill cue"};
   return number < sizeof words / sizeof words[0] ? words[number] : "?";
 }
 #endif
@@ -244,6 +250,29 @@ cue_answer cue_test_weights(const uint16_t *book, size_t book_words, const uint1
  * that cue_test_weights answers with 0, it is at most 4,096,000.
  */
 uint32_t cue_weigh(const uint16_t *weights, size_t weights_words, const uint16_t *term, size_t term_words);
+
+/*
+ * The test by kinds: whether a book and a cue put each argument where its kind belongs. The list gives, name by name, name 0 first, the kind (0 to
+ * 63) of the name's outcome, then of each of its arguments; levels, "higher of", "lower of" and "curve" are kind 0 throughout and not in the list.
+ * A side, or a cue, is well-kinded if each argument's kind, which is that of its first word, is the one listed for its place. A placeholder's kind is
+ * that of its place on the left. A rule passes if both sides are well-kinded with equal kind and each placeholder has one kind.
+ *
+ *   number    place                        what it says
+ *   0         0                            every rule passes, and the cue is well-kinded
+ *   1 to 8,   as cue_read                  the book is refused
+ *   or 15
+ *   20        0                            the list does not have 1 + its argument count kinds for each name, or a kind is above 63
+ *   21        the lowest rule that         a rule fails
+ *             fails, from 0
+ *   9         as cue_check_term            the cue is not whole
+ *   22        0                            the cue is not well-kinded
+ *
+ * They are checked in this order. Where the answer is 0, each step keeps the cue well-kinded, and its kind, with whatever rule that fits and wherever
+ * it is taken: so the cue that an expansion hands back, with a record or without one, and where it is stopped the cue that it has reached, is
+ * well-kinded and has the kind of the cue handed in. To test a book alone, hand over a level as the cue: it passes over every book.
+ */
+cue_answer cue_test_kinds(const uint16_t *book, size_t book_words, const uint16_t *term, size_t term_words, const uint16_t *kinds,
+                          size_t kinds_words);
 
 /*
  * Expands a cue over a book, with at most `limit` steps (the allowance).

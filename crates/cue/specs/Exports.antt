@@ -34,6 +34,6 @@ matchFor m =
       | Computed k w ↦ record { found = 1; number = k; rhs = 0; size = 0; starts = m .starts; lengths = m .lengths; word = w }
     ]
 
--- the version of include/cue.h, 4.0, as one number: the first times 65,536 and the second
+-- the version of include/cue.h, 4.1, as one number: the first times 65,536 and the second
 abbrev pub version : ℕ
-version = 4 * 65536 + 0
+version = 4 * 65536 + 1

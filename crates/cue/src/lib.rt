@@ -10,6 +10,8 @@ ghost use Rattle.matching.specs.Safety.{Tells};
 ghost use Rattle.matching.specs.StrategyTest.{testAnswer};
 ghost use Rattle.termination.specs.Tells.{TellsWeights};
 ghost use Rattle.termination.specs.WeightTest.{weightsAnswer, weightLimit};
+ghost use Rattle.sort_test.specs.Tells.{TellsSorts};
+ghost use Rattle.sort_test.specs.SortTest.{sortsAnswer};
 ghost use lib.ListN.{length};
 ghost use Rattle.rewriting.specs.Evaluation.{unrecorded, recorded};
 ghost use Rattle.evaluation.specs.Expansion.{result, expansion, recordAfter};
@@ -23,7 +25,7 @@ use termination::weighing::weigh;
 // The version of include/cue.h, which has the same two numbers.
 pub const VERSION_MAJOR: u32 = 4;
 
-pub const VERSION_MINOR: u32 = 0;
+pub const VERSION_MINOR: u32 = 1;
 
 // Three numbers: one of 01's table, a place, and steps.
 #[repr(C)]
@@ -211,6 +213,15 @@ pub extern "C" fn cue_weigh(weights: &[u16], term: &[u16]) -> u32
     ensures { λ r. ⌜ r ≡ weightLimit (now (weights .entry)) (now (term .entry)) ⌝ }
 {
     weigh(weights, term)
+}
+
+// The sort test (02, F-8).
+#[no_mangle]
+pub extern "C" fn cue_test_kinds(book: &[u16], term: &[u16], kinds: &[u16]) -> CueAnswer
+    ensures tested { λ r. ⌜ r ≡ answerFor (sortsAnswer (now (book .entry)) (now (term .entry)) (now (kinds .entry))) ⌝ }
+    ensures told { λ r. ⌜ TellsSorts (now (book .entry)) (now (term .entry)) (now (kinds .entry)) (asAnswer r) ⌝ }
+{
+    answer_for(sort_test::test_kinds(book, term, kinds))
 }
 
 // Expands a term over a book with at most `limit` steps (01: the allowance).
