@@ -15,7 +15,7 @@ static uint16_t work[CUE_WORK_WORDS + 1];
 static uint16_t again[CUE_TERM_WORDS];
 static uint16_t spare[CUE_WORK_WORDS];
 static uint16_t record[2 * PAIRS + 2];
-static uint16_t list[CUE_SYMBOLS];
+static uint16_t list[CUE_KINDS_WORDS + 1];
 static int wrong;
 
 static void check(const char *what, unsigned long got, unsigned long expected) {
@@ -290,10 +290,51 @@ static void weights(void) {
   check("a sum that they do not hold", heaps(65535, 65538), 4294967295UL);
 }
 
+/* what the test by kinds answers, for a cue of so many words and a list of so many kinds */
+static void kinded(const char *what, size_t term_words, size_t list_words, uint32_t number, size_t place) {
+  cue_answer a = cue_test_kinds(book, words, term, term_words, list, list_words);
+  check(what, a.number, number);
+  check(what, a.place, place);
+  check(what, a.steps, 0);
+}
+
+/* 02, F-8: the test by kinds */
+static void kinds(void) {
+  size_t i;
+  /* the most names, each with the most arguments, and no rules; the cue is a level */
+  words = 0;
+  put(CUE_SYMBOLS);
+  for (i = 0; i < CUE_SYMBOLS; i++) put(CUE_ARGUMENTS);
+  put(CUE_SYMBOLS);
+  for (i = 0; i < CUE_SYMBOLS; i++) put(0);
+  put(0);
+  term[0] = CUE_LEVEL;
+  for (i = 0; i <= CUE_KINDS_WORDS; i++) list[i] = CUE_MAX_KIND;
+  kinded("the longest list of kinds", 1, CUE_KINDS_WORDS, CUE_TAKEN, 0);
+  kinded("a list of kinds too long", 1, CUE_KINDS_WORDS + 1, CUE_MISKINDED, 0);
+  kinded("a kind too few", 1, CUE_KINDS_WORDS - 1, CUE_MISKINDED, 0);
+  kinded("no kinds", 1, 0, CUE_MISKINDED, 0);
+  list[CUE_KINDS_WORDS - 1]++;
+  kinded("a kind too large", 1, CUE_KINDS_WORDS, CUE_MISKINDED, 0);
+
+  /* name 1 of one argument, a level, becomes "higher of" that argument twice: kinds of name 0, of name 1 and of its argument */
+  higher(2);
+  list[0] = 1, list[1] = 0, list[2] = 0;
+  term[0] = 1, term[1] = CUE_LEVEL + 7;
+  kinded("a rule and a cue that pass", 2, 3, CUE_TAKEN, 0);
+  term[1] = 0;
+  kinded("a cue with an argument of another kind", 2, 3, CUE_ILL_CUE, 0);
+  kinded("a cue that ends early", 1, 3, CUE_BROKEN, 1);
+  list[2] = 1;
+  kinded("a placeholder with two kinds, before the cue", 1, 3, CUE_ILL_RULE, 0);
+  words--;
+  kinded("the book comes before the list", 1, 2, CUE_SHORT, words);
+}
+
 int main(void) {
   static const char *const table[] = {"taken",      "short",   "count", "entry",    "stranger", "ragged",    "headless", "stray", "surplus",
                                       "broken cue", "cramped", "spent", "overlong", "nested",   "unsettled", "builtin",
-                                      "full",       "pair",    "weights", "rising"};
+                                      "full",       "pair",    "weights", "rising",  "kinds",    "ill rule",  "ill cue"};
   size_t i;
   check("the version", CUE_VERSION, CUE_VERSION_MAJOR * 65536UL + CUE_VERSION_MINOR);
   check("the archive's version", cue_version(), CUE_VERSION);
@@ -347,10 +388,11 @@ int main(void) {
   levels();
   records();
   weights();
+  kinds();
 
   /* the words of 01's table, by the numbers' names */
   for (i = 0; i < sizeof table / sizeof table[0]; i++) check(table[i], strcmp(cue_word((uint32_t)i), table[i]) == 0, 1);
-  check("a number that is not in the table", strcmp(cue_word(CUE_RISING + 1), "?") == 0, 1);
+  check("a number that is not in the table", strcmp(cue_word(CUE_ILL_CUE + 1), "?") == 0, 1);
   if (!wrong) printf("outside: the header's version, sizes, limits and words are those of the functions\n");
   return wrong;
 }

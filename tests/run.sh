@@ -1,7 +1,7 @@
 #!/usr/bin/env bash
 # The checks from outside: the C interface and its header, the stack and the sizes, the C and Rust examples, random books against the second
 # evaluator (which must also find faults that are planted in it), the words tool, the examples, the programs' files, the steps tool, the weights
-# tool and the places tool. Everything is written under target/outside. Each is a part, and two parts run at a time, as the end of this file has
+# tool, the kinds tool and the places tool. Everything is written under target/outside. Each is a part, and two parts run at a time, as the end of this file has
 # them; what a part prints is shown whole, in the order of the parts here.
 #     tests/run.sh [CASES of the random run; 100000 if not said]
 set -euo pipefail
@@ -75,11 +75,15 @@ exports() {
     say "the archives export, and the header declares, $(wc -l < "$to/exported") functions"
 }
 
-# 2. the stack of each operation: below the 4,096 bytes that the desk's task has; with a limit too low the measure must fail; and the
-# header's tables of sizes and stack
+# 2. the stack of each operation: below the 4,096 bytes that the desk's task has; with a limit too low the measure must fail; the header's tables
+# of sizes and stack; and what the one recursion really takes of it, on the sides that open the most calls
 stack() {
     BUILT=1 bash tests/stack.sh || fail "the stack, or the header's tables"
     ! BUILT=1 bash tests/stack.sh 100 > "$to/low" 2>&1 && grep -q 'ABOVE 100:' "$to/low" || fail "the stack is never too deep"
+    quiet gcc "${strict[@]}" -D_GNU_SOURCE -Iinclude tests/depth.c "$archive" -o "$to/depth"
+    told=$(sed -n 's/^ \*   cue_test_kinds  *libcue.a  *\([0-9,]*\)$/\1/p' include/cue.h | tr -d ,)
+    frame=$(python3 tests/stack.py "$archive" | sed -n 's/.* > sorts::sides::check \([0-9]*\) x 32$/\1/p')
+    "$to/depth" "$told" "$frame" || fail "the test by kinds takes another stack than the header tells"
 }
 
 # 3. the header's version, sizes, limits and words against what the functions do, and the examples in C and Rust, for which libcue.a is enough
@@ -109,7 +113,7 @@ header() {
 second() { quiet rustc -O --edition 2021 -D warnings -L target/staticlib tests/second/main.rs -o "$to/second"; }
 random() { "$to/second" "$cases" || fail "the product and the second evaluator differ, or a number came too seldom"; }
 planted() {
-    plants=27
+    plants=37
     for ((plant = 1; plant <= plants; plant++)); do
         status=0
         "$to/second" --plant "$plant" > "$to/plant-$plant" || status=$?
@@ -188,10 +192,24 @@ weights() {
     prints tests/weights.sh "$to/weights"
 }
 
-# 9. the places tool; and each script above says in a line what it needs
+# 9. the kinds tool: an example that passes, a rule of it that sends a colour to a dimmer, and a cue that does; and its files
+kinds() {
+    quiet gcc "${strict[@]}" -Iinclude tools/kinds.c "$archive" -o "$to/kinds"
+    example=examples/colour-to-dimmer at=$to/colour-to-dimmer
+    "$to/kinds" "$at/book" "$at/kinds" "$at/cue" > "$at/tested" || fail "book and cue are refused"
+    diff "$example/tested" "$at/tested" || fail "book and cue are told otherwise"
+    ! "$to/kinds" "$at/book-sent" "$at/kinds" "$at/cue" > "$at/tested" || fail "a rule that sends a colour to a dimmer is taken"
+    diff "$example/tested-rule" "$at/tested" || fail "the rule is told otherwise"
+    ! "$to/kinds" "$at/book" "$at/kinds" "$at/cue-sent" > "$at/tested" || fail "a cue that sends a colour to a dimmer is taken"
+    diff "$example/tested-cue" "$at/tested" || fail "the cue is told otherwise"
+    say "the kinds tool tests the example, its rule and its cue"
+    prints tests/kinds.sh "$to/kinds"
+}
+
+# 10. the places tool; and each script above says in a line what it needs
 places() {
     prints tests/places.sh tools/places
-    for script in program check_book steps weights words places; do
+    for script in program check_book steps weights kinds words places; do
         for arguments in '' target/none; do
             status=0
             bash "tests/$script.sh" $arguments > "$to/said" 2>&1 || status=$?
@@ -200,7 +218,7 @@ places() {
     done
 }
 
-# 10. the benchmark builds, alone and beside another build of the product, without its replay and with it, and all agree (its times are not looked
+# 11. the benchmark builds, alone and beside another build of the product, without its replay and with it, and all agree (its times are not looked
 # at here)
 benchmark() {
     quiet env BUILT=1 bash tests/bench/run.sh 0
@@ -233,7 +251,8 @@ start planted
 start benchmark
 start header
 start weights
+start kinds
 start steps
 start random
-show exports stack header random planted words programs steps weights places benchmark
+show exports stack header random planted words programs steps weights kinds places benchmark
 say "all is well"

@@ -6,9 +6,10 @@
 For each exported cue_* function: the bytes of its deepest chain of calls, and that chain; and which functions use the red zone. Read from
 the compiled code (objdump), as a bound from above: a function takes its return address, every push and every move of the stack pointer in
 it, and the red zone if it uses bytes below the stack pointer. A jump to another function counts as a call. What the C library brings
-counts with ALLOWED bytes. tests/porting.py holds the header's tables to this measure.
+counts with ALLOWED bytes. A function of OPEN may call itself: its frame counts as often as calls of it are open at most. tests/porting.py
+holds the header's tables to this measure.
 
-Exit status: 0 all at most LIMIT; 1 one above it, or one that can't be bounded: recursion, a call or jump through a pointer, a frame
+Exit status: 0 all at most LIMIT; 1 one above it, or one that can't be bounded: another recursion, a call or jump through a pointer, a frame
 whose size is not a constant, a call of something unknown; 2 bad usage.
 """
 import re
@@ -17,6 +18,8 @@ import sys
 
 OUTSIDE = ("memcpy", "memmove", "memset")
 ALLOWED = 256  # for each of those, its return address included
+# functions that call themselves, and how many calls of each are open at most: docs/DECISIONS.md (sorts) says why
+OPEN = {"sorts::sides::check": 32}
 RED_ZONE = 128  # x86-64: what a function that calls no other may use below its stack pointer
 
 
@@ -118,10 +121,11 @@ def deepest(found, name, around=()):
     f = found[name]
     if f.faults:
         raise Unbounded(f"in {name} {f.faults[0]}")
-    inner = [deepest(found, to, around + (name,)) for to in sorted(set(called(found, name)))]
+    times = OPEN.get(name, 1)
+    inner = [deepest(found, to, around + (name,)) for to in sorted(set(called(found, name))) if to != name or times == 1]
     inner.append((f.below, [f"below it {f.below}"] if f.below else []))
     most, chain = max(inner, key=lambda i: i[0])
-    return f.frame + most, [f"{name} {f.frame}"] + chain
+    return f.frame * times + most, [f"{name} {f.frame}" + (f" x {times}" if times > 1 else "")] + chain
 
 
 def in_red_zone(found):

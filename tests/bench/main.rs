@@ -15,6 +15,9 @@ mod book;
 #[path = "../second/evaluate.rs"]
 #[allow(dead_code)]
 mod evaluate;
+#[path = "../second/kinds.rs"]
+#[allow(dead_code)]
+mod kinds;
 #[path = "../second/plant.rs"]
 #[allow(dead_code)]
 mod plant;
@@ -28,6 +31,7 @@ mod product_replay;
 #[allow(dead_code)]
 mod weights;
 mod archives;
+mod kinded;
 mod maude;
 mod records;
 mod works;
@@ -197,6 +201,7 @@ fn all() -> i32 {
     agree &= largest_book("order test, largest book", least, archives(), Archive::test, passes, 0);
     // the other archive may be older than this test
     agree &= largest_book("weights, largest book", least, vec![PRODUCT], |_, b| product::test_weights(b, &FALLING), falls, 0);
+    agree &= kinded::rows(least);
     println!("(ratio: the product's time by the second evaluator's, which works on shared trees with a heap; both from words to words.");
     println!(" new/other: the product's steps for each second by the other archive's, or where there are no steps its time by the product's. A");
     println!(" nest of repeats that the other would not end is left out there, and so are levels, the curve and same(a, a), if it does not know them.");

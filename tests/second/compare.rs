@@ -3,6 +3,7 @@
 use crate::book::{self, Book, Cue};
 use crate::checks::{answer, same, Checked};
 use crate::compare_expansions::{expansion, input};
+use crate::compare_kinds::compare_kinds;
 use crate::compare_met::{buffers, refused};
 use crate::compare_records::compare_records;
 use crate::compare_twins::{meet_twins, read_twins};
@@ -166,5 +167,6 @@ pub fn compare(case: &Case, plant: Plant, n: &mut Counts) -> Checked {
     count(&mut n.buffers, &buffers(case, &input));
     expansion(case, plant, &input, n)?;
     compare_records(case, plant, &input, n)?;
-    compare_weights(case, plant, &read, &cue, n)
+    compare_weights(case, plant, &read, &cue, n)?;
+    compare_kinds(case, plant, &read, &cue, n)
 }

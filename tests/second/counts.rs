@@ -1,12 +1,13 @@
 //! What was met in the cases of a run, for the statistics.
 
+use crate::compare_kinds::{KEPT, KINDED};
 use crate::compare_met::{BUFFERS, LEVELS, LONG, REFUSED};
 use crate::compare_records::{RECORDED, REPLAYED};
 use crate::compare_twins::TWINS;
 use crate::compare_weights::{FALLING, WEIGHED};
 
-/// The numbers of the table: 0 to 19.
-pub const NUMBERS: usize = 20;
+/// The numbers of the table: 0 to 22.
+pub const NUMBERS: usize = 23;
 
 /// What was met, for the statistics.
 #[derive(Clone, Default)]
@@ -19,6 +20,7 @@ pub struct Counts {
     pub recorded: [u64; NUMBERS],
     pub replayed: [u64; NUMBERS],
     pub weighed: [u64; NUMBERS],
+    pub kinded: [u64; NUMBERS],
     /// answers 0 by steps: 0, 1 to 9, 10 to 99, 100 to 999, more
     pub steps: [u64; 5],
     pub most_steps: u32,
@@ -35,6 +37,8 @@ pub struct Counts {
     pub replayed_met: [u64; REPLAYED.len()],
     pub weighed_met: [u64; WEIGHED.len()],
     pub falling_met: [u64; FALLING.len()],
+    pub kinded_met: [u64; KINDED.len()],
+    pub kept_met: [u64; KEPT.len()],
     pub twins: [u64; TWINS.len()],
     pub arguments: u64,
     pub matches: u64,
@@ -61,6 +65,7 @@ impl Counts {
         all(&mut self.recorded, &o.recorded);
         all(&mut self.replayed, &o.replayed);
         all(&mut self.weighed, &o.weighed);
+        all(&mut self.kinded, &o.kinded);
         all(&mut self.steps, &o.steps);
         all(&mut self.levels, &o.levels);
         all(&mut self.refused, &o.refused);
@@ -70,6 +75,8 @@ impl Counts {
         all(&mut self.replayed_met, &o.replayed_met);
         all(&mut self.weighed_met, &o.weighed_met);
         all(&mut self.falling_met, &o.falling_met);
+        all(&mut self.kinded_met, &o.kinded_met);
+        all(&mut self.kept_met, &o.kept_met);
         all(&mut self.twins, &o.twins);
         self.most_steps = self.most_steps.max(o.most_steps);
         self.exact += o.exact;

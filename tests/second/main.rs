@@ -5,8 +5,8 @@
 //! CASES cases (100,000 if not said), from seed 0 (or --seed) on; one thread for each processor, if not said. --plant plants a fault in the
 //! second evaluator, by its number in plant.rs, which the run must then find. --plain leaves out what takes too long if nothing is remembered of
 //! arguments that took no step: for a product that remembers nothing. Exit status: 0 no difference; 1 a difference, printed with its seed and
-//! cut down; 2 a number of the table, a nest of repeats, a kind of level, of work buffer, of long cue, of record or of list of weights came too
-//! seldom, or bad usage.
+//! cut down; 2 a number of the table, a nest of repeats, a kind of level, of work buffer, of long cue, of record, of list of weights or of list of
+//! kinds came too seldom, or bad usage.
 
 #[macro_use]
 mod calls;
@@ -15,6 +15,7 @@ mod book;
 mod checks;
 mod compare;
 mod compare_expansions;
+mod compare_kinds;
 mod compare_met;
 mod compare_records;
 mod compare_twins;
@@ -23,8 +24,10 @@ mod counts;
 mod demand3;
 mod draft;
 mod evaluate;
+mod kinds;
 mod paper;
 mod paper_curve;
+mod paper_kinds;
 mod paper_lengths;
 mod paper_levels;
 mod paper_records;
@@ -37,6 +40,7 @@ mod random;
 mod random_books;
 mod random_changes;
 mod random_faults;
+mod random_kinds;
 mod random_long;
 mod random_records;
 mod random_shows;
@@ -48,6 +52,7 @@ mod shrink;
 mod weights;
 
 use compare::compare;
+use compare_kinds::{KEPT, KINDED};
 use compare_met::{BUFFERS, LEVELS, LONG, REFUSED};
 use compare_records::{RECORDED, REPLAYED};
 use compare_twins::TWINS;
@@ -118,6 +123,7 @@ fn print_case(case: &Case) {
     println!("  record of {} words; then answer buffer {}, work buffer {}", case.room, case.again_words, case.spare_words);
     println!("  record to be replayed ({} words): {}", case.record.len(), words(&case.record));
     println!("  weights ({}): {}", case.weights.len(), words(&case.weights));
+    println!("  kinds ({}): {}", case.kinds.len(), words(&case.kinds));
 }
 
 fn report(seed: u64, plant: Plant) {
@@ -149,6 +155,7 @@ fn statistics(n: &Counts) {
     row("recorded", &n.recorded);
     row("replay", &n.replayed);
     row("weights", &n.weighed);
+    row("kinds", &n.kinded);
     println!(
         "  answers 0 by steps: none {}, 1 to 9 {}, 10 to 99 {}, 100 to 999 {}, more {}; the most {}",
         n.steps[0], n.steps[1], n.steps[2], n.steps[3], n.steps[4], n.most_steps
@@ -163,6 +170,8 @@ fn statistics(n: &Counts) {
     println!("  replay: {}", list(&REPLAYED, &n.replayed_met));
     println!("  weights: {}", list(&WEIGHED, &n.weighed_met));
     println!("  finite shows: {}", list(&FALLING, &n.falling_met));
+    println!("  kinds: {}", list(&KINDED, &n.kinded_met));
+    println!("  kinds kept: {}", list(&KEPT, &n.kept_met));
     println!("  twins: {}", list(&TWINS, &n.twins));
     print!("  demand 3: lists of steps checked {}, settled cues checked and expanded again {}", n.listed, n.settled);
     println!(", replays checked {}", n.followed);
@@ -170,27 +179,28 @@ fn statistics(n: &Counts) {
 }
 
 /// Every number of each operation is to come often, and so are nested repeats, levels of each kind, refusals round the curve, work buffers of
-/// every size, and what is counted of records and of weights: at least once in 500 cases; and what is counted of long cues, once in 1,000.
+/// every size, and what is counted of records, of weights and of kinds: at least once in 500 cases; and what is counted of long cues, once in 1,000.
 fn seldom(n: &Counts, plain: bool) -> Vec<String> {
     let least = n.cases / 500;
     let mut all = vec![];
     if !plain && n.repeats < least {
         all.push(format!("nested repeats came only {} times", n.repeats));
     }
-    let operations: [(&str, &[u64; NUMBERS], Vec<usize>); 6] = [
+    let operations: [(&str, &[u64; NUMBERS], Vec<usize>); 7] = [
         ("the reader", &n.read, (0..=8).chain([15]).collect()),
         ("the order test", &n.test, vec![0, 14]),
         ("the expander", &n.expand, (0..=13).chain([15]).collect()),
         ("the recorded expander", &n.recorded, (0..=13).chain([15, 16]).collect()),
         ("the replay", &n.replayed, (0..=10).chain([12, 15, 17]).collect()),
         ("the test by weights", &n.weighed, (0..=8).chain([15, 18, 19]).collect()),
+        ("the test by kinds", &n.kinded, (0..=9).chain([15, 20, 21, 22]).collect()),
     ];
     for (name, counts, numbers) in operations {
         for i in numbers.into_iter().filter(|&i| counts[i] < least) {
             all.push(format!("{i} of {name} came only {} times", counts[i]));
         }
     }
-    let lists: [(&[&str], &[u64], u64); 9] = [
+    let lists: [(&[&str], &[u64], u64); 11] = [
         (&LEVELS, &n.levels, least),
         (&REFUSED, &n.refused, least),
         (&BUFFERS, &n.buffers, least),
@@ -199,6 +209,8 @@ fn seldom(n: &Counts, plain: bool) -> Vec<String> {
         (&REPLAYED, &n.replayed_met, least),
         (&WEIGHED, &n.weighed_met, least),
         (&FALLING, &n.falling_met, least),
+        (&KINDED, &n.kinded_met, least),
+        (&KEPT, &n.kept_met, least),
         (&TWINS, &n.twins, least),
     ];
     for (whats, counts, least) in lists {
@@ -262,6 +274,7 @@ fn all() -> i32 {
         faults.extend(paper_lengths::lengths());
         faults.extend(paper_weights::weights());
         faults.extend(paper_twins::twins());
+        faults.extend(paper_kinds::kinds());
         if !o.plain {
             faults.extend(paper::repeats());
         }
@@ -271,7 +284,7 @@ fn all() -> i32 {
         if !faults.is_empty() {
             return 1;
         }
-        println!("second: the paper's cases C1 to C15, F-2's to F-7's{} hold for both", if o.plain { "" } else { ", and nested repeats," });
+        println!("second: the paper's cases C1 to C15, F-2's to F-8's{} hold for both", if o.plain { "" } else { ", and nested repeats," });
     }
     let start = Instant::now();
     let (n, found) = run(&o);

@@ -1,12 +1,13 @@
 //! The papers' own cases, typed in by hand: what they expect is held against the second evaluator and the product. Here are 01's ("Rehearsal
-//! cues") with F-1's, and nested repeats; F-2's to F-7's are in paper_levels.rs, paper_records.rs, paper_curve.rs, paper_lengths.rs,
-//! paper_weights.rs and paper_twins.rs.
+//! cues") with F-1's, and nested repeats; F-2's to F-8's are in paper_levels.rs, paper_records.rs, paper_curve.rs, paper_lengths.rs,
+//! paper_weights.rs, paper_twins.rs and paper_kinds.rs.
 
 use crate::book::{self, Book, ANSWER_WORDS, WORK_WORDS};
 use crate::compare::{compare, span};
 use crate::compare_records::numbers;
 use crate::counts::Counts;
 use crate::evaluate::{evaluate, evaluate_recorded, pairs, End};
+use crate::kinds::entries;
 use crate::plant::Plant;
 use crate::product;
 use crate::product_replay;
@@ -42,6 +43,8 @@ pub fn case(book: &[u16], cue: &[u16], limit: u32) -> Case {
         spare_words: WORK_WORDS,
         // as many as a book that is taken has names
         weights: vec![1; book.first().map_or(0, |&s| s as usize)],
+        // one for each name and each of its arguments
+        kinds: vec![0; book::read(book).map_or(0, |b| entries(&b))],
     }
 }
 

@@ -60,14 +60,36 @@ pub enum Plant {
     AnyTwins,
     /// no rule falls with a placeholder on the right twice, as it was before F-7
     OnceRight,
+    /// a placeholder may have two kinds
+    TwoKinds,
+    /// a rule's sides may be of different kinds
+    AnyOutcome,
+    /// an argument's kind is read from its neighbour
+    Neighbour,
+    /// 22 is checked before 21
+    CueFirst,
+    /// 9 is checked before 21
+    BrokenFirst,
+    /// levels and built-in words have the kind listed for name 0
+    NameZero,
+    /// the kind of the last argument is not looked at
+    LastArgument,
+    /// a kind of 64 is taken
+    Kind64,
+    /// a list with one kind too many is taken
+    LongKinds,
+    /// the test by kinds tells the highest rule that fails
+    LastIll,
 }
 
 /// The faults by their numbers, from 1 on.
-pub const PLANTS: [Plant; 27] = [
+pub const PLANTS: [Plant; 37] = [
     Plant::OldOrder, Plant::FirstZero, Plant::OverlongFirst, Plant::Evaluated, Plant::LastFailing, Plant::Larger, Plant::OneLevel,
     Plant::FullLast, Plant::AnyRule, Plant::AnyPlace, Plant::CutOff, Plant::LowByte, Plant::OldRoom, Plant::OldZeros, Plant::SameWeight,
     Plant::Twice, Plant::LastRising, Plant::TooHeavy, Plant::LongList, Plant::LevelsWeigh, Plant::NoTwins, Plant::NewTwins,
     Plant::IdleTwins, Plant::FirstWords, Plant::SameLengths, Plant::AnyTwins, Plant::OnceRight,
+    Plant::TwoKinds, Plant::AnyOutcome, Plant::Neighbour, Plant::CueFirst, Plant::BrokenFirst, Plant::NameZero, Plant::LastArgument,
+    Plant::Kind64, Plant::LongKinds, Plant::LastIll,
 ];
 
 impl Plant {

@@ -68,6 +68,7 @@ pub mod c {
             fn cue_test_strategies(book; ;) -> Answer;
             fn cue_test_weights(book, weights; ;) -> Answer;
             fn cue_weigh(weights, term; ;) -> u32;
+            fn cue_test_kinds(book, term, kinds; ;) -> Answer;
             fn cue_expand(book, term; limit: u32; out, work) -> Answer;
             fn cue_expand_checked(book, term; limit: u32; out, work) -> Checked;
             fn cue_expand_twice(book, term; limit: u32; out, work, again, spare) -> Twice;
@@ -124,6 +125,10 @@ pub fn test_weights(book: &[u16], weights: &[u16]) -> Answer {
 
 pub fn weigh(weights: &[u16], term: &[u16]) -> u32 {
     call!(c::cue_weigh; weights, term; ;)
+}
+
+pub fn test_kinds(book: &[u16], term: &[u16], kinds: &[u16]) -> Answer {
+    call!(c::cue_test_kinds; book, term, kinds; ;)
 }
 
 pub fn expand(book: &[u16], term: &[u16], limit: u32, out: &mut [u16], work: &mut [u16]) -> Answer {

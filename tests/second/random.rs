@@ -7,6 +7,7 @@ use crate::plant::Plant;
 use crate::random_books::{again, largest, plain, repeats};
 use crate::random_changes::{bend, lighten, renumber, vary};
 use crate::random_faults::{break_cue, damage, odd_word, planned_damage};
+use crate::random_kinds::kinds;
 use crate::random_long::long;
 use crate::random_records::{noise, record, room};
 use crate::random_shows::{arithmetic, chase, deep, dimmers, doubling, lists, wide};
@@ -71,6 +72,8 @@ pub struct Case {
     pub spare_words: usize,
     /// the list of weights by which the book is tested
     pub weights: Vec<u16>,
+    /// the list of kinds by which book and cue are tested
+    pub kinds: Vec<u16>,
 }
 
 /// More work than this is too much for one case.
@@ -197,8 +200,10 @@ pub fn case(seed: u64) -> Case {
         None => (r.below(10) as u32, r.below(10), noise(r)),
     };
     let (again_words, spare_words) = buffers(r);
-    let weights = weights(r, &read.map_or(d, |b| Draft::of(&b)));
-    Case { book, cue, limit, out_words, work_words, dirt, room, record, again_words, spare_words, weights }
+    let d = read.map_or(d, |b| Draft::of(&b));
+    let weights = weights(r, &d);
+    let kinds = kinds(r, &d, &cue);
+    Case { book, cue, limit, out_words, work_words, dirt, room, record, again_words, spare_words, weights, kinds }
 }
 
 /// An allowance that is met by one more or less, or far from being met, and an expansion with at least that.

@@ -69,7 +69,7 @@ impl Place {
     }
 
     /// The whole cue with another part there.
-    fn put(self, new: Rc<Cue>) -> Rc<Cue> {
+    pub fn put(self, new: Rc<Cue>) -> Rc<Cue> {
         self.way.into_iter().rev().fold(new, |part, (c, i)| {
             let mut arguments = c.arguments.clone();
             arguments[i - 1] = part;

@@ -50,6 +50,9 @@ fn smaller(case: &Case) -> Vec<Case> {
     for weights in lighter(&case.weights) {
         put(&|c| c.weights = weights.clone());
     }
+    for kinds in lighter(&case.kinds) {
+        put(&|c| c.kinds = kinds.clone());
+    }
     if let Ok(b) = book::read(&case.book) {
         let d = Draft::of(&b);
         // rules, and their numbers in the record
@@ -61,12 +64,14 @@ fn smaller(case: &Case) -> Vec<Case> {
                 c.record.iter_mut().skip(1).step_by(2).filter(|w| (k + 1..128).contains(&(**w as usize))).for_each(|w| *w -= 1);
             });
         }
-        // names that nothing uses, and their weights
+        // names that nothing uses, and their weights and kinds
         for k in (1..d.counts.len()).rev() {
             if let Some((e, cue)) = without(&d, &case.cue, k as u16) {
                 put(&|c| {
                     (c.book, c.cue) = (e.write(), cue.clone());
                     c.weights = c.weights.iter().enumerate().filter(|w| w.0 != k).map(|w| *w.1).collect();
+                    let at: usize = d.counts[..k].iter().map(|n| 1 + n).sum();
+                    c.kinds = c.kinds.iter().enumerate().filter(|w| !(at..=at + d.counts[k]).contains(&w.0)).map(|w| *w.1).collect();
                 });
             }
         }
@@ -160,7 +165,7 @@ fn shorter(record: &[u16]) -> Vec<Vec<u16>> {
     all
 }
 
-/// Lists of smaller weights, all at once or one, and with one weight less.
+/// Lists of smaller weights or kinds, all at once or one, and with one less.
 fn lighter(weights: &[u16]) -> Vec<Vec<u16>> {
     let less = |w: u16| [w.min(1), w / 2, w.saturating_sub(1)];
     let mut all: Vec<Vec<u16>> = (0..3).map(|i| weights.iter().map(|&w| less(w)[i]).collect()).collect();
