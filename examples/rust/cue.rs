@@ -2,7 +2,7 @@
 //! (`rt staticlib cue` writes it to target/staticlib/).
 
 /// The version of the header from which this file was written: 65536 times the first number, and the second.
-pub const VERSION: u32 = 4 * 65536;
+pub const VERSION: u32 = 4 * 65536 + 1;
 
 /// The words to lend to an expansion: for the answer, and to work in.
 pub const TERM_WORDS: usize = 4096;
