@@ -19,8 +19,8 @@ pub struct Kinded {
     pub answer: Answer,
 }
 
-// Tests book and term by the list of sorts, and expands the term: where they passed, what is handed back is well-sorted and has the sort of the
-// term, and where a limit stops it, so has the term that was reached.
+// Tests book and term by the list of sorts, and expands the term: where they passed, every step keeps a term well-sorted and of its sort, so what is
+// handed back is, and where a limit stops it, the term that was reached.
 pub fn expand_kinded(
     book: &[u16],
     kinds: &[u16],

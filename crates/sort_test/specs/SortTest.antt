@@ -27,7 +27,7 @@ allSmall (k ∷ ks) = leb k maxSort && allSmall ks
 unfoldable pub lists : Sorts → Signature → Bool
 lists ks g = eqb (length ks) (entries g) && allSmall ks
 
--- "on 0 in the tools added below, place and steps are 0 unless a request says otherwise"
+-- "From 18 on, and on 0 in the tools added below, place and steps are 0 unless a request says otherwise"
 abbrev pub answerWith : Verdict → ℕ → Answer
 answerWith v p = record { number = numberOf v; place = p; steps = 0 }
 
