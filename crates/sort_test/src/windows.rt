@@ -14,7 +14,7 @@ ghost use Rattle.system.specs.Signature.{signatureOf};
 ghost use Rattle.sorts.specs.Sorts.{offset, resultSort};
 ghost use Rattle.sorts.specs.SortCheck.{sortedTerm};
 ghost use Rattle.sorts.specs.sides.Ran.{Narrow};
-ghost use Rattle.sort_test.specs.windows.Windows.{windowWords, within, windowed, Placed, Kept};
+ghost use Rattle.sort_test.specs.windows.Windows.{windowWords, within, windowed, Placed, Put};
 use sorts::sides::listed;
 use sorts::sides::offset;
 use system::words::arity;
@@ -39,7 +39,7 @@ fn place(window: &mut [u16; WINDOW], low: usize, at: usize, e: u16)
 // Puts the n numbers of the list from k on, the sorts of the arguments to come, on the height h: the first one highest.
 fn put(kinds: &[u16], window: &mut [u16; WINDOW], low: usize, h: usize, k: usize, n: usize)
     requires { ⌜ (length (now window) ≡ windowWords) × (low ≤ termWords) × (h ≤ termWords) × (k ≤ 65535) × (n ≤ 65535) ⌝ }
-    ensures { λ _. ⌜ Kept (now (kinds .entry)) low h k n (now (window .entry)) (now (window .exit)) ⌝ }
+    ensures { λ _. ⌜ Put (now (kinds .entry)) low h k n (now (window .entry)) (now (window .exit)) ⌝ }
 {
     let mut j = 0;
     while j < n {
@@ -49,7 +49,7 @@ fn put(kinds: &[u16], window: &mut [u16; WINDOW], low: usize, h: usize, k: usize
 }
 
 // A word at height h: whether its sort is that of its place, if that is in the window; then the sorts of its arguments are put there.
-fn step(
+fn visit(
     book: &[u16],
     kinds: &[u16],
     window: &mut [u16; WINDOW],
@@ -58,9 +58,9 @@ fn step(
     w: u16,
 ) -> bool
     requires { ⌜ (length (now window) ≡ windowWords) × (low ≤ termWords) × (h ≤ termWords) × Narrow (signatureOf (now book)) ⌝ }
-    ensures fits { λ r. ⌜ r ≡ (not (within low h) || eqb (resultSort (signatureOf (now (book .entry))) (now (kinds .entry)) w)
+    ensures compared { λ r. ⌜ r ≡ (not (within low h) || eqb (resultSort (signatureOf (now (book .entry))) (now (kinds .entry)) w)
         (getD (now (window .entry)) (h - low) 0)) ⌝ }
-    ensures kept { λ r. ⌜ (r ≡ true → Kept (now (kinds .entry)) low h (offset (signatureOf (now (book .entry))) w + 1)
+    ensures put { λ r. ⌜ (r ≡ true → Put (now (kinds .entry)) low h (offset (signatureOf (now (book .entry))) w + 1)
         (arity (signatureOf (now (book .entry))) w) (now (window .entry)) (now (window .exit))) ⌝ }
 {
     let a = arity(book, w);
@@ -93,7 +93,7 @@ fn pass(book: &[u16], kinds: &[u16], term: &[u16], low: usize) -> bool
     while p < term.len() {
         let w = term[p];
         due -= 1;
-        if !step(book, kinds, &mut window, low, due, w) {
+        if !visit(book, kinds, &mut window, low, due, w) {
             return false;
         }
         due += arity(book, w);

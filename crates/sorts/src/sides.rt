@@ -9,7 +9,7 @@ ghost use Rattle.system.specs.Signature.{Signature};
 ghost use Rattle.system.specs.Signature.{signatureOf};
 ghost use Rattle.sorts.specs.Sorts.{offset, numbersFrom};
 ghost use Rattle.sorts.specs.SortCheck.{note, check, sortedRule};
-ghost use Rattle.sorts.specs.sides.Ran.{Ran, Noted, Fitted, Marked, Narrow, mostEntries};
+ghost use Rattle.sorts.specs.sides.Ran.{Ran, Noted, SideChecked, Marked, Narrow, mostEntries};
 use system::limits::SIDE_WORDS;
 use system::limits::VARIABLE;
 use system::limits::VARIABLES;
@@ -155,10 +155,16 @@ fn check(
 }
 
 // Whether a side has the sort at index k of the list, by the sorts that are noted of the variables; notes those of others.
-fn fits(book: &[u16], kinds: &[u16], side: &[u16], vars: &mut [u16; VARIABLES], k: usize) -> bool
+fn has_sort(
+    book: &[u16],
+    kinds: &[u16],
+    side: &[u16],
+    vars: &mut [u16; VARIABLES],
+    k: usize,
+) -> bool
     requires { ⌜ Narrow (signatureOf (now book)) × (length (now side) ≤ sideWords) × (k + 1 ≤ mostEntries) × (length (now vars) ≡ variables) ⌝ }
     ensures sized { λ _. ⌜ length (now (vars .exit)) ≡ variables ⌝ }
-    ensures fitted { λ r. ⌜ Fitted (check (signatureOf (now (book .entry))) (now (kinds .entry)) (now (side .entry))
+    ensures checked { λ r. ⌜ SideChecked (check (signatureOf (now (book .entry))) (now (kinds .entry)) (now (side .entry))
         (numbersFrom (now (kinds .entry)) k 1) (now (vars .entry))) r (now (vars .exit)) ⌝ }
 {
     let marks = mark(book, side);
@@ -173,8 +179,8 @@ pub fn passes(book: &[u16], kinds: &[u16], lhs: &[u16], rhs: &[u16]) -> bool
 {
     let k = offset(book, lhs[0]);
     let mut vars = [UNSET; VARIABLES];
-    if !fits(book, kinds, lhs, &mut vars, k) {
+    if !has_sort(book, kinds, lhs, &mut vars, k) {
         return false;
     }
-    fits(book, kinds, rhs, &mut vars, k)
+    has_sort(book, kinds, rhs, &mut vars, k)
 }

@@ -12,7 +12,7 @@ use borrow.Author.Tests.{eq-eqb, ne-eqb}
 use Rattle.system.specs.Signature.{Signature, arity}
 use Rattle.system.proofs.BuiltIns.{clash}
 use Rattle.sorts.specs.Sorts.{Sorts, offset, numbersFrom, resultSort}
-use Rattle.sort_test.specs.windows.Windows.{windowWords, within, Placed, Kept, Window}
+use Rattle.sort_test.specs.windows.Windows.{windowWords, within, Placed, Put, Window}
 use Rattle.sorts.proofs.Sortings.{numbers-length}
 use Rattle.sorts.proofs.sides.Lists.{numbers-at}
 use Rattle.sort_test.proofs.windows.Windows.{within-in, within-low, within-high}
@@ -40,7 +40,7 @@ module _ (ks : Sorts) (low h k n : ℕ) (before : List ℕ) where
   putting-starts s = record { inside = omega arith; size = s; below = λ x l m b. refl; above = λ x l m a b. absurd (omega arith) }
 
   module _ {j : ℕ} {window : List ℕ} (so : Putting ks low h k n before j window) where
-    pub putting-ends : n ≤ j → Kept ks low h k n before window
+    pub putting-ends : n ≤ j → Put ks low h k n before window
     putting-ends e = record { size = so .size; below = so .below; above = λ x l m a b. so .above x l m (omega arith) b }
 
     pub putting-next : j < n → {at e : ℕ} → at ≡ h + (n - 1 - j) → e ≡ getD ks (k + j) 0 → (after : List ℕ) → Placed low at e window after →
@@ -61,7 +61,7 @@ module _ (ks : Sorts) (low h k n : ℕ) (before : List ℕ) where
 
 module _ (ks : Sorts) (low k n : ℕ) (es before after : List ℕ) where
   -- those of the arguments on top of them
-  pub window-put : Window low es before → Kept ks low (length es) k n before after → Window low (numbersFrom ks k n ++ es) after
+  pub window-put : Window low es before → Put ks low (length es) k n before after → Window low (numbersFrom ks k n ++ es) after
   window-put w d = record {
     size = d .size;
     each = λ x l m b. let z = total in let z′ = count in elim (decLt x (length es)) [
@@ -86,18 +86,18 @@ module _ (ks : Sorts) (low k n : ℕ) (es before after : List ℕ) where
 -- ---- one word, at height h
 
 module _ (g : Signature) (ks : Sorts) (low h w : ℕ) (window : List ℕ) (size : length window ≡ windowWords) where
-  abbrev fits : Bool
-  fits = not (within low h) || eqb (resultSort g ks w) (getD window (h - low) 0)
+  abbrev compared : Bool
+  compared = not (within low h) || eqb (resultSort g ks w) (getD window (h - low) 0)
 
   abbrev Puts : List ℕ → Type 0
-  Puts after = Kept ks low h (offset g w + 1) (arity g w) window after
+  Puts after = Put ks low h (offset g w + 1) (arity g w) window after
 
   -- neither it nor its arguments are in the window
-  pub step-high : low + windowWords ≤ h → (true ≡ fits) × (true ≡ true → Puts window)
-  step-high l = (rw (within-high low h l) refl, λ _. record { size = size; below = λ x a b c. refl; above = λ x a b c d. absurd (omega arith) })
+  pub visit-high : low + windowWords ≤ h → (true ≡ compared) × (true ≡ true → Puts window)
+  visit-high l = (rw (within-high low h l) refl, λ _. record { size = size; below = λ x a b c. refl; above = λ x a b c d. absurd (omega arith) })
 
-  pub step-low : {a : ℕ} → a ≡ arity g w → h + a < low → (true ≡ fits) × (true ≡ true → Puts window)
-  step-low e l = (rw (within-low low h (omega arith)) refl, λ _. record { size = size; below = λ x a b c. refl; above = λ x a b c d. absurd (omega arith) })
+  pub visit-low : {a : ℕ} → a ≡ arity g w → h + a < low → (true ≡ compared) × (true ≡ true → Puts window)
+  visit-low e l = (rw (within-low low h (omega arith)) refl, λ _. record { size = size; below = λ x a b c. refl; above = λ x a b c d. absurd (omega arith) })
 
   module _ {o x : ℕ} (eo : o ≡ offset g w) (ex : x ≡ getD ks o 0) where
     result : resultSort g ks w ≡ x
@@ -105,16 +105,16 @@ module _ (g : Signature) (ks : Sorts) (low h w : ℕ) (window : List ℕ) (size 
     result = ap (λ i. getD ks i 0) (sym eo) ∙ sym ex
 
     -- it has not the sort of its place
-    pub step-differs : low ≤ h → h < low + windowWords → (x ≡ getD window (h - low) 0 → ⊥) → (after : List ℕ) → (false ≡ fits) × (false ≡ true → Puts after)
-    step-differs l m d after =
+    pub visit-differs : low ≤ h → h < low + windowWords → (x ≡ getD window (h - low) 0 → ⊥) → (after : List ℕ) → (false ≡ compared) × (false ≡ true → Puts after)
+    visit-differs l m d after =
         (rw (within-in low h l m) (sym (ne-eqb (resultSort g ks w) (getD window (h - low) 0) (λ z. d (sym result ∙ z)))), λ z. absurd (clash refl (sym z)))
 
     -- it has, or that place is not in the window
-    pub step-same : low ≤ h → h < low + windowWords → x ≡ getD window (h - low) 0 → true ≡ fits
-    step-same l m z = rw (within-in low h l m) (sym (eq-eqb (resultSort g ks w) (getD window (h - low) 0) (result ∙ z)))
+    pub visit-same : low ≤ h → h < low + windowWords → x ≡ getD window (h - low) 0 → true ≡ compared
+    visit-same l m z = rw (within-in low h l m) (sym (eq-eqb (resultSort g ks w) (getD window (h - low) 0) (result ∙ z)))
 
-  pub step-below : h < low → true ≡ fits
-  step-below l = rw (within-low low h l) refl
+  pub visit-below : h < low → true ≡ compared
+  visit-below l = rw (within-low low h l) refl
 
-  pub step-puts : {o a : ℕ} → o ≡ offset g w → a ≡ arity g w → (after : List ℕ) → Kept ks low h (o + 1) a window after → true ≡ true → Puts after
-  step-puts eo ea after d _ = rw (eo, ea) at d
+  pub visit-puts : {o a : ℕ} → o ≡ offset g w → a ≡ arity g w → (after : List ℕ) → Put ks low h (o + 1) a window after → true ≡ true → Puts after
+  visit-puts eo ea after d _ = rw (eo, ea) at d

@@ -19,7 +19,7 @@ use Rattle.system.proofs.BuiltIns.{refuted, clash}
 use Rattle.system.proofs.Forests.{forest-length}
 use Rattle.sorts.specs.Sorts.{Sorts, offset, numbersFrom, resultSort, argumentSorts}
 use Rattle.sorts.specs.SortCheck.{unknown, check, isSome, sortedTerm}
-use Rattle.sort_test.specs.windows.Windows.{windowWords, within, windowed, Kept, Window}
+use Rattle.sort_test.specs.windows.Windows.{windowWords, within, windowed, Put, Window}
 use Rattle.sorts.proofs.Sortings.{arguments-length}
 use Rattle.sort_test.proofs.windows.Windows.{within-low, within-high, check-windowed, windowed-check}
 use Rattle.sort_test.proofs.windows.Putting.{window-put}
@@ -119,7 +119,7 @@ module _ (g : Signature) (few : length g ≤ variable) (ks : Sorts) (t : List �
         passing-fails z = sym (expands ∙ rw (sym asks ∙ sym is ∙ z))
 
         pub passing-next : b ≡ true → {a : ℕ} → a ≡ arity g (getD t p 0) → (after : List ℕ) →
-            Kept ks low (due - 1) (offset g (getD t p 0) + 1) (arity g (getD t p 0)) window after → Passing g ks t low after (due - 1 + a) (p + 1)
+            Put ks low (due - 1) (offset g (getD t p 0) + 1) (arity g (getD t p 0)) window after → Passing g ks t low after (due - 1 + a) (p + 1)
         unfolding argumentSorts
         passing-next z {a} ea after d = record {
           es = argumentSorts g ks (getD t p 0) ++ drop 1 (so .es);
@@ -154,7 +154,7 @@ module _ (g : Signature) (few : length g ≤ variable) (ks : Sorts) (t : List �
             arguments-put =
                 subst (λ k. Window low (numbersFrom ks k (arity g (getD t p 0)) ++ drop 1 (so .es)) after) (add-one (offset g (getD t p 0)))
                 (window-put ks low (offset g (getD t p 0) + 1) (arity g (getD t p 0)) (drop 1 (so .es)) window after lower
-                (subst (λ n. Kept ks low n (offset g (getD t p 0) + 1) (arity g (getD t p 0)) window after) (sym height) d))
+                (subst (λ n. Put ks low n (offset g (getD t p 0) + 1) (arity g (getD t p 0)) window after) (sym height) d))
 
 -- ---- the passes
 

@@ -29,7 +29,7 @@ pub record Placed (low at e : ℕ) (before after : List ℕ) : Type 0 where
   pub other : (x : ℕ) → low ≤ x → x < low + windowWords → (x ≡ at → ⊥) → getD after (x - low) 0 ≡ getD before (x - low) 0
 
 -- the window before and after n numbers of the list from k on were put on the height h
-pub record Kept (ks : Sorts) (low h k n : ℕ) (before after : List ℕ) : Type 0 where
+pub record Put (ks : Sorts) (low h k n : ℕ) (before after : List ℕ) : Type 0 where
   pub size : length after ≡ windowWords
   pub below : (x : ℕ) → low ≤ x → x < low + windowWords → x < h → getD after (x - low) 0 ≡ getD before (x - low) 0
   pub above : (x : ℕ) → low ≤ x → x < low + windowWords → h ≤ x → x < h + n → getD after (x - low) 0 ≡ getD ks (k + (h + n - 1 - x)) 0

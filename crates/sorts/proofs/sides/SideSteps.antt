@@ -16,7 +16,7 @@ use Rattle.system.specs.Limits.{variable, variables, sideWords}
 use Rattle.system.specs.Signature.{Signature, arity}
 use Rattle.sorts.specs.Sorts.{Sorts, offset, numbersFrom, resultSort, argumentSorts}
 use Rattle.sorts.specs.SortCheck.{note, Checked, check, chain}
-use Rattle.sorts.specs.sides.Ran.{Ran, Noted, Mark, symbol, placeholder, Marked, mostEntries}
+use Rattle.sorts.specs.sides.Ran.{Ran, Noted, Mark, symbol, isVariable, Marked, mostEntries}
 use Rattle.sorts.proofs.Checking.{check-end, check-short, check-symbol, check-differ, check-variable, check-clash, check-append}
 use Rattle.sorts.proofs.sides.Lists.{noted-some, noted-none}
 
@@ -59,15 +59,15 @@ numbers-more ks i (suc n) h = ap (λ x. getD ks i 0 ∷ x) (ap (λ j. numbersFro
 -- which of its cases a mark is
 mark-symbol : {g : Signature} {w x a : ℕ} → Mark g w x a → (a ≡ variable → ⊥) → (w < variable) × (x ≡ offset g w) × (a ≡ arity g w)
 mark-symbol (symbol h q e l) d = (h, q, e)
-mark-symbol (placeholder h q e) d = absurd (d e)
+mark-symbol (isVariable h q e) d = absurd (d e)
 
 mark-variable : {g : Signature} {w x a : ℕ} → Mark g w x a → a ≡ variable → (variable ≤ w) × (x ≡ w - variable)
 mark-variable (symbol h q e l) d = absurd (omega arith)
-mark-variable (placeholder h q e) d = (h, q)
+mark-variable (isVariable h q e) d = (h, q)
 
 mark-word : {g : Signature} {w x a : ℕ} → Mark g w x a → a < 65535
 mark-word (symbol h q e l) = omega arith
-mark-word (placeholder h q e) = omega arith
+mark-word (isVariable h q e) = omega arith
 
 module _ (ks : Sorts) (marks τ₀ : List ℕ) (at k n : ℕ) where
   -- what is known at the loop's head

@@ -24,7 +24,7 @@ pub record Narrow (g : Signature) : Type 0 where
 -- the two numbers that stand for a word of a side
 pub data Mark (g : Signature) (w : ℕ) : ℕ → ℕ → Type 0 where
   symbol : {x a : ℕ} → w < variable → x ≡ offset g w → a ≡ arity g w → a < variable → Mark g w x a
-  placeholder : {x a : ℕ} → variable ≤ w → x ≡ w - variable → a ≡ variable → Mark g w x a
+  isVariable : {x a : ℕ} → variable ≤ w → x ≡ w - variable → a ≡ variable → Mark g w x a
 
 -- the marks of a side, and behind it one that says that there is no word
 pub record Marked (g : Signature) (ws marks : List ℕ) : Type 0 where
@@ -42,6 +42,6 @@ Noted none b τ = b ≡ false
 Noted (some τ′) b τ = (b ≡ true) × (τ′ ≡ τ)
 
 -- a side that was checked
-abbrev pub Fitted : Option Checked → Bool → List ℕ → Type 0
-Fitted none b τ = b ≡ false
-Fitted (some x) b τ = (b ≡ true) × (x .sorts ≡ τ)
+abbrev pub SideChecked : Option Checked → Bool → List ℕ → Type 0
+SideChecked none b τ = b ≡ false
+SideChecked (some x) b τ = (b ≡ true) × (x .sorts ≡ τ)

@@ -44,8 +44,8 @@ sub-due c =
     let z = passing-due (signatureOf (s .args .book .now)) (s .pre .3 .few) (s .args .kinds .now) (s .args .term .now) (s .args .low) (h .loop .inv) (c .before .loop-test .taken) in
     omega arith
 
-step-requires : tie.Need-step-requires Inv-loop μ-loop
-step-requires c κs =
+visit-requires : tie.Need-visit-requires Inv-loop μ-loop
+visit-requires c κs =
     let h = head c in
     let s = entry (h .before) in
     let z = passing-most (signatureOf (s .args .book .now)) (s .pre .3 .few) (s .args .kinds .now) (s .args .term .now) (s .args .low) (h .loop .inv) in
@@ -58,7 +58,7 @@ returns c =
     let h = head w in
     let s = entry (h .before) in
     passing-fails (signatureOf (s .args .book .now)) (s .pre .3 .few) (s .args .kinds .now) (s .args .term .now) (s .args .low) (h .loop .inv)
-    (w .before .before .loop-test .taken) (f .step .ensures .0) (not-true _ (c .if1 .taken))
+    (w .before .before .loop-test .taken) (f .visit .ensures .0) (not-true _ (c .if1 .taken))
 
 add-due : tie.Need-add-due Inv-loop μ-loop
 add-due c =
@@ -78,7 +78,7 @@ loop-again c =
     let s = entry (h .before) in
     let is = not-false _ (e .if1 .left) in
     passing-next (signatureOf (s .args .book .now)) (s .pre .3 .few) (s .args .kinds .now) (s .args .term .now) (s .args .low) (h .loop .inv)
-    (w .before .before .loop-test .taken) (f .step .ensures .0) is (c .arity .ensures .0) _ (f .step .ensures .1 is)
+    (w .before .before .loop-test .taken) (f .visit .ensures .0) is (c .arity .ensures .0) _ (f .visit .ensures .1 is)
 
 returns-2 : tie.Need-returns-2 Inv-loop μ-loop
 returns-2 c =
@@ -91,4 +91,4 @@ pass-spec =
     tie.close
     (tie.spec
     Inv-loop μ-loop some-word (λ c κs. search needs) (λ c κs. search needs) (λ c. search needs) loop-holds (λ c. search needs) (λ c. search needs) sub-due
-    step-requires returns (λ c κs. search needs) add-due (λ c. search needs) (λ c. search needs) loop-again returns-2)
+    visit-requires returns (λ c κs. search needs) add-due (λ c. search needs) (λ c. search needs) loop-again returns-2)

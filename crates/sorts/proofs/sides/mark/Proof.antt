@@ -6,7 +6,7 @@ use mathlib.Core.Logic.{⊎-elim}
 use lib.ListN.{length, getD}
 use borrow.Author.Needs.{needs}
 use Rattle.system.specs.Signature.{signatureOf}
-use Rattle.sorts.specs.sides.Ran.{symbol, placeholder}
+use Rattle.sorts.specs.sides.Ran.{symbol, isVariable}
 use Rattle.sorts.proofs.sides.Marking.{Marking, marking-starts, marking-next, marking-ends, offset-narrow}
 use Rattle.sorts.proofs.sides.mark.Statement.{statement}
 use Rattle.sorts.proofs.sides.mark.Tie as tie
@@ -64,7 +64,7 @@ loop-again c =
     marking-next g (s .args .side .now) (h .loop .inv) (s .pre .1) (c .before .before .before .loop-test .taken) _ _ (⊎-elim
     (λ w. symbol (let l = w .0 .taken in omega arith) (w .3 ∙ w .1 .ensures .0) (w .4 ∙ w .2 .ensures .0)
     (let z = s .pre .0 .arities v in let q = w .4 ∙ w .2 .ensures .0 in omega arith))
-    (λ w. placeholder (let l = w .0 .left in omega arith) (let l = w .0 .left in let q = w .1 in let u = c .before .wide .ensures .1 in omega arith) (w .2))
+    (λ w. isVariable (let l = w .0 .left in omega arith) (let l = w .0 .left in let q = w .1 in let u = c .before .wide .ensures .1 in omega arith) (w .2))
     (c .if1 .came))
 
 returns : tie.Need-returns Inv-loop μ-loop

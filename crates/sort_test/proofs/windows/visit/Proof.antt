@@ -1,12 +1,12 @@
--- `windows::step` meets its contract.
+-- `windows::visit` meets its contract.
 use native.Mathlib.Omega.{arith}
 use mathlib.Core.Logic.{⊎-elim}
 use borrow.Author.Needs.{needs}
 use Rattle.system.specs.Signature.{signatureOf}
 use Rattle.sorts.proofs.sides.Marking.{offset-narrow}
-use Rattle.sort_test.proofs.windows.Putting.{step-high, step-low, step-differs, step-same, step-below, step-puts}
-use Rattle.sort_test.proofs.windows.step.Statement.{statement}
-use Rattle.sort_test.proofs.windows.step.Tie as tie
+use Rattle.sort_test.proofs.windows.Putting.{visit-high, visit-low, visit-differs, visit-same, visit-below, visit-puts}
+use Rattle.sort_test.proofs.windows.visit.Statement.{statement}
+use Rattle.sort_test.proofs.windows.visit.Tie as tie
 
 abbrev entry : tie.After-arity → tie.Start
 entry c = c .before .before .before
@@ -18,14 +18,14 @@ returns : tie.Need-returns
 returns c =
     let s = entry (c .before) in
     let a = s .args in
-    step-high (signatureOf (a .book .now)) (a .kinds .now) (a .low) (a .h) (a .w) (a .window .now) (s .pre .0) (c .if1 .taken)
+    visit-high (signatureOf (a .book .now)) (a .kinds .now) (a .low) (a .h) (a .w) (a .window .now) (s .pre .0) (c .if1 .taken)
 
 returns-2 : tie.Need-returns-2
 returns-2 c =
     let r = c .before .before in
     let s = entry r in
     let a = s .args in
-    step-low (signatureOf (a .book .now)) (a .kinds .now) (a .low) (a .h) (a .w) (a .window .now) (s .pre .0) (r .arity .ensures .0) (c .if2 .taken)
+    visit-low (signatureOf (a .book .now)) (a .kinds .now) (a .low) (a .h) (a .w) (a .window .now) (s .pre .0) (r .arity .ensures .0) (c .if2 .taken)
 
 returns-3 : tie.Need-returns-3
 returns-3 c =
@@ -36,7 +36,7 @@ returns-3 c =
     let s = entry r in
     let a = s .args in
     let m = o .before .before .if1 .left in
-    step-differs (signatureOf (a .book .now)) (a .kinds .now) (a .low) (a .h) (a .w) (a .window .now) (s .pre .0) (o .offset .ensures .0) (l .listed .ensures)
+    visit-differs (signatureOf (a .book .now)) (a .kinds .now) (a .low) (a .h) (a .w) (a .window .now) (s .pre .0) (o .offset .ensures .0) (l .listed .ensures)
     (t .if3 .taken) (omega arith) (c .if4 .taken) _
 
 put-requires : tie.Need-put-requires
@@ -58,14 +58,14 @@ returns-4 c =
     let g = signatureOf (a .book .now) in
     let m = o .before .before .if1 .left in (
       ⊎-elim
-          (λ w. step-same g (a .kinds .now) (a .low) (a .h) (a .w) (a .window .now) (s .pre .0) (o .offset .ensures .0) (w .1 .ensures) (w .0 .taken) (omega arith) (w .3 .left))
-          (λ w. step-below g (a .kinds .now) (a .low) (a .h) (a .w) (a .window .now) (s .pre .0) (let z = w .left in omega arith))
+          (λ w. visit-same g (a .kinds .now) (a .low) (a .h) (a .w) (a .window .now) (s .pre .0) (o .offset .ensures .0) (w .1 .ensures) (w .0 .taken) (omega arith) (w .3 .left))
+          (λ w. visit-below g (a .kinds .now) (a .low) (a .h) (a .w) (a .window .now) (s .pre .0) (let z = w .left in omega arith))
           (j .if3 .came),
-      step-puts g (a .kinds .now) (a .low) (a .h) (a .w) (a .window .now) (s .pre .0) (o .offset .ensures .0) (r .arity .ensures .0) _ (c .put .ensures),
+      visit-puts g (a .kinds .now) (a .low) (a .h) (a .w) (a .window .now) (s .pre .0) (o .offset .ensures .0) (r .arity .ensures .0) _ (c .put .ensures),
     )
 
-pub step-spec : {M : Type 1} → statement M
-step-spec =
+pub visit-spec : {M : Type 1} → statement M
+visit-spec =
     tie.close
     (tie.spec
     (λ c κs. search needs) (λ c. search needs) returns (λ c. search needs) returns-2 (λ c κs. search needs) (λ c κs. search needs) (λ c. search needs)
