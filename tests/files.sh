@@ -25,6 +25,13 @@ book_b="5 0 2 1 1 0 5 0 1 1 2 1 0 2 1 0 1 0 3 1 4 3 1 0 4 4 2 1 32768 32769 1 32
 # book B with the words that follow it
 book() { words $book_b "$@" > show.book; }
 
+# a cue's file, and the heading of three numbers; for the tools that test a book by a list, the list, and their arguments without a cue and with one
+cue() { words "$@" > show.cue; }
+numbers='number place steps'
+list() { words "$@" > list; }
+bare='show.book list'
+full="$bare show.cue"
+
 # a book's file that is too long or odd, whatever else there is: one word in both programs
 long_and_odd_books() {
     zeros 42503 > show.book

@@ -5,11 +5,6 @@
 set -euo pipefail
 . "$(dirname "$0")/files.sh"
 heading='rule kind'
-numbers='number place steps'
-list() { words "$@" > list; }
-cue() { words "$@" > show.cue; }
-bare='show.book list'
-full='show.book list show.cue'
 # a line of a word: its index, what it is, its kind, and that of its place
 at() { printf '           word %s: %s is kind %s, in a place of kind %s' "$@"; }
 

@@ -4,7 +4,6 @@
 #     tests/program.sh PROGRAM
 set -euo pipefail
 . "$(dirname "$0")/files.sh"
-cue() { words "$@" > show.cue; }
 answers() { # CASE NUMBERS WORD..
     local name=$1
     shift

@@ -5,8 +5,6 @@
 set -euo pipefail
 . "$(dirname "$0")/files.sh"
 heading='step index rule  cue after it'
-numbers='number place steps'
-cue() { words "$@" > show.cue; }
 record() { words "$@" > record; }
 
 # the record that was written

@@ -5,12 +5,7 @@
 set -euo pipefail
 . "$(dirname "$0")/files.sh"
 heading='rule  left right'
-numbers='number place steps'
-list() { words "$@" > list; }
-cue() { words "$@" > show.cue; }
 ones() { printf '\1\0%.0s' $(seq "$1"); } # so many words 1
-bare='show.book list'
-full='show.book list show.cue'
 
 # book B: flash, then, head, rest, chase. Its chase never ends, and its rule never falls
 book; list 1 1 1 1 1
