@@ -31,7 +31,7 @@ pub const VERSION_MINOR: u32 = 1;
 
 // Three numbers: one of 01's table, a place, and steps.
 #[repr(C)]
-#[derive(Drop)]
+#[derive(Clone, Copy)]
 pub struct CueAnswer {
     pub number: u32,
     pub place: usize,
@@ -40,7 +40,7 @@ pub struct CueAnswer {
 
 // How many symbols and rules a book has, and at which index its first strategy and its first rule start.
 #[repr(C)]
-#[derive(Drop)]
+#[derive(Clone, Copy)]
 pub struct CueShape {
     pub symbols: usize,
     pub strategies: usize,
@@ -50,7 +50,7 @@ pub struct CueShape {
 
 // A part of the caller's own words. (A reference cannot be handed to C.)
 #[repr(C)]
-#[derive(Drop)]
+#[derive(Clone, Copy)]
 pub struct CuePart {
     pub start: usize,
     pub length: usize,
@@ -60,7 +60,7 @@ pub struct CuePart {
 // for each variable where its words start in the subterm and how many they are. A built-in rule has no right side in the book: `word` is
 // what it puts there, and 0 of a listed rule.
 #[repr(C)]
-#[derive(Drop)]
+#[derive(Clone, Copy)]
 pub struct CueMatch {
     pub found: u32,
     pub number: usize,
@@ -73,7 +73,7 @@ pub struct CueMatch {
 
 // The answers of the strategy test and of the evaluator.
 #[repr(C)]
-#[derive(Drop)]
+#[derive(Clone, Copy)]
 pub struct CueChecked {
     pub test: CueAnswer,
     pub answer: CueAnswer,
@@ -81,7 +81,7 @@ pub struct CueChecked {
 
 // The answers of the strategy test and of two expansions.
 #[repr(C)]
-#[derive(Drop)]
+#[derive(Clone, Copy)]
 pub struct CueTwice {
     pub test: CueAnswer,
     pub first: CueAnswer,

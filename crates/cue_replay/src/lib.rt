@@ -17,7 +17,7 @@ use replay::Replayed;
 
 // The three numbers of a replay: a record may have more pairs than 32 bits tell.
 #[repr(C)]
-#[derive(Drop)]
+#[derive(Clone, Copy)]
 pub struct CueReplayed {
     pub number: u32,
     pub place: usize,
@@ -26,7 +26,7 @@ pub struct CueReplayed {
 
 // The answers of an expansion with a record, and of its replay.
 #[repr(C)]
-#[derive(Drop)]
+#[derive(Clone, Copy)]
 pub struct CueRetraced {
     pub answer: CueAnswer,
     pub replay: CueReplayed,

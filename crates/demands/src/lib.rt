@@ -24,7 +24,7 @@ use system::numbers::TAKEN;
 pub mod weighed;
 
 // The answers of the strategy test and of the evaluator.
-#[derive(Drop)]
+#[derive(Clone, Copy)]
 pub struct Checked {
     pub test: Answer,
     pub answer: Answer,
@@ -56,7 +56,7 @@ pub fn expand_checked(
 }
 
 // The answers of the strategy test and of two expansions.
-#[derive(Drop)]
+#[derive(Clone, Copy)]
 pub struct Twice {
     pub test: Answer,
     pub first: Answer,
@@ -104,7 +104,7 @@ pub fn expand_twice(
 }
 
 // The answers of an expansion with a record, and of its replay.
-#[derive(Drop)]
+#[derive(Clone, Copy)]
 pub struct Retraced {
     pub answer: Answer,
     pub replay: Replayed,
@@ -172,7 +172,7 @@ pub fn expand_square(book: &[u16], n: u8, limit: u32, out: &mut [u16], work: &mu
 }
 
 // The answers of two expansions.
-#[derive(Drop)]
+#[derive(Clone, Copy)]
 pub struct Squares {
     pub first: Answer,
     pub second: Answer,

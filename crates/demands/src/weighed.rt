@@ -14,7 +14,7 @@ use termination::testing::test;
 use termination::weighing::weigh;
 
 // The answers of the test by weights and of the evaluator.
-#[derive(Drop)]
+#[derive(Clone, Copy)]
 pub struct Weighed {
     pub test: Answer,
     pub answer: Answer,

@@ -15,7 +15,7 @@ use sort_test::testing::test;
 use system::Answer;
 
 // The answers of the sort test and of the evaluator.
-#[derive(Drop)]
+#[derive(Clone, Copy)]
 pub struct Kinded {
     pub test: Answer,
     pub answer: Answer,

@@ -14,7 +14,7 @@ use system::words::wide;
 
 // What an entry asks for: nothing (the strategy is over), nothing new (it stood before), that the rules are tried, or that the argument is
 // evaluated which has this many others before it.
-#[derive(Drop)]
+#[derive(Clone, Copy)]
 pub enum Entry {
     End,
     Repeated,

@@ -5,7 +5,7 @@ ghost use Rattle.layout.specs.rules.Rules.{rule_span, rule_end};
 use system::words::wide;
 
 // A rule in the book: the index of the first word of each side, how many words each side has, and the index after the rule.
-#[derive(Drop)]
+#[derive(Clone, Copy)]
 pub struct RuleSpan {
     pub lhs: usize,
     pub width: usize,

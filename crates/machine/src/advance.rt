@@ -24,14 +24,14 @@ const DEEPEST: usize = LEVELS - 1;
 pub const FRAME: usize = LEVELS + BINDINGS;
 
 // The state that an area holds, but for its words: where the gap in its rows is, and how many levels stand around the innermost one.
-#[derive(Drop)]
+#[derive(Clone, Copy)]
 pub struct State {
     pub gap: Gap,
     pub level: usize,
 }
 
 // Where the machine came to: its end, an argument that would be opened from level 64, or a rewrite.
-#[derive(Drop)]
+#[derive(Clone, Copy)]
 pub enum Stop {
     Final,
     Deep,
@@ -39,7 +39,7 @@ pub enum Stop {
 }
 
 // Where it came to, how many levels stand around the innermost one there, and if a rewrite is next the rule that matches.
-#[derive(Drop)]
+#[derive(Clone, Copy)]
 pub struct Advanced {
     pub stop: Stop,
     pub level: usize,
@@ -48,7 +48,7 @@ pub struct Advanced {
 
 // What a transition came upon: the end of the innermost level's strategy, and the level was left; an entry that is repeated; entry 0: the
 // rules are to be tried; an argument, which was opened; or an argument that would be too deep.
-#[derive(Drop)]
+#[derive(Clone, Copy)]
 enum Event {
     End,
     Repeated,
@@ -58,7 +58,7 @@ enum Event {
 }
 
 // The innermost level of a state, and how many of its entries were begun before the present run of transitions.
-#[derive(Drop)]
+#[derive(Clone, Copy)]
 struct Innermost {
     gap: Gap,
     level: usize,

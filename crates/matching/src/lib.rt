@@ -19,7 +19,7 @@ pub mod safety;
 
 // The first rule that matches. One that the book lists: its number, the index in the book of the first word of its right side, and how
 // many words that has. A built-in one: its number, and the word that it puts there.
-#[derive(Drop)]
+#[derive(Clone, Copy)]
 pub enum FirstRule {
     Nothing,
     First {
@@ -34,7 +34,7 @@ pub enum FirstRule {
 }
 
 // What was found, and for each variable where its stretch of the subterm starts and how many words it has; 0 and 0 of the others.
-#[derive(Drop)]
+#[derive(Clone, Copy)]
 pub struct Match {
     pub rule: FirstRule,
     pub starts: [usize; VARIABLES],

@@ -16,7 +16,7 @@ use system::Answer;
 
 // What the layers above need of an accepted book: how many symbols and rules it has, and at which index its first strategy and
 // its first rule start. All are 0 of a refused book.
-#[derive(Drop)]
+#[derive(Clone, Copy)]
 pub struct Shape {
     pub symbols: usize,
     pub strategies: usize,
@@ -25,7 +25,7 @@ pub struct Shape {
 }
 
 // An argument in a term: the index of its first word, and how many words it has.
-#[derive(Drop)]
+#[derive(Clone, Copy)]
 pub struct ArgumentSpan {
     pub start: usize,
     pub length: usize,

@@ -14,7 +14,7 @@ use system::numbers::TAKEN;
 use system::words::{symbols, wide};
 
 // A book that was read once, for all that is asked of it: the reader's answer and the book's shape.
-#[derive(Drop)]
+#[derive(Clone, Copy)]
 pub struct Scan {
     pub answer: Answer,
     pub shape: Shape,

@@ -6,7 +6,7 @@ ghost use Rattle.records.specs.recording.Kept.{limits_of, met, paired};
 use system::numbers::{FULL, SPENT, TAKEN};
 
 // The most steps, and whether a record is lent. Its room is as many words as it has.
-#[derive(Drop)]
+#[derive(Clone, Copy)]
 pub struct Bounds {
     pub limit: u32,
     pub recorded: bool,

@@ -32,14 +32,14 @@ use system::words::wide;
 pub const BINDINGS: usize = 2 * VARIABLES;
 
 // A subterm of the term in the rows: where the gap is, and its position.
-#[derive(Drop)]
+#[derive(Clone, Copy)]
 pub struct Spot {
     pub gap: Gap,
     pub at: usize,
 }
 
 // What was found: the rule's number, and one that no rule has where none matches; and the word that a built-in rule puts there, 0 of others.
-#[derive(Drop)]
+#[derive(Clone, Copy)]
 pub struct Redex {
     pub number: usize,
     pub word: u16,

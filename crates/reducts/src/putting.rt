@@ -19,7 +19,7 @@ use sides::writing::{Source, write_reduct};
 use system::limits::TERM_WORDS;
 
 // Words of the term that are to be replaced: how many levels stand around them, the position of the first, and how many they are.
-#[derive(Drop)]
+#[derive(Clone, Copy)]
 pub struct Subterm {
     pub level: usize,
     pub at: usize,
@@ -27,7 +27,7 @@ pub struct Subterm {
 }
 
 // What a rewrite came to: whether the term would have more than 4,096 words, and then it stands as it did; where the gap is now.
-#[derive(Drop)]
+#[derive(Clone, Copy)]
 pub struct Reduced {
     pub long: bool,
     pub gap: Gap,
@@ -84,7 +84,7 @@ pub fn put_word(area: &mut [u16], gap: Gap, u: Subterm, w: u16) -> Reduced
 }
 
 // Where a reduct is written: right before a gap, and from where the words of the redex are read; and the gap then.
-#[derive(Drop)]
+#[derive(Clone, Copy)]
 pub struct Place {
     pub gap: Gap,
     pub source: Source,

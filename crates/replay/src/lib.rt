@@ -12,7 +12,7 @@ pub mod scanned;
 use reader::scan::scan_book;
 
 // Three numbers, as those of an answer; but a record may have more pairs than 32 bits tell.
-#[derive(Drop)]
+#[derive(Clone, Copy)]
 pub struct Replayed {
     pub number: u32,
     pub place: usize,

@@ -25,21 +25,21 @@ use system::words::wide;
 use walks::walk::{Finger, find};
 
 // A pair of a record: the index of a step in the whole term before it, and the number of its rule.
-#[derive(Drop)]
+#[derive(Clone, Copy)]
 pub struct Pair {
     pub at: usize,
     pub number: usize,
 }
 
 // What came of a pair: 0, 17 or 12; and the finger then, on 0.
-#[derive(Drop)]
+#[derive(Clone, Copy)]
 pub struct Followed {
     pub number: u32,
     pub finger: Finger,
 }
 
 // How a replay ended: 0, 17 or 12; where the gap of the rows is, on 0 (else they hold no word); its place, and the steps taken.
-#[derive(Drop)]
+#[derive(Clone, Copy)]
 pub struct Retraced {
     pub number: u32,
     pub gap: Gap,

@@ -11,7 +11,7 @@ use system::limits::MAX_RULES;
 use system::words::wide;
 
 // A subterm of the term in the rows: where the gap is, how many levels stand around the subterm, its position, and how many words it has.
-#[derive(Drop)]
+#[derive(Clone, Copy)]
 pub struct Site {
     pub gap: Gap,
     pub level: usize,

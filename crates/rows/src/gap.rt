@@ -9,7 +9,7 @@ use system::limits::TERM_WORDS;
 use system::words::wide;
 
 // The term's words stand before `front`, and from `back` on.
-#[derive(Drop)]
+#[derive(Clone, Copy)]
 pub struct Gap {
     pub front: usize,
     pub back: usize,

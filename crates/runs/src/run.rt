@@ -17,7 +17,7 @@ use system::limits::TERM_WORDS;
 use system::numbers::TAKEN;
 
 // How a run ended: 0, 11, 12, 13 or 16; the gap around which the term stands, on 0, and otherwise one that leaves no word; and the steps taken.
-#[derive(Drop)]
+#[derive(Clone, Copy)]
 pub struct RunResult {
     pub number: u32,
     pub gap: Gap,

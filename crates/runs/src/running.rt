@@ -14,7 +14,7 @@ use system::words::wide;
 
 // Where a run starts, and how far it goes: the shape of the book, the limits, the state (the frame's first word is the base), how many symbols are
 // on the way to the base (at the end of the third row), the steps taken so far, and how many more at most.
-#[derive(Drop)]
+#[derive(Clone, Copy)]
 pub struct From {
     pub shape: Shape,
     pub bounds: Bounds,
@@ -26,7 +26,7 @@ pub struct From {
 
 // Where it came to: 0 at the end; 13; 11, 16 or 12 just before a step that would be stopped; or, with `waits`, just before a step that would not be,
 // and 0. And the state there, and the steps taken since the evaluation began.
-#[derive(Drop)]
+#[derive(Clone, Copy)]
 pub struct Reached {
     pub number: u32,
     pub waits: bool,

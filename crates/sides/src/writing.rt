@@ -13,7 +13,7 @@ use system::words::wide;
 
 // Where the words of the redex stand in the area, or their lengths: those before word `end` from `base` on; that of word i from there on at `later`
 // and i.
-#[derive(Drop)]
+#[derive(Clone, Copy)]
 pub struct Source {
     pub base: usize,
     pub end: usize,

@@ -42,7 +42,7 @@ fn raise_way(area: &mut [u16], n: usize, width: usize, size: usize)
 }
 
 // A state, and how many symbols are on the way to its base.
-#[derive(Drop)]
+#[derive(Clone, Copy)]
 pub struct Based {
     pub state: State,
     pub way: usize,

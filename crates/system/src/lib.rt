@@ -9,7 +9,7 @@ pub mod squares;
 pub mod words;
 
 // 01: "Each answer is three numbers: number, place, steps."
-#[derive(Drop)]
+#[derive(Clone, Copy)]
 pub struct Answer {
     pub number: u32,
     pub place: usize,

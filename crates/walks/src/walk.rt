@@ -21,7 +21,7 @@ use rows::lengths::COUNTS;
 use system::words::{arity, wide};
 
 // Where the gap of the rows is, how many positions stand on the way, and the position that it leads to.
-#[derive(Drop)]
+#[derive(Clone, Copy)]
 pub struct Finger {
     pub gap: Gap,
     pub level: usize,
@@ -29,7 +29,7 @@ pub struct Finger {
 }
 
 // An argument of a symbol: how many others stand before it, and where it starts.
-#[derive(Drop)]
+#[derive(Clone, Copy)]
 struct Argument {
     number: usize,
     start: usize,

@@ -9,7 +9,7 @@ use system::numbers::{MISSING, TAKEN};
 use system::words::wide;
 
 // A section of the book that was read: number 0 and the index after it, or the first fault.
-#[derive(Drop)]
+#[derive(Clone, Copy)]
 pub struct Section {
     pub number: u32,
     pub place: usize,

@@ -12,7 +12,7 @@ use system::numbers::{ENTRY, RANGE, TAKEN, TRAILING};
 use system::words::{symbols, wide};
 
 // The sections of the whole book that were read: as a section, with the index of the count of its rules.
-#[derive(Drop)]
+#[derive(Clone, Copy)]
 pub struct Sections {
     pub number: u32,
     pub place: usize,

@@ -13,14 +13,14 @@ use system::numbers::{
 use system::words::{arity, is_symbol, symbols, wide};
 
 // Which side of a rule is read.
-#[derive(Drop)]
+#[derive(Clone, Copy)]
 pub enum SideRole {
     Left,
     Right,
 }
 
 // A side that was read: as a section, with how many variables are known after it.
-#[derive(Drop)]
+#[derive(Clone, Copy)]
 pub struct Side {
     pub number: u32,
     pub place: usize,
