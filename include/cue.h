@@ -2,7 +2,7 @@
  * The cue expander: show books, the order test, the tests by weights and by kinds, expansion, and the record of an expansion's steps.
  *
  * Two archives: cue_replay and cue_expand_retraced, which a support desk uses, are in libcue_replay.a, all other functions in libcue.a
- * (`rt staticlib cue_replay` and `rt staticlib cue` write them to target/staticlib/). A desk links libcue.a alone. Neither needs the other,
+ * (`tools/build cue cue_replay` writes them to target/staticlib/). A desk links libcue.a alone. Neither needs the other,
  * and a program may link both.
  *
  * Every slice is a pointer to its first word and the number of its words. A pointer must be valid even where the length is 0 (any

@@ -12,11 +12,11 @@ import tempfile
 
 EVALUATION, OUTCOMES = "crates/rewriting/specs/Evaluation.antt", "crates/rewriting/specs/Outcomes.antt"
 OPERATIONS, EXPANDER = "crates/replay/proofs/Operations.antt", "crates/evaluation/src/lib.rt"
-GAP, EXPORTS, PROVED = "crates/rows/src/gap.rt", "crates/cue/src/lib.rt", "docs/PROVED.md"
+GAP, EXPORTS, PROVED = "crates/rows/src/gap.rt", "crates/cue_c/src/lib.rt", "docs/PROVED.md"
 # an inner definition, planted with what rests on it
 INNER = ("crates/rewriting/specs/levels/Planted.antt", None, "abbrev pub planted : ℕ\nplanted = 0\n")
-HOME, OWN_HOME, TOLD = "Rattle·rewriting.specs.levels.Planted", "Rattle·rewriting·specs.specs.levels.Planted", "levels/Planted.antt: planted is inner"
-FREE = "pub fn planted(book: &[u16]) -> Answer\n    ensures { λ r. ⌜ r ≡ r ⌝ }\n{\n    read(book)\n}\n"
+HOME, TOLD = "Rattle.rewriting.specs.levels.Planted", "levels/Planted.antt: planted is inner"
+FREE = "pub fn planted(book: &[u16]) -> Answer\n    ensures { result ≡ result }\n{\n    read(book)\n}\n"
 REPLAYED = r"^  x = replaying "
 
 
@@ -27,11 +27,11 @@ def first(path, line):
 
 def clause(text):
     """A clause more in the contract of an inner function, which PROVED names."""
-    return [(GAP, r"(pub fn move_gap\(.*?\n)(?=    ensures)", r"\1    ensures planted { λ r. ⌜ " + text + " ⌝ }\n"), named("`rows::gap::move_gap` (`planted`)")]
+    return [(GAP, r"(pub fn move_gap\(.*?\n)(?=    ensures)", r"\1    ensures planted { " + text + " }\n"), named("`rows::gap::move_gap` (`planted`)")]
 
 
 def asks(path, function):
-    return (path, rf'(^pub (?:extern "C" )?fn {function}\(.*?\n)(?=    ensures)', r"\1    requires { ⌜ planted ⌝ }\n")
+    return (path, rf'(^pub (?:extern "C" )?fn {function}\(.*?\n)(?=    ensures)', r"\1    requires { planted }\n")
 
 
 def named(text):
@@ -68,46 +68,46 @@ PLANTS = [
     ),
     (
         "a definition that rests on an inner one, which its own file passes on",
-        [INNER, first(EVALUATION, f"pub use {OWN_HOME}.{{planted}}"), (EVALUATION, r"^start t = ", "start t = planted ")],
+        [INNER, first(EVALUATION, f"pub use {HOME}.{{planted}}"), (EVALUATION, r"^start t = ", "start t = planted ")],
         TOLD,
     ),
     (
         "a definition that rests on an inner one, which another file passes on",
         [
             INNER,
-            first(EVALUATION, f"pub use {OWN_HOME}.{{planted}}"),
-            first(OUTCOMES, "use Rattle·rewriting·specs.specs.Evaluation.{planted}"),
+            first(EVALUATION, f"pub use {HOME}.{{planted}}"),
+            first(OUTCOMES, "use Rattle.rewriting.specs.Evaluation.{planted}"),
             (OUTCOMES, r"^  pub none : ", "  pub none : planted "),
         ],
         TOLD,
     ),
     (
         "a module under another name at the top of specs/",
-        [first(OUTCOMES, "use Rattle·system.specs.Signature as signs")],
-        f"{OUTCOMES}: 'use Rattle·system.specs.Signature as signs' at the top of specs/",
+        [first(OUTCOMES, "use Rattle.system.specs.Signature as signs")],
+        f"{OUTCOMES}: 'use Rattle.system.specs.Signature as signs' at the top of specs/",
     ),
     (
         "a name under another at the top of specs/",
-        [(OUTCOMES, r"specs\.Limits\.\{termWords\}", "specs.Limits.{termWords as most}")],
-        "termWords as most}' at the top of specs/",
+        [(OUTCOMES, r"specs\.Limits\.\{term_words\}", "specs.Limits.{term_words as most}")],
+        "term_words as most}' at the top of specs/",
     ),
     ("everything of a module at once", [first("crates/rewriting/specs/Rewriting.antt", "pub use Lengths.*")], "'pub use Lengths.*' is not followed"),
     (
         "a name that is not where it is said to come from",
-        [(OUTCOMES, r"specs\.Limits\.\{termWords\}", "specs.Terms.{termWords}")],
-        "termWords, which",
+        [(OUTCOMES, r"specs\.Limits\.\{term_words\}", "specs.Terms.{term_words}")],
+        "term_words, which",
     ),
     (
         "a contract that rests on an inner definition",
-        [INNER, first(EXPANDER, f"ghost use {HOME}.{{planted}};"), (EXPANDER, r"⌜ result r", "⌜ planted result r")],
+        [INNER, first(EXPANDER, f"ghost use {HOME}.{{planted}};"), (EXPANDER, r"\{ answer_and_buffers result", "{ planted answer_and_buffers result")],
         TOLD,
     ),
     ("a public operation that asks something of its caller", [asks(EXPANDER, "expand")], "evaluation::expand is public, and has a requires"),
-    ("a function exported to C that asks something of its caller", [asks(EXPORTS, "cue_read")], "cue::cue_read is public, and has a requires"),
+    ("a function exported to C that asks something of its caller", [asks(EXPORTS, "cue_read")], "cue_c::cue_read is public, and has a requires"),
     ("a public operation that PROVED does not name", [(EXPANDER, None, FREE)], "evaluation::planted is public, and PROVED does not name it"),
     (
         "a crate that exports to C, and that PROVED does not name",
-        [("crates/terms/src/checking.rt", None, "#[no_mangle]\n" + FREE)],
+        [("crates/terms/src/checking.rt", None, "#[unsafe(no_mangle)]\n" + FREE)],
         "crates/terms exports functions to C",
     ),
     ("a function that is not there, in PROVED", [named("`evaluation::expend`")], "PROVED names evaluation::expend, which is not there"),
@@ -123,17 +123,17 @@ PLANTS = [
         [named("`rows::gap::move_gap` (`planted`)")],
         "PROVED names rows::gap::move_gap (`planted`), which has no such clause",
     ),
-    ("an inner clause that rests on an inner definition", [INNER, first(GAP, f"ghost use {HOME}.{{planted}};"), *clause("planted r")], TOLD),
+    ("an inner clause that rests on an inner definition", [INNER, first(GAP, f"ghost use {HOME}.{{planted}};"), *clause("planted result")], TOLD),
     (
         "an inner clause that rests on what is believed alone",
-        [first(GAP, "ghost use Rattle·rewriting.specs.Outcomes.{Stable};"), *clause("Stable r")],
+        [first(GAP, "ghost use Rattle.rewriting.specs.Outcomes.{Stable};"), *clause("Stable result")],
         None,
     ),
     ("a definition at the top of specs/ on which nothing rests", [(OUTCOMES, None, "\nabbrev idle : ℕ\nidle = 0\n")], f"{OUTCOMES}: idle stands at the top"),
     (
         "a definition that rests on a computed case",
-        [first(EVALUATION, "use Rattle·reader.specs.Cases.{readerCases}"), (EVALUATION, r"^start t = ", "start t = readerCases ")],
-        "start rests on readerCases, a computed case",
+        [first(EVALUATION, "use Rattle.reader.specs.Cases.{reader_cases}"), (EVALUATION, r"^start t = ", "start t = reader_cases ")],
+        "start rests on reader_cases, a computed case",
     ),
     ("other figures in README", [("README.md", r"^( *believed: the expander .*: )(?=\d)", r"\g<1>1")], "README does not say"),
 ]

@@ -13,6 +13,8 @@ from sources import declarations, depth
 
 TOKEN = re.compile(r"\[\]|[^\s(){}\[\].;,@\"«»λ⌜⌝⟦⟧]+")
 USE = re.compile(r"^\s*(?:ghost )?use ([^\s{;]+)\.\{([^}]*)\}")
+# what a file of invariants or of answers gives for a goal, under its name
+ANSWER = re.compile(r"(?:abbrev )?pub (\S+) : \w+\.\1\b")
 # laws that nothing names and that stay, each with its reason
 KEPT = {}
 
@@ -23,8 +25,8 @@ def strip(line, code):
 
 def uses(name, counter):
     """How often a name stands in a text; of an operator its rarest part."""
-    parts = [p for p in name.split("_") if p]
-    return max(counter[name], min((counter[p] for p in parts), default=0)) if "_" in name else counter[name]
+    parts = [p for p in name.split("◌") if p]
+    return max(counter[name], min((counter[p] for p in parts), default=0)) if "◌" in name else counter[name]
 
 
 def tokens(lines):
@@ -45,7 +47,7 @@ def unnamed(texts, said):
             used = uses(name, counts[path] if private else total)
             if used > 20 or used > uses(name, tokens(lines[at:end])):
                 continue
-            contract = name.endswith(("-spec", "-cases", "-case")) or path.endswith("/Cases.antt")
+            contract = name.endswith(("-spec", "_spec", "-cases", "-case")) or path.endswith("/Cases.antt") or ANSWER.match(lines[at])
             if not contract and not re.search(rf"`{re.escape(name)}`|[A-Z]\w*'s (?:[\w-]+, )*{re.escape(name)}(?![\w-])", said):
                 yield name, f"{path}:{at + 1}: nothing names {name}"
 
@@ -58,7 +60,7 @@ def unused(texts):
             m = USE.match(line)
             for item in m.group(2).split(",") if m else []:
                 name = item.split(" as ")[-1].strip()
-                if name and name != "_||_" and not uses(name, inside):
+                if name and name != "◌||◌" and not uses(name, inside):
                     yield f"{path}:{i}: {name} is brought, and not used"
 
 
@@ -67,10 +69,10 @@ def alone(texts, said):
     everything = "\n".join("\n".join(lines) for lines in texts.values())
     for path, lines in texts.items():
         crate, part, rest = path.split("crates/")[1].split("/", 2)
-        if part != "proofs" or rest.endswith(("Proof.antt", "Lib.antt", "Cases.antt")) or not declarations(lines):
+        if part != "proofs" or rest.endswith(("Proof.antt", "Invariants.antt", "Answers.antt", "Lib.antt", "Cases.antt")) or not declarations(lines):
             continue
         module = re.escape(rest[:-5].replace("/", "."))
-        if not re.search(rf"Rattle·{crate}(·proofs)?\.proofs\.{module}(?!\w)", everything) and path.split("crates/")[1] not in said:
+        if not re.search(rf"Rattle\.{crate}\.proofs\.{module}(?!\w)", everything) and path.split("crates/")[1] not in said:
             yield f"{path}: nobody imports it"
 
 

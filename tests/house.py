@@ -1,6 +1,6 @@
 """The layout that docs/CHANGING.md asks for: lengths of lines, files, functions and chains of `.before`; how many functions a crate has; that
-crates.txt lists the crates that each crate's files name, and no more; that every must-fail edit finds its lines; and that there is no dead text
-(tests/dead.py). Prints what is not so, and exits with 1 if anything is.
+crates.txt lists the crates that each crate's files name, and no more; that what C is given has the contract of the library's function; that every
+must-fail edit finds its lines; and that there is no dead text (tests/dead.py). Prints what is not so, and exits with 1 if anything is.
 
     python3 tests/house.py            from the repository's top
     python3 tests/house.py --crates   prints crates.txt as it should be, for the crates that it has
@@ -10,8 +10,9 @@ import os
 import re
 import sys
 
-sys.dont_write_bytecode = True  # the next line reads tests/dead.py
+sys.dont_write_bytecode = True  # the next lines read tests/dead.py and, by its path, tools/sources.py
 import dead
+import sources
 
 LINE = {"src": 150, "specs": 150, "proofs": 200}  # characters
 FILE = 300  # lines of a file of proofs
@@ -26,7 +27,7 @@ MANY = {"expand_twice", "cue_expand_twice", "expand_within", "expand_retraced", 
 FUNCTIONS = 16
 # those that may have more: 01 names the reader, and fitting with the order test, as one crate each; the C interface has a line for each operation
 MANY_FUNCTIONS = {"reader": 18, "matching": 19, "cue": 18}
-KIT = {"bytes", "check", "io", "libc", "os"}  # the kit's libraries that crates.txt lists
+KIT = {"bytes", "check", "io"}  # the kit's libraries that crates.txt lists
 
 
 def functions(text):
@@ -41,7 +42,7 @@ def functions(text):
             j += 1
             head += lines[j]
         parameters = [p for p in head[head.index("(") + 1 : head.index(")")].split(",") if p.strip()]
-        start = j if line.rstrip().endswith("{") and j == i else next(k for k in range(j, len(lines)) if lines[k] == m.group(1) + "{")
+        start = j if lines[j].endswith("{") else next(k for k in range(j, len(lines)) if lines[k] == m.group(1) + "{")
         end = next(k for k in range(start, len(lines)) if lines[k] == m.group(1) + "}")
         yield m.group(2), parameters, end - start - 1
 
@@ -72,25 +73,36 @@ def crowded():
 
 
 def built_on():
-    """Of each crate what crates.txt lists, and the crates that its own files name; what these are built on rt finds by itself."""
-    listed = {}
+    """Of each crate its kind, what crates.txt lists, and the crates that its own files name; what these are built on rt finds by itself."""
+    listed, kinds = {}, {}
     for line in open("crates.txt", encoding="utf-8"):
-        name, _, rest = line.split("#")[0].partition(":")
-        if name.strip():
-            listed[name.strip()] = rest.split()
+        head, _, rest = line.split("#")[0].partition(":")
+        if head.strip():
+            name, *kind = head.split()
+            listed[name], kinds[name] = rest.split(), kind
     order = [*listed, *sorted(KIT)]
     for crate in listed:
         text = ""
         for path in glob.glob(f"crates/{crate}/*/**/*.rt", recursive=True) + glob.glob(f"crates/{crate}/*/**/*.antt", recursive=True):
             comment = r"//.*" if path.endswith(".rt") else r"(^|\s)--.*"
             text += re.sub(comment, "", open(path, encoding="utf-8").read(), flags=re.M)
-        named = set(re.findall(r"Rattle·([a-z_0-9]+)", text)) | set(re.findall(r"(?<![\w:])([a-z_0-9]+)::", text))
-        yield crate, set(listed[crate]), [name for name in order if name in named and name != crate]
+        named = set(re.findall(r"Rattle\.([a-z_0-9]+)\.", text)) | set(re.findall(r"(?<![\w:])([a-z_0-9]+)::", text))
+        named -= set(re.findall(r"^use std::(?:\w+::)*(\w+);", text, re.M))  # a module of std by its own name
+        yield crate, kinds[crate], set(listed[crate]), [name for name in order if name in named and name != crate]
+
+
+def exported():
+    """Functions for C that have another name or another contract than one of the library that they hand on."""
+    found = sources.functions()
+    for fn in found.values():
+        library = found.get(fn.path.replace("_c::", "::"))
+        if fn.exported and (library is None or fn.text.replace('extern "C" ', "") != library.text):
+            yield f"{fn.file}: {fn.path} does not promise what the library's function does"
 
 
 def main():
-    over = list(crowded())
-    for crate, listed, named in built_on():
+    over = [*crowded(), *exported()]
+    for crate, _, listed, named in built_on():
         over += [f"crates.txt: {crate} names {name} too" for name in named if name not in listed]
         over += [f"crates.txt: {crate} does not name {name}" for name in sorted(listed - set(named))]
     for part, most in LINE.items():
@@ -127,7 +139,7 @@ def main():
 
 if "--crates" in sys.argv:
     print("# NAME: the crates that its files name; rt adds what these are built on")
-    for crate, _, named in built_on():
-        print(" ".join([crate + ":", *named]))
+    for crate, kind, _, named in built_on():
+        print(" ".join([crate, *kind]) + ":", *named)
 else:
     main()

@@ -1,12 +1,12 @@
 #!/usr/bin/env bash
 # That tools/places removes nothing but what it wrote itself, whatever it is asked for, works in the repository from any folder, and hands on what
-# rt dev says.
+# rt check says.
 #     tests/places.sh PROGRAM
 set -euo pipefail
 . "$(dirname "$0")/files.sh"
 top=$(dirname "$program")/..
 
-# a path for a crate, here and at the repository's top, where target/places is
+# a path for a crate, here and at the repository's top
 mkdir -p target/places target/outside/mine "$top/target/places" "$top/target/outside/mine"
 for crate in ../outside/mine '' nothing; do
     cases=$((cases + 1))
@@ -23,13 +23,16 @@ cases=$((cases + 1))
     { printf 'places: a folder that is not its own is gone\n'; wrong=1; }
 rm -r target
 
-# a function that is there, from here: a line for each need, from a place back to the start
+# a function that is there, from here: a line for each goal, with its place in the source, from a step back to the start
 cases=$((cases + 1))
 "$program" buffers clear > printed 2> said || true
-if ! grep -q '^Need-[^:]*: 0:.* 1:' printed || grep -vq '^Need-[^:]*: 0:' printed || [ -s said ] || [ -e target ]; then
-    printf 'places: from another folder: it should print the needs of buffers::clear, and make no folder there; it prints\n'
+loop=$(grep -n 'while i < n' "$top/crates/buffers/src/lib.rt" | tail -n 1 | cut -d: -f1)
+if ! grep -qx "loop-i-preserved: src/lib.rt:$loop:[0-9]* 0:loop-i-test 1:loop-i 2:start" printed || [ -s said ] || [ -e target ] ||
+    grep -vqE '^[^ :]+: src/lib\.rt:[0-9]+:[0-9]+( [0-9]+:[^ ]+)* [0-9]+:start$' printed; then
+    printf 'places: from another folder: it should print the goals of buffers::clear, and make no folder there; it prints\n'
     sed 's/^/    /' printed said
     wrong=1
 fi
-refuses 'no function' 'buffers nothing' 'buffers has no function nothing that is covered; rt dev says: .'
+refuses 'no function' 'buffers nothing' 'buffers has no function nothing that is covered; rt check says: .'
+refuses 'no goal' 'buffers clear nothing' 'clear has no goal nothing'
 all_print 'their places, and no folder was lost'

@@ -1,128 +1,72 @@
-"""Holds every must-fail edit to be refused because a fact fails. A log in which each error says only that the file of proofs no longer fits the
-code's shape (a place or a field of it that is not there, or another place than the one that is due) shows nothing of what the edit rules out.
+"""Holds every must-fail edit to be refused because a fact fails. Where rt says of an edit only that a file of proofs no longer fits the code's shape
+(a goal, a step or a field of it that is not there, or another step than the one that is due), or that the prover came to a limit of its own, nothing
+shows what the edit rules out.
 
-    python3 tests/refused.py            from the repository's top, after `rt ci` or `rt must-fail`: reads target/must-fail/CRATE/LABEL/.log
-    python3 tests/refused.py FOLDER     the same of the logs in another target/must-fail, as many as there are
+    python3 tests/refused.py            from the repository's top, after .ci/run or `rt ci > target/ci.log 2>&1`: reads target/ci.log
+    python3 tests/refused.py FILE       the same of what `rt must-fail` printed into another file, for as many edits as it tells of
 
-The logs below are told apart first; nothing else is read where one of them is told wrongly.
+Of each edit rt prints the first thing that the check found, passing over names that the edit took away. The lines below are told apart first; nothing
+else is read where one of them is told wrongly.
 """
 import glob
 import os
 import re
 import sys
 
-# where a message of a log begins
-BEGINS = re.compile(r"^(?:(?:\S+:\d+:\d+: )?(?:error|note|help|warning): |(?:fn|struct|enum|const|library|logic)\b)", re.M)
-ERROR = re.compile(r"(\S+):\d+:\d+: error: (?:`([^`]*)`)?")
-# a declaration that waits for another that failed
-WAITS = re.compile(r"was not admitted \(it has holes or undetermined implicits, or was rejected\)")
-# a need, a place or a field that the edited code does not have
-GONE = re.compile(r"has no `[^`]*` that can be named from here|has no field `")
-# a type's head that was made of the code's shape: a need of the proof, or a place in the code
-NEED = re.compile(r"\(*(?:tie|lts|(?:\S+\.)?(?:Lts|Tie))\.Need-")
-PLACE = re.compile(r"\(*(?:tie|lts|(?:\S+\.)?(?:Lts|Tie))\.(?!Need-)[A-Z]")
-TYPES = re.compile(r"expected type `([^`]*)`?,?\s+but this has type `([^`]*)")
-ONLY = re.compile(r"differ only where one has `([^`]*)`\s+\(expected\)[^`]*and the other has `([^`]*)`")
-MADE = re.compile(r"(?:tie|lts|\S+\.(?:Lts|Tie))\.\S+")
+LINE = re.compile(r"^rt: must-fail (\w+)/(\S+)\.edit: (.*)$", re.M)
+REFUSED = re.compile(r"refused, as it must be: (.*)")
+# a goal that the check leaves open, or an answer that is no proof of it
+UNPROVED = re.compile(r"it is not proved that |does not follow from what it read|`search`: no proof of `|give a proof of that as the last argument")
 DIFFERS = re.compile(r"the two (?:types|values|sides) (?:first differ|differ only|are) |expected type `")
-UNPROVED = re.compile(r"does not follow from what it read|`search`: no proof of `|give a proof of that as the last argument")
-# of a function without a file of proofs, for which the proof was made by itself before
-BY_ITSELF = re.compile(r"note: \S+: it is not proved that ")
+# a goal, a step or a field that the edited code does not have
+GONE = re.compile(r"has no `[^`]*` that can be named from here|has no field `|is not in scope")
+# a type's head that was made of the code's shape
+SHAPE = r"(?:tie|lts|goal|(?:\S+\.)?(?:Lts|Tie|Goals|View))\S*\.[A-Z]"
+MISFIT = re.compile(rf"(?:expected type|this has type|where one has|the other has) `\(*{SHAPE}")
 
 
-def misfit(message):
-    """Whether what was found differs from what is due in the code's shape alone."""
-    types, only = TYPES.search(message), ONLY.search(message)
-    if types and (any(PLACE.match(t) for t in types.groups()) or all(NEED.match(t) for t in types.groups())):
-        return True
-    return only is not None and all(MADE.fullmatch(part) for part in only.groups())
+def is_fact(told):
+    """Whether what rt tells of an edit is a fact that fails."""
+    m = REFUSED.match(told)
+    said = m[1] if m else ""
+    return bool(UNPROVED.search(said) or DIFFERS.search(said) and not GONE.search(said) and not MISFIT.search(said))
 
 
-def facts(log):
-    """The messages of a log that tell of a fact that fails, and the other errors that are no mere consequence.
-
-    The needs that a proof leaves to `search` stand in the declaration that closes it (`..-spec`) in their order, without a name: where the code has
-    other needs than before, a search is asked for another's. So what fails there counts only if all else in the file still fits."""
-    starts = [m.start() for m in BEGINS.finditer(log)] + [len(log)]
-    failing, closing, others, unfit = [], [], [], set()
-    for message in (log[a:b] for a, b in zip(starts, starts[1:])):
-        m = ERROR.match(message)
-        if BY_ITSELF.match(message):
-            failing.append(message)
-        elif m and not WAITS.search(message):
-            if not (UNPROVED.search(message) or DIFFERS.search(message) and not GONE.search(message) and not misfit(message)):
-                others.append(message)
-                unfit.add(m.group(1))
-            elif (m.group(2) or "").endswith("-spec"):
-                closing.append((m.group(1), message))
-            else:
-                failing.append(message)
-    for path, message in closing:
-        (others if path in unfit else failing).append(message)
-    return failing, others
-
-
-# logs made up by hand, after real ones, each with whether a fact fails in it
-AT = "/x/target/must-fail/runs/label/proofs/run/run/Proof.antt:200:24: error: "
-REST = "fn runs::run::run: not proved\nlogic=not-proved\n"
-WAITING = AT + "`run-spec`: `close` was not admitted (it has holes or undetermined implicits, or was rejected), so this cannot be checked\n"
-GONE_NEED = AT + "`returns-5`: `tie` has no `Need-returns-5` that can be named from here\n"
-GONE_FIELD = AT + "`returns-4`: record `Rattle·runs·proofs.proofs.run.run.Lts.After-stopped2` has no field `stopped3`\n"
-OTHER_PLACE = AT + "`stopping`: expected type `tie.After-frame2 Inv-loop`, but this has type `Rattle·runs·proofs.proofs.run.run.Lts.After-frame3 (x, y)`\n"
-ELSE_PLACE = (
-    AT + "`third`: computed as far as they go, the two types differ only where one has `Rattle·a·proofs.proofs.b.Lts.Else2`\n"
-    "  (expected) and the other has `Rattle·a·proofs.proofs.b.Lts.Then2` (found)\n"
-    "  expected type `tie.Else2`, but this has type `Rattle·a·proofs.proofs.b.Lts.Then2 (x)`\n"
-)
-OTHER_NEED = AT + "`run-spec`: expected type `tie.Need-add-area Inv-loop μ-loop`, but this has type `tie.Need-slice-write-area Inv-loop μ-loop`\n"
-PLACE_FOR_FACT = AT + "`left`: expected type `_≡_ (c .x) 0`\n  but this has type `Rattle·a·proofs.proofs.b.Lts.After-wide (x)`\n"
-NOTE = "/x/proofs/Found.antt:219:13: note: large solution: the two types are `a` and `b`, and the goal does not follow from what it read\n"
-VALUE = (
-    AT + "`returns`: computed as far as they go, the two types differ only where one has `12288` (expected) and the other has `12287` (found)\n"
-    "  expected type `borrow.Fn.Claims.AllOf x`\n  but this has type `borrow.Fn.Claims.AllOf y`\n"
-)
-FALSE = AT + "`loop-again`: `omega`: the goal does not follow from what it read. All of that holds, and the goal fails, at `c .i` = 1\n"
-SHIFTED = AT + "`run-spec`: `search`: no proof of `Rattle·runs·proofs.proofs.run.run.Reads.Post x`\n  was found.\n"
-SEARCHED = AT + "`returns`: `search`: no proof of `words.word.Reads.Post x`\n  was found.\n"
+# lines made up by hand, after real ones, each with whether a fact fails in it
+AT = "refused, as it must be: ./proofs/run/run/Answers.antt:200:24: error: "
 MADE_UP = [
-    (REST, False),
-    (WAITING + REST, False),
-    (GONE_NEED + WAITING + REST, False),
-    (GONE_FIELD + OTHER_PLACE + WAITING + REST, False),
-    (ELSE_PLACE + REST, False),
-    (GONE_FIELD + SHIFTED + REST, False),
-    (SHIFTED + WAITING + REST, True),
-    (OTHER_NEED + PLACE_FOR_FACT + NOTE + REST, False),
-    (NOTE + VALUE + REST, True),
-    (OTHER_PLACE + FALSE + REST, True),
-    (GONE_NEED + SEARCHED + REST, True),
-    ("note: /x/src/lib.rt:38:9: it is not proved that what `move_down` requires holds at this call (`move-down-requires`)\n" + REST, True),
+    ("refused, as it must be: note: src/run.rt:43:1: it is not proved that what the function ensures holds when it returns (`returns`); `search` gave up", True),
+    ("refused, as it must be: note: src/lib.rt:38:9: it is not proved that what `move_down` requires holds at this call (`move_down-requires`)", True),
+    (AT + "`loop-i-preserved`: `omega`: the goal does not follow from what it read. All of that holds, and the goal fails, at `c.i` = 1", True),
+    (AT + "`returns`: `search`: no proof of `words.word.Reads.Post x`", True),
+    (AT + "`returns`: computed as far as they go, the two types differ only where one has `12288` (expected) and the other has `12287` (found)", True),
+    (AT + "`left`: expected type `◌≡◌ (c.x) 0`, but this has type `◌≡◌ (c.x) 1`", True),
+    ("refused, as it must be (only because a proof file names what the edit took away, so this says little of the contract: change a value and keep the names):"
+     " ./proofs/run/run/Answers.antt:9:1: error: `returns-5`: `goal` has no `returns-5` that can be named from here", False),
+    ("refused, as it must be (only by a limit of the prover, which gave no verdict, so this says less of the contract: choose a change that it refuses sooner):"
+     " ./proofs/run/run/Answers.antt:9:1: error: antt ran out of the steps that the check of one declaration may take", False),
+    (AT + "2 declarations that depend on `invariant-loop-i`, which was rejected, were not checked: returns, run_spec", False),
+    (AT + "`returns`: expected type `goal.After-frame2`, but this has type `Rattle.runs.proofs.run.run.Lts.After-frame3 x`", False),
+    (AT + "`third`: the two types differ only where one has `Rattle.a.proofs.b.Lts.Else2` (expected) and the other has `Rattle.a.proofs.b.Lts.Then2` (found)", False),
+    ("refused, as it must be", False),
+    ("BAD EDIT: an 'old:' text is in src/lib.rt 0 times, and not once", False),
+    ("NOT REFUSED: the crate is still proved with this edit (one that means the same as before cannot be refused: remove it)", False),
 ]
 
 
 def main():
-    for i, (log, due) in enumerate(MADE_UP):
-        if bool(facts(log)[0]) != due:
-            sys.exit(f"refused: FAILED: the made-up log {i} is told wrongly:\n{log}")
-    folder = sys.argv[1] if len(sys.argv) > 1 else "target/must-fail"
-    edits = sorted(glob.glob("crates/*/must-fail/*.edit"))
-    labels = [(e.split("/")[1], os.path.basename(e)[:-5]) for e in edits]
+    for line, due in MADE_UP:
+        if is_fact(line) != due:
+            sys.exit(f"refused: FAILED: a made-up line is told wrongly:\n{line}")
+    with open(sys.argv[1] if len(sys.argv) > 1 else "target/ci.log", encoding="utf-8", errors="replace") as f:
+        told = {(crate, label): text for crate, label, text in LINE.findall(f.read())}
+    edits = [(e.split("/")[1], os.path.basename(e)[:-5]) for e in sorted(glob.glob("crates/*/must-fail/*.edit"))]
     if len(sys.argv) > 1:
-        labels = sorted(tuple(p.split("/")[-3:-1]) for p in glob.glob(os.path.join(glob.escape(folder), "*/*/.log")))
-    wrong = 0
-    for crate, label in labels:
-        path = os.path.join(folder, crate, label, ".log")
-        if not os.path.exists(path):
-            print(f"refused: WRONG: {crate}/{label} has no log")
-            wrong += 1
-            continue
-        failing, others = facts(open(path, encoding="utf-8", errors="replace").read())
-        if not failing:
-            said = [" ".join(message.split())[:240] for message in others]
-            why = "the proof only does not fit:" if said else "and the log has no error"
-            print(f"refused: WRONG: {crate}/{label}: no fact fails, {why}", *said, sep="\n    ")
-            wrong += 1
-    print(f"refused: {len(labels) - wrong} of {len(labels)} must-fail edits are refused because a fact fails")
+        edits = sorted(told)
+    wrong = [edit for edit in edits if not is_fact(told.get(edit, ""))]
+    for crate, label in wrong:
+        print(f"refused: WRONG: {crate}/{label}: no fact fails: {told.get((crate, label), 'rt tells nothing of it')}")
+    print(f"refused: {len(edits) - len(wrong)} of {len(edits)} must-fail edits are refused because a fact fails")
     sys.exit(1 if wrong else 0)
 
 

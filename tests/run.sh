@@ -58,13 +58,7 @@ show() { # PART..
     done
 }
 
-# 1. the archives, and their header in C99 and C++
-cue_archive() { quiet rt staticlib cue; }
-replay_archive() {
-    # rt notes what it finds of the crates below, where another rt would take it for its own: the other one must be past them, at its own crate
-    until [ -e target/log/cue.say ] || [ -e "$parts/cue_archive.status" ]; do sleep 0.1; done
-    quiet rt staticlib cue_replay
-}
+# 1. what the archives export, and their header in C99 and C++
 exports() {
     printf '#include "cue.h"\nint main(void) { return CUE_TAKEN; }\n' | tee "$to/empty.c" > "$to/empty.cpp"
     quiet gcc "${strict[@]}" -Iinclude -fsyntax-only "$to/empty.c"
@@ -232,17 +226,13 @@ for tool in rt gcc g++ rustc python3 as ld nm objdump objcopy; do
     command -v "$tool" > /dev/null || fail "the tool $tool is missing"
 done
 
-# What parts need and another tool makes comes first (after rt ci it is there), so that none of them makes what another reads. Then what others wait
-# for, and long parts before short ones; last the random run, which has two threads and so leaves no processor idle
-quiet rt check cue expand check_book
-rm -f target/log/cue.say
-start cue_archive
+# What parts need and another tool makes comes first, so that none of them makes what another reads. Then what others wait for, and long parts
+# before short ones; last the random run, which has two threads and so leaves no processor idle
+quiet tools/build expand check_book cue cue_replay
 start words
-start replay_archive
+start places
 ended words
 start programs
-start places
-ended cue_archive replay_archive
 start second
 start exports
 start stack

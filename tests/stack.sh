@@ -23,7 +23,7 @@ fail() { printf 'stack: FAILED: %s\n' "$*"; exit 1; }
 ours=()
 if [ ${#archives[@]} = 0 ]; then
     for crate in cue cue_replay; do
-        [ "${BUILT:-0}" = 1 ] || rt staticlib "$crate" > "$to/stack.log" 2>&1 || { cat "$to/stack.log"; fail "the archive of $crate is not built"; }
+        [ "${BUILT:-0}" = 1 ] || tools/build "$crate" > "$to/stack.log" 2>&1 || { cat "$to/stack.log"; fail "the archive of $crate is not built"; }
         ours+=("target/staticlib/lib$crate.a")
     done
 fi

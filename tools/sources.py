@@ -2,14 +2,18 @@
 their contracts. Only what rt fmt leaves is read: a declaration starts at its block's own depth, and a `use` stands on one line."""
 import collections
 import glob
+import os
 import re
+
+# the crates of the house; other paths that begin with Rattle are the kit's
+CRATES = {os.path.basename(path) for path in glob.glob("crates/*")}
 
 # a name of antt, and a name with a path before it
 NAME = re.compile(r"[^\s(){}\[\].;,@\"«»λ→×≡|]+")
 PATH = re.compile(r"(?<![^\s(){}\[\];,@])(?:package\.)?([^\s(){}\[\].;,@\"«»]+(?:\.[^\s(){}\[\].;,@\"«»]+)+)")
 HEAD = re.compile(r"^ *((?:unfoldable |abbrev )*)(pub )?(?:(record|data|axiom) )?([^\s:({]+)\s*([:({]|$)")
 USE = re.compile(r"^(?:ghost |unfoldable |abbrev )*(pub )?use (?:package\.)?([^\s{;]+?)(?:\.\{(.*)\})?(?: as ([^\s;]+))?;?\s*$")
-OWN = re.compile(r"Rattle·([a-z_0-9]+)(?:·(?:specs|proofs))?\.(specs|proofs)(?:\.(.+))?$")
+OWN = re.compile(r"Rattle\.([a-z_0-9]+)\.(specs|proofs)(?:\.(.+))?$")
 # a function's head, with its contract: it ends with its first line, where a brace ends that, or before the line that is its brace
 FN = re.compile(r'^( *)(pub )?(extern "C" )?fn (\w+)(?:[^\n]*\{$|[^\n]*(?:\n(?!\1(?:\{|\).*\{$))[^\n]*)*)', re.M)
 CLAUSE = re.compile(r"^ +ensures (\w+) \{(.*?)(?=^ +(?:ensures|requires|decreases)\b|\Z)", re.M | re.S)
@@ -31,7 +35,7 @@ def depth(line):
 def module_key(path):
     """The file that a module of our own stands in, as (crate, part, module); none for a module of the kit."""
     m = OWN.match(path)
-    return (m.group(1), m.group(2), m.group(3) or "Lib") if m else None
+    return (m.group(1), m.group(2), m.group(3) or "Lib") if m and m.group(1) in CRATES else None
 
 
 def key_of(path):
@@ -53,7 +57,7 @@ class Imports:
             if not m or m.group(2).endswith("*") or m.group(2).split(".")[0] in self.modules:
                 self.odd.append(line.strip())
                 continue
-            if not m.group(2).startswith("Rattle·"):
+            if not module_key(m.group(2)):
                 continue
             if m.group(3) is None or " as " in m.group(3):
                 self.renamed.append(line.strip())

@@ -1,5 +1,5 @@
 //! Three functions of include/cue.h, safe to call: what a desk needs for a show. Put this file into your own crate, and link libcue.a
-//! (`rt staticlib cue` writes it to target/staticlib/).
+//! (`tools/build cue` writes it to target/staticlib/).
 
 /// The version of the header from which this file was written: 65536 times the first number, and the second.
 pub const VERSION: u32 = 4 * 65536 + 1;

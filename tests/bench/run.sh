@@ -10,7 +10,7 @@ cd "$(dirname "$0")/../.."
 to=target/outside
 mkdir -p "$to/other"
 for crate in cue cue_replay; do
-    [ "${BUILT:-0}" = 1 ] || rt staticlib "$crate" > "$to/bench.log" 2>&1 || { cat "$to/bench.log"; exit 1; }
+    [ "${BUILT:-0}" = 1 ] || tools/build "$crate" > "$to/bench.log" 2>&1 || { cat "$to/bench.log"; exit 1; }
 done
 # where nothing is measured the build need not be fast
 flags=(-O)

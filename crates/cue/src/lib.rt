@@ -1,5 +1,5 @@
-// The libraries' public operations for C and other languages, but for the replay's, which `cue_replay` has: include/cue.h declares what
-// stands here. Each function hands its arguments on and its answer back; none asks anything of its caller.
+// The libraries' public operations as C and other languages call them, but for the replay's, which `cue_replay` has: `cue_c` exports them under
+// these names, and include/cue.h declares them. Each function hands its arguments on and its answer back; none asks anything of its caller.
 #![tactic(auto)]
 
 ghost use Rattle.std.specs.Prelude.{◌≡◌, length};
@@ -100,24 +100,21 @@ pub fn answer_for(a: Answer) -> CueAnswer
 }
 
 // The version that this archive was built for: where it is not the header's CUE_VERSION, the two do not belong together.
-#[unsafe(no_mangle)]
-pub extern "C" fn cue_version() -> u32
+pub fn cue_version() -> u32
     ensures { result ≡ version }
 {
     VERSION_MAJOR * 65536 + VERSION_MINOR
 }
 
 // Reads a book.
-#[unsafe(no_mangle)]
-pub extern "C" fn cue_read(book: &[u16]) -> CueAnswer
+pub fn cue_read(book: &[u16]) -> CueAnswer
     ensures { result ≡ answer_for (answer_of (read book.now)) }
 {
     answer_for(reader::read(book))
 }
 
 // The shape of an accepted book; all 0 of a refused one.
-#[unsafe(no_mangle)]
-pub extern "C" fn cue_shape_of(book: &[u16]) -> CueShape
+pub fn cue_shape_of(book: &[u16]) -> CueShape
     ensures { result ≡ shape_for (shape_of (read book.now)) }
 {
     let s = reader::shape_of(book);
@@ -130,16 +127,14 @@ pub extern "C" fn cue_shape_of(book: &[u16]) -> CueShape
 }
 
 // Checks a term (01: a cue) against a book.
-#[unsafe(no_mangle)]
-pub extern "C" fn cue_check_term(book: &[u16], term: &[u16]) -> CueAnswer
+pub fn cue_check_term(book: &[u16], term: &[u16]) -> CueAnswer
     ensures { result ≡ answer_for (term_answer book.now term.now) }
 {
     answer_for(terms::check_term(book, term))
 }
 
 // Argument i (from 1) of the term's first symbol.
-#[unsafe(no_mangle)]
-pub extern "C" fn cue_argument(book: &[u16], term: &[u16], i: usize) -> CuePart
+pub fn cue_argument(book: &[u16], term: &[u16], i: usize) -> CuePart
     ensures { result ≡ part_for (argument_span book.now term.now i) }
 {
     let s = terms::argument_span(book, term, i);
@@ -150,16 +145,14 @@ pub extern "C" fn cue_argument(book: &[u16], term: &[u16], i: usize) -> CuePart
 }
 
 // How many words the subterm at the front of ws takes, by the arities that the book's words list.
-#[unsafe(no_mangle)]
-pub extern "C" fn cue_span(book: &[u16], ws: &[u16]) -> usize
+pub fn cue_span(book: &[u16], ws: &[u16]) -> usize
     ensures { result ≡ span (signature_of book.now) ws.now 1 }
 {
     system::words::span(book, ws)
 }
 
 // The first rule that matches the subterm at the front of ws, listed or built in.
-#[unsafe(no_mangle)]
-pub extern "C" fn cue_first_match(book: &[u16], ws: &[u16]) -> CueMatch
+pub fn cue_first_match(book: &[u16], ws: &[u16]) -> CueMatch
     ensures { result ≡ match_for (match_in book.now ws.now) }
 {
     let m = matching::first_match(book, ws);
@@ -198,8 +191,7 @@ pub extern "C" fn cue_first_match(book: &[u16], ws: &[u16]) -> CueMatch
 }
 
 // The strategy test (01: the order test).
-#[unsafe(no_mangle)]
-pub extern "C" fn cue_test_strategies(book: &[u16]) -> CueAnswer
+pub fn cue_test_strategies(book: &[u16]) -> CueAnswer
     ensures tested { result ≡ answer_for (test_answer book.now) }
     ensures told { Tells book.now (as_answer result) }
 {
@@ -207,8 +199,7 @@ pub extern "C" fn cue_test_strategies(book: &[u16]) -> CueAnswer
 }
 
 // The test by weights (02, F-6).
-#[unsafe(no_mangle)]
-pub extern "C" fn cue_test_weights(book: &[u16], weights: &[u16]) -> CueAnswer
+pub fn cue_test_weights(book: &[u16], weights: &[u16]) -> CueAnswer
     ensures tested { result ≡ answer_for (weights_answer book.now weights.now) }
     ensures told { TellsWeights book.now weights.now (as_answer result) }
 {
@@ -216,16 +207,14 @@ pub extern "C" fn cue_test_weights(book: &[u16], weights: &[u16]) -> CueAnswer
 }
 
 // What a term weighs in all, as a step limit.
-#[unsafe(no_mangle)]
-pub extern "C" fn cue_weigh(weights: &[u16], term: &[u16]) -> u32
+pub fn cue_weigh(weights: &[u16], term: &[u16]) -> u32
     ensures { result ≡ weight_limit weights.now term.now }
 {
     weigh(weights, term)
 }
 
 // The sort test (02, F-8).
-#[unsafe(no_mangle)]
-pub extern "C" fn cue_test_kinds(book: &[u16], term: &[u16], kinds: &[u16]) -> CueAnswer
+pub fn cue_test_kinds(book: &[u16], term: &[u16], kinds: &[u16]) -> CueAnswer
     ensures tested { result ≡ answer_for (sorts_answer book.now term.now kinds.now) }
     ensures told { TellsSorts book.now term.now kinds.now (as_answer result) }
 {
@@ -233,8 +222,7 @@ pub extern "C" fn cue_test_kinds(book: &[u16], term: &[u16], kinds: &[u16]) -> C
 }
 
 // Expands a term over a book with at most `limit` steps (01: the allowance).
-#[unsafe(no_mangle)]
-pub extern "C" fn cue_expand(
+pub fn cue_expand(
     book: &[u16],
     term: &[u16],
     limit: u32,
@@ -248,8 +236,7 @@ pub extern "C" fn cue_expand(
 }
 
 // Tests the book's strategies and expands the term: "done" whether or not the book passed, "found" where it did.
-#[unsafe(no_mangle)]
-pub extern "C" fn cue_expand_checked(
+pub fn cue_expand_checked(
     book: &[u16],
     term: &[u16],
     limit: u32,
@@ -276,8 +263,7 @@ pub extern "C" fn cue_expand_checked(
 
 // Expands the term, and what is handed back again with step limit 0 in a second pair of buffers; where nothing is handed back the first
 // answer stands for the second.
-#[unsafe(no_mangle)]
-pub extern "C" fn cue_expand_twice(
+pub fn cue_expand_twice(
     book: &[u16],
     term: &[u16],
     limit: u32,
@@ -306,8 +292,7 @@ pub extern "C" fn cue_expand_twice(
 
 // Expands a term over a book with at most `limit` steps, and tells each step in the record: its index in the whole term before it, and the
 // number of its rule.
-#[unsafe(no_mangle)]
-pub extern "C" fn cue_expand_recorded(
+pub fn cue_expand_recorded(
     book: &[u16],
     term: &[u16],
     limit: u32,

@@ -1,6 +1,6 @@
-// What the support desk uses, for C and other languages, in an archive of its own: the replay of a step record, and an expansion with its
-// replay; include/cue.h declares what stands here. In one archive the replay would be a second caller of search and rewrite, which are
-// then compiled as calls and no longer copied into the expander's loop: it would lose a fifth to a third of its speed.
+// What the support desk uses, as C and other languages call it: the replay of a step record, and an expansion with its replay; `cue_replay_c`
+// exports them under these names in an archive of its own, and include/cue.h declares them. In one archive the replay would be a second caller of
+// search and rewrite, which are then compiled as calls and no longer copied into the expander's loop: it would lose a fifth to a third of its speed.
 #![tactic(auto)]
 
 ghost use Rattle.std.specs.Prelude.{◌≡◌, length};
@@ -43,8 +43,7 @@ fn replayed_for(e: Replayed) -> CueReplayed
 }
 
 // Follows a record over a book from a term on.
-#[unsafe(no_mangle)]
-pub extern "C" fn cue_replay(
+pub fn cue_replay(
     book: &[u16],
     term: &[u16],
     record: &[u16],
@@ -63,8 +62,7 @@ pub extern "C" fn cue_replay(
 
 // Expands the term with a record, and follows the record, cut to its pairs, in a second pair of buffers; where nothing is handed back the
 // answer's numbers stand for the replay's.
-#[unsafe(no_mangle)]
-pub extern "C" fn cue_expand_retraced(
+pub fn cue_expand_retraced(
     book: &[u16],
     term: &[u16],
     limit: u32,

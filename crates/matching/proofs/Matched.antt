@@ -89,15 +89,18 @@ module _ (g : Signature) where
   -- the same before a whole term
   module _ (l : ℕ) (ls ws : List ℕ) (h : variable ≤ l) where
     pub bind-variable : {x : List ℕ} (σ : List (List ℕ)) → length σ ≤ l - variable → Whole g x → bind g (l ∷ ls) (x ++ ws) σ ≡ bind g ls ws (σ ++ x ∷ [])
+    bind-variable {x = []} σ n f = elim f [ ]
     bind-variable {x = w ∷ x} σ n f =
         rw (bind-new l w ls (x ++ ws) σ h n, span-forest g (Symbol g) ws f, drop-append_seam (w ∷ x) ws, take-append_seam (w ∷ x) ws)
 
     pub bind-known : {x : List ℕ} (σ : List (List ℕ)) → l - variable < length σ → Whole g x → get_or σ (l - variable) [] ≡ x → bind g (l ∷ ls) (x ++ ws) σ ≡ bind g ls ws σ
+    bind-known {x = []} σ n f e = elim f [ ]
     bind-known {x = w ∷ x} σ n f e =
         bind-same l w ls (x ++ ws) σ h n (e ∙ sym (ap (λ k. take k (w ∷ x ++ ws)) (span-forest g (Symbol g) ws f) ∙ take-append_seam (w ∷ x) ws))
         ∙ ap (λ r. bind g ls r σ) (ap (λ k. drop k (w ∷ x ++ ws)) (span-forest g (Symbol g) ws f) ∙ drop-append_seam (w ∷ x) ws)
 
     pub bind-unlike : {x : List ℕ} (σ : List (List ℕ)) → l - variable < length σ → Whole g x → (get_or σ (l - variable) [] ≡ x → ⊥) → bind g (l ∷ ls) (x ++ ws) σ ≡ none
+    bind-unlike {x = []} σ n f d = elim f [ ]
     bind-unlike {x = w ∷ x} σ n f d =
         bind-other l w ls (x ++ ws) σ h n (λ e. d (e ∙ ap (λ k. take k (w ∷ x ++ ws)) (span-forest g (Symbol g) ws f) ∙ take-append_seam (w ∷ x) ws))
 

@@ -65,6 +65,7 @@ module _ (s : System) (f : ℕ) (plain : built_in_arity f ≡ 0) where
 
   pub idles-sound : (es : List ℕ) → idles (idle_test s f) es ≡ true → (e : ℕ) → Member e es → IdleEntry s f e
   unfolding idles
+  idles-sound [] q e st = elim st [ ]
   idles-sound (zero ∷ es) q e st = absurd (let z : ◌≡◌ {A = ℕ} 0 1 = cc in omega arith)
   idles-sound (suc i ∷ es) q e first = idle (idle-sound i (both (idle_test s f i) _ q).0)
   idles-sound (suc i ∷ es) q e (later st) = idles-sound es (both (idle_test s f i) _ q).1 e st

@@ -86,6 +86,7 @@ module _ (g : Signature) (below : length g ≤ variable) where
 
   -- the right side: each of its words is below the last variable known
   pub taken-known : {start : Bool} {due known last : ℕ} {ws : List ℕ} → Taken g Right start due known last ws → (w : ℕ) → Member w ws → w < variable + known
+  taken-known (done {start = start} {known = known}) w x7 = elim x7 [ ]
   taken-known (takes {start} {due} {known} {w = v} c t) w first = go (passes-word g Right start due known v c)
     where
       go : Symbol g v ⊎ Variable Right start known v → v < variable + known

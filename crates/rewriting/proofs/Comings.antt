@@ -84,6 +84,8 @@ module _ (s : System) (t : List ℕ) where
 
   pub stood : (l : ℕ) (cs : List ℕ) (p : ℕ) → Open p cs → Stood l p (advance s l cs t p)
   unfolding advance
+  stood zero [] p o = elim o [ ]
+  stood (suc l) [] p o = elim o [ ]
   stood zero (c ∷ cs) p o = tt
   stood (suc l) (c ∷ []) p inmost = stood-scan l (stood-enter l) p (drop c (strategy_at s t p)) c refl
   stood (suc l) (suc c ∷ cs) p (further {i} h e o) =

@@ -29,9 +29,9 @@ module _ (s : System) where
     path-last (then p d l) = l
 
     -- a path, and the steps after it
-    path-append : {n : ℕ} {t₀ t t' : List ℕ} {h : Trace} → Path s size t₀ h t → Steps s size n t t' → Steps s size (length h + n) t₀ t'
-    path-append {n} (begin l) q = rw (zero-add n) q
-    path-append {n} {t₀} {t' = t''} (then {h} p d l) q =
+    path-append : {t₀ t t' : List ℕ} {h : Trace} {n : ℕ} → Path s size t₀ h t → Steps s size n t t' → Steps s size (length h + n) t₀ t'
+    path-append {n = n} (begin l) q = rw (zero-add n) q
+    path-append {t₀} {t' = t''} {n = n} (then {h} p d l) q =
         subst (λ k. Steps s size k t₀ t'') (let z : length h + suc n ≡ suc (length h) + n = omega arith in z) (path-append p (step (path-last p) d q))
 
     pub path-steps : {t₀ t : List ℕ} {h : Trace} → Path s size t₀ h t → Steps s size (length h) t₀ t

@@ -140,4 +140,4 @@ module _ (s : System) where
           let m : Member (suc i) (strategy_at s t p) = rw e at (member-get_or (strategy_at s t p) c h) in
           let l : i < arity g (get_or t p 0) = (let z = wf.entry_bound (get_or t p 0) (suc i) m in omega arith) in
           let w' : Way (every_argument s) t (ps ++ p ∷ []) (down s t p (suc c)) = rw e (every-down i w l) in
-          subst (λ qs. Way (every_argument s) t qs (position s t cs (down s t p (suc c)))) (append_assoc ps (p ∷ []) (above s t cs (down s t p (suc c)))) (every-opened w' o)
+          subst (λ qs. Way (every_argument s) t qs (position s t cs (down s t p (suc c)))) (append_assoc ps (p ∷ []) (above s t cs (down s t p (suc c)))) (every-opened {ps = ps ++ p ∷ []} w' o)

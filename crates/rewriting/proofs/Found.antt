@@ -77,6 +77,7 @@ module _ (s : System) where
 
     -- no entry is left: no rule matches
     expansion_of : {u : List ℕ} → Whole g u → Guard s u [] → contraction s u ≡ none
+    expansion_of {u = u} h (ahead x') = elim x' [ ]
     expansion_of h (clear q b) = b
     expansion_of h (free c) = constructor-contraction s wf h c
 

@@ -156,6 +156,8 @@ module _ (w : ℕ) where
       short (suc (suc n)) h = omega arith
 
       named : (n : ℕ) → n ≤ 2 → (e : ℕ) → Member e (eager n) → e ≤ n
+      named (suc zero) h e (later (later x10)) = elim x10 [ ]
+      named (suc (suc n)) h e (later (later (later x15))) = elim x15 [ ]
       named zero h e m = elim m [ ]
       named (suc zero) h e first = omega arith
       named (suc zero) h e (later first) = omega arith

@@ -19,6 +19,7 @@ member-get_or (e ∷ es) zero h = first
 member-get_or (e ∷ es) (suc c) h = later (member-get_or es c (le_of_suc-le-suc h))
 
 pub member-index : (P : ℕ → Type 0) (es : List ℕ) → ((j : ℕ) → j < length es → P (get_or es j 0)) → (e : ℕ) → Member e es → P e
+member-index P [] h d x'' = elim x'' [ ]
 member-index P (e ∷ es) h d first = h 0 (omega arith)
 member-index P (e ∷ es) h d (later st) = member-index P es (λ j l. h (suc j) (omega arith)) d st
 
@@ -47,6 +48,7 @@ numbered-le (next e nb) = let h = numbered-le nb in omega arith
 numbered-le (again e l nb) = numbered-le nb
 
 pub numbered_below : {n m w : ℕ} {ls : List ℕ} → Numbered n m ls → Member w ls → w < variable + m
+numbered_below {w = w} (end {n = n}) x5 = elim x5 [ ]
 numbered_below (symbol l nb) first = omega arith
 numbered_below (symbol l nb) (later st) = numbered_below nb st
 numbered_below (next e nb) first = let h = numbered-le nb in omega arith

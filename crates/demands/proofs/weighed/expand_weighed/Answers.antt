@@ -1,0 +1,21 @@
+-- `weighed::expand_weighed` meets its contract.
+use mathlib.Core.Path.{sym, subst}
+use Rattle.rewriting.specs.Evaluation.{unrecorded}
+use Rattle.demands.specs.Finite.{IsFinite}
+use Rattle.demands.proofs.Finite.{is_finite}
+use Rattle.demands.proofs.weighed.expand_weighed.Goals as goal
+
+pub returns : goal.returns
+returns c =
+    let t = c.test-test.ensures in
+    let e = c.expand_scanned-answer.ensures in
+    let a = c.args in
+    let m = a.weights.now in
+    let v = a.term.now in
+    let l = unrecorded a.limit in
+    let finite = subst (IsFinite a.book.now m v l) (sym e) (is_finite a.book.now m v l a.out.now a.work.now) in
+    record {
+      tested = t;
+      expanded = e;
+      finite = finite;
+    }

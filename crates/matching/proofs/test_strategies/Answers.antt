@@ -1,0 +1,14 @@
+-- `test_strategies` meets its contract.
+use mathlib.Core.Path.{sym, subst}
+use Rattle.matching.specs.Safety.{Tells}
+use Rattle.matching.proofs.Tests.{test-tells}
+use Rattle.matching.proofs.test_strategies.Goals as goal
+
+pub returns : goal.returns
+returns c =
+    let b = c.args.book.now in
+    let e = c.test.ensures in
+    record {
+      tested = e;
+      told = subst (Tells b) (sym e) (test-tells b);
+    }

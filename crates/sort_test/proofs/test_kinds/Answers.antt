@@ -1,0 +1,14 @@
+-- `test_kinds` meets its contract.
+use mathlib.Core.Path.{sym, subst}
+use Rattle.sort_test.specs.Tells.{TellsSorts}
+use Rattle.sort_test.proofs.Tests.{sorts-tell}
+use Rattle.sort_test.proofs.test_kinds.Goals as goal
+
+pub returns : goal.returns
+returns c =
+    let a = c.args in
+    let e = c.test.ensures in
+    record {
+      tested = e;
+      told = subst (TellsSorts a.book.now a.term.now a.kinds.now) (sym e) (sorts-tell a.book.now a.term.now a.kinds.now);
+    }
