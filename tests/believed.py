@@ -174,7 +174,7 @@ def main():
     failed = 0
     with tempfile.TemporaryDirectory() as folder:
         for path in ("crates", "docs", "tools"):
-            shutil.copytree(path, os.path.join(folder, path), ignore=shutil.ignore_patterns("must-fail", "data"))
+            shutil.copytree(path, os.path.join(folder, path), ignore=shutil.ignore_patterns("must-fail", "data", "out"))
         shutil.copy("README.md", folder)
         _, already, _ = wrong(folder)
         for what, edits, due in PLANTS:

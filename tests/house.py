@@ -83,7 +83,9 @@ def built_on():
     order = [*listed, *sorted(KIT)]
     for crate in listed:
         text = ""
-        for path in glob.glob(f"crates/{crate}/*/**/*.rt", recursive=True) + glob.glob(f"crates/{crate}/*/**/*.antt", recursive=True):
+        for path in (p for part in LINE for p in glob.glob(f"crates/{crate}/{part}/**/*.*", recursive=True)):
+            if not path.endswith((".rt", ".antt")):
+                continue
             comment = r"//.*" if path.endswith(".rt") else r"(^|\s)--.*"
             text += re.sub(comment, "", open(path, encoding="utf-8").read(), flags=re.M)
         named = set(re.findall(r"Rattle\.([a-z_0-9]+)\.", text)) | set(re.findall(r"(?<![\w:])([a-z_0-9]+)::", text))

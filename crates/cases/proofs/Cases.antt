@@ -4,7 +4,8 @@ use Rattle.buffers.specs.Words.{zeros}
 use Rattle.system.specs.BuiltIns.{is_literal, is_built_in, is_binary, is_unary, built_in_arity, built_in_strategy, larger, smaller, square_law}
 use Rattle.system.specs.Signature.{is_symbol, arity, span, argument, replace}
 use Rattle.system.specs.System.{strategy, instance}
-use Rattle.reader.specs.Parser.{read, read_system, read_rules, read_end, read_rule, read_side, read_words, read_strategy, number, word, learn, side_fault, symbol_fault, variable_fault, outside, each, times}
+use Rattle.reader.specs.Parser.{read, read_system, read_rules, read_end, read_rule, read_side, read_words, read_strategy, number, word, learn, side_fault, symbol_fault, variable_fault}
+use Rattle.reader.specs.Parser.{outside, each, times}
 use Rattle.system.specs.TermCheck.{term_fault}
 use Rattle.reader.specs.Answers.{term_answer}
 use Rattle.reader.specs.Book.{system_of}

@@ -74,7 +74,8 @@ literal_cases =
 unfoldable pub recording : List ℕ → List ℕ → ℕ → List ℕ → List ℕ
 recording book term limit words =
     let limits = recorded limit (length words) in
-    told (expansion book term limits (zeros term_words) (zeros area_words)) ++ record_after book term limits (zeros term_words) (zeros area_words) words
+    told (expansion book term limits (zeros term_words) (zeros area_words))
+    ++ record_after book term limits (zeros term_words) (zeros area_words) words
 
 unfoldable pub following : List ℕ → List ℕ → List ℕ → List ℕ
 following book term words = told (replaying book term words (zeros term_words) (zeros area_words))

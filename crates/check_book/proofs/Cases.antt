@@ -6,7 +6,8 @@ use Rattle.system.specs.BuiltIns.{is_built_in, is_binary, is_unary, built_in_ari
 use Rattle.system.specs.Signature.{is_symbol, arity, span, argument}
 use Rattle.system.specs.System.{strategy}
 use Rattle.system.specs.Terms.{occurs}
-use Rattle.reader.specs.Parser.{read, read_system, read_rules, read_end, read_rule, read_side, read_words, read_strategy, number, word, learn, side_fault, symbol_fault, variable_fault, outside, each, times}
+use Rattle.reader.specs.Parser.{read, read_system, read_rules, read_end, read_rule, read_side, read_words, read_strategy, number, word, learn, side_fault, symbol_fault, variable_fault}
+use Rattle.reader.specs.Parser.{outside, each, times}
 use Rattle.reader.specs.Cases.{book_b, cut_b, long_b, twice_b, early_b}
 use Rattle.system.specs.FirstFailing.{first_failing}
 use Rattle.matching.specs.StrategyTest.{passes, every, closes, idles, idle_test, held_once, constructs, test_answer}

@@ -24,8 +24,10 @@ answer_and_buffers r out work = record { numbers = r; answer = out; work = work 
 -- 02, F-5: "Number 10 and the zeroing use 12,288 for the work buffer".
 abbrev pub expansion_of : List ℕ → List ℕ → Outcome → Expansion
 expansion_of out work (finished r) =
-    answer_and_buffers (record { number = number_of taken; place = length r.term; steps = steps r }) (over out 0 r.term) (over work 0 (zeros area_words))
-expansion_of out work (stopped n h) = answer_and_buffers (record { number = limit_number n; place = 0; steps = length h }) out (over work 0 (zeros area_words))
+    answer_and_buffers (record { number = number_of taken; place = length r.term; steps = steps r }) (over out 0 r.term)
+    (over work 0 (zeros area_words))
+expansion_of out work (stopped n h) =
+    answer_and_buffers (record { number = limit_number n; place = 0; steps = length h }) out (over work 0 (zeros area_words))
 
 -- 10: "answer buffer below 4,096 words, or work buffer below" 12,288 (02, F-5)
 unfoldable pub room : ℕ → ℕ → Answer

@@ -22,8 +22,10 @@ as_answer a = record { number = a.number; place = a.place; steps = a.steps }
 -- is how many steps are completed; 17 and 12 "leave the buffers as 11 does"
 abbrev pub replay_of : List ℕ → List ℕ → Replay → Expansion
 replay_of out work (followed r) =
-    answer_and_buffers (record { number = number_of taken; place = length r.term; steps = steps r }) (over out 0 r.term) (over work 0 (zeros area_words))
-replay_of out work (mistold h) = answer_and_buffers (record { number = number_of untrue; place = length h; steps = length h }) out (over work 0 (zeros area_words))
+    answer_and_buffers (record { number = number_of taken; place = length r.term; steps = steps r }) (over out 0 r.term)
+    (over work 0 (zeros area_words))
+replay_of out work (mistold h) =
+    answer_and_buffers (record { number = number_of untrue; place = length h; steps = length h }) out (over work 0 (zeros area_words))
 replay_of out work (exceeded h) =
     answer_and_buffers (record { number = number_of (stopping overlong); place = 0; steps = length h }) out (over work 0 (zeros area_words))
 

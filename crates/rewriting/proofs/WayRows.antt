@@ -11,9 +11,7 @@ use Rattle.system.specs.System.{System}
 use Rattle.system.specs.Terms.{Whole, WellFormed}
 use Rattle.system.proofs.Places.{replace-length}
 use Rattle.system.proofs.words.SpanSteps.{span-le}
-use Rattle.rewriting.specs.Machine.{position}
 use Rattle.rewriting.specs.Ways.{raise, Way, top, down}
-use Rattle.rewriting.specs.levels.Lengths.{above}
 use Rattle.system.specs.Spans.{spans}
 use Rattle.system.proofs.Spans.{spans-at}
 use Rattle.rewriting.proofs.Raises.{raise-later}

@@ -21,14 +21,14 @@ use Rattle.sorts.proofs.Checking.{Small, Within, within_of, sorts_in, check_soun
 
 -- ---- nothing is known of the variables
 
-get_d_replicate : (n v x : ℕ) → get_or (replicate n x) v x ≡ x
-get_d_replicate zero v x = refl
-get_d_replicate (suc n) zero x = refl
-get_d_replicate (suc n) (suc v) x = get_d_replicate n v x
+get_or-replicate : (n v x : ℕ) → get_or (replicate n x) v x ≡ x
+get_or-replicate zero v x = refl
+get_or-replicate (suc n) zero x = refl
+get_or-replicate (suc n) (suc v) x = get_or-replicate n v x
 
 unknown-unset : (v : ℕ) → get_or unknown v unset ≡ unset
 unfolding unknown
-unknown-unset v = get_d_replicate variables v unset
+unknown-unset v = get_or-replicate variables v unset
 
 pub unknown-length : length unknown ≡ variables
 unfolding unknown

@@ -2,7 +2,8 @@
 use mathlib.Core.Path.{refl}
 use Rattle.system.specs.BuiltIns.{is_literal, is_built_in, is_binary, is_unary, built_in_arity, smaller}
 use Rattle.system.specs.Signature.{is_symbol, arity}
-use Rattle.reader.specs.Parser.{read, read_system, read_rules, read_end, read_rule, read_side, read_words, read_strategy, number, word, learn, side_fault, symbol_fault, variable_fault, outside, each, times}
+use Rattle.reader.specs.Parser.{read, read_system, read_rules, read_end, read_rule, read_side, read_words, read_strategy, number, word, learn, side_fault, symbol_fault, variable_fault}
+use Rattle.reader.specs.Parser.{outside, each, times}
 use Rattle.reader.specs.Cases.{Hold, book_b}
 use Rattle.system.specs.FirstFailing.{first_failing}
 use Rattle.termination.specs.Weights.{built_in_weight, word_weight, weight}

@@ -23,7 +23,8 @@ returns-then-first-ne-TAKEN c =
     let t = c.test-test in
     let e = c.expand_scanned-first.ensures in
     let b = a.book.now in
-    let none = second_none b a.term.now (unrecorded a.limit) a.out.now a.work.now (expanded (goal.at.returns-then-first-ne-TAKEN c).After-struct_known-1) e a.again.now a.spare.now c.if-first-ne-TAKEN.true in
+    let none = second_none b a.term.now (unrecorded a.limit) a.out.now a.work.now (expanded (goal.at.returns-then-first-ne-TAKEN c).After-struct_known-1)
+    e a.again.now a.spare.now c.if-first-ne-TAKEN.true in
     let found = is_found b a.term.now (unrecorded a.limit) a.out.now a.work.now in
     record {
       tested = t.ensures;
@@ -36,7 +37,8 @@ returns-then-first-ne-TAKEN c =
 pub slice_bounds-expand_scanned-end : goal.slice_bounds-expand_scanned-end
 slice_bounds-expand_scanned-end c =
     let a = c.args in
-    handed-fits a.book.now a.term.now (unrecorded a.limit) a.out.now a.work.now (expanded (goal.at.slice_bounds-expand_scanned-end c).After-struct_known-1) c.expand_scanned-first.ensures c.if-first-ne-TAKEN.false
+    handed-fits a.book.now a.term.now (unrecorded a.limit) a.out.now a.work.now (expanded (goal.at.slice_bounds-expand_scanned-end c).After-struct_known-1)
+    c.expand_scanned-first.ensures c.if-first-ne-TAKEN.false
 
 pub returns : goal.returns
 returns c =

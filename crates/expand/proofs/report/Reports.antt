@@ -100,5 +100,6 @@ work-apart a out work = refl
 
 -- the words of a cue file: the allowance, and the cue
 pub expanded : (book cue out work term : List ℕ) (limit : ℕ) (a : Answer) (out' work' : List ℕ) → term ≡ drop 1 cue → limit ≡ get_or cue 0 0 →
-    answer_and_buffers a out' work' ≡ expansion book term (unrecorded limit) out work → answer_text (answer_and_buffers a out' []) ≡ answer_text (expansion book (drop 1 cue) (unrecorded (get_or cue 0 0)) out work)
+    answer_and_buffers a out' work' ≡ expansion book term (unrecorded limit) out work
+    → answer_text (answer_and_buffers a out' []) ≡ answer_text (expansion book (drop 1 cue) (unrecorded (get_or cue 0 0)) out work)
 expanded book cue out work term limit a out' work' e f g = work-apart a out' work' ∙ rw (← e, ← f) (ap answer_text g)

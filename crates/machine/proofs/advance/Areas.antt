@@ -67,10 +67,10 @@ module _ {g : Signature} {ws : List ℕ} {gap : Gap} {t : List ℕ} (outer : Lis
   held-count =
       let D = drop counts_at ws in
       let e : take (suc level) D ≡ outer ++ c ∷ [] = ap (λ y. take y D) (sym size) ∙ is.counts in
-      sym (get_or-drop counts_at ws level 0) ∙ sym (get_d_front D) ∙ ap (λ y. get_or y level 0) e ∙ get_or_at outer c [] 0 level levels
+      sym (get_or-drop counts_at ws level 0) ∙ sym (get_or-front D) ∙ ap (λ y. get_or y level 0) e ∙ get_or_at outer c [] 0 level levels
     where
-      get_d_front : (l : List ℕ) → get_or (take (suc level) l) level 0 ≡ get_or l level 0
-      get_d_front l = get_or-take (suc level) l level 0 (omega arith)
+      get_or-front : (l : List ℕ) → get_or (take (suc level) l) level 0 ≡ get_or l level 0
+      get_or-front l = get_or-take (suc level) l level 0 (omega arith)
 
   -- another count for the innermost level
   pub count_set : (v : ℕ) → level < term_words → Stands g (set ws (counts_at + level) v) gap t (outer ++ v ∷ [])

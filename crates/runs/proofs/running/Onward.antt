@@ -28,13 +28,13 @@ use Rattle.machine.proofs.advance.States.{valid-fire, valid-first, valid-within}
 use Rattle.steps.specs.steps.Raised.{way_in}
 use Rattle.steps.specs.steps.Stepped.{here, subterm_here, Stepped, done, long, Steps}
 use Rattle.steps.proofs.steps.Kept.{way_same}
-use Rattle.records.specs.recording.Kept.{met, paired, kept}
+use Rattle.records.specs.recording.Kept.{met, paired}
 use Rattle.records.proofs.Records.{kept_next}
 use Rattle.runs.specs.declared.running.Reached.{Reached}
 use Rattle.runs.proofs.running.Running.{limits, steps_left, Earlier, goal, Running, positions-kept}
 use Rattle.runs.proofs.running.Rounds.{Round, Answers, there, told, formed, so_far, few, keeps, Before}
 use Rattle.runs.proofs.running.Moved.{tracks-kept}
-use Rattle.runs.proofs.running.Steps.{s, b, t, level, outer, c, p, x, r, valid, place, after, after_is, stops, stepping}
+use Rattle.runs.proofs.running.Steps.{s, b, t, outer, c, p, x, r, valid, place, after, after_is, stops, stepping}
 
 -- a pair leaves the record as long as it was
 paired-length : (b : Bool) (words : List ℕ) (k at number : ℕ) → length (paired b words k at number) ≡ length words

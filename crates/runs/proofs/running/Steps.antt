@@ -18,7 +18,6 @@ use Rattle.rewriting.specs.Machine.{position, ready}
 use Rattle.rewriting.specs.Runs.{Came, barred, waits, before, fitting, come, run}
 use Rattle.rewriting.proofs.Runs.{before-spent, before-full, before-free, fitting-long, fitting-goes, come-waits, come-steps}
 use Rattle.machine.specs.advance.Area.{outer_in, count_in, Valid}
-use Rattle.machine.proofs.advance.Areas.{holds}
 use Rattle.machine.proofs.advance.Bounds.{spot}
 use Rattle.steps.specs.steps.Stepped.{here, stepped}
 use Rattle.records.specs.recording.Kept.{met}

@@ -15,7 +15,8 @@ within low h = leb low h && ltb h (low + window_words)
 unfoldable pub windowed : Signature → Sorts → ℕ → List ℕ → List ℕ → Bool
 windowed g ks low [] es = true
 windowed g ks low (w ∷ ws) [] = true
-windowed g ks low (w ∷ ws) (e ∷ es) = (not (within low (length es)) || eqb (result_sort g ks w) e) && windowed g ks low ws (argument_sorts g ks w ++ es)
+windowed g ks low (w ∷ ws) (e ∷ es) =
+    (not (within low (length es)) || eqb (result_sort g ks w) e) && windowed g ks low ws (argument_sorts g ks w ++ es)
 
 -- the window before and after a sort was put at a height
 pub record Placed (low at e : ℕ) (before after : List ℕ) : Type 0 where

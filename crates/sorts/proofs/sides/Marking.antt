@@ -21,10 +21,10 @@ pub record Marking (g : Signature) (ws : List ℕ) (j : ℕ) (marks : List ℕ) 
   pub word : (i : ℕ) → i < j → Mark g (get_or ws i 0) (get_or marks (2 * i) 0) (get_or marks (2 * i + 1) 0)
   pub end : (i : ℕ) → j ≤ i → i < side_words → get_or marks (2 * i + 1) 0 ≡ 65535
 
-get_d_replicate : (n i x : ℕ) → i < n → get_or (replicate n x) i 0 ≡ x
-get_d_replicate zero i x h = absurd (not-suc-le-zero h)
-get_d_replicate (suc n) zero x h = refl
-get_d_replicate (suc n) (suc i) x h = get_d_replicate n i x (omega arith)
+get_or-replicate : (n i x : ℕ) → i < n → get_or (replicate n x) i 0 ≡ x
+get_or-replicate zero i x h = absurd (not-suc-le-zero h)
+get_or-replicate (suc n) zero x h = refl
+get_or-replicate (suc n) (suc i) x h = get_or-replicate n i x (omega arith)
 
 offset-most : (g : Signature) (w : ℕ) → offset g w ≤ entries g
 unfolding offset
@@ -41,7 +41,7 @@ module _ (g : Signature) (ws : List ℕ) where
     inside = omega arith;
     size = ap length e;
     word = λ i l. absurd (not-suc-le-zero l);
-    end = λ i l m. ap (λ x. get_or x (2 * i + 1) 0) e ∙ get_d_replicate (2 * side_words) (2 * i + 1) 65535 (omega arith);
+    end = λ i l m. ap (λ x. get_or x (2 * i + 1) 0) e ∙ get_or-replicate (2 * side_words) (2 * i + 1) 65535 (omega arith);
   }
 
   module _ {j : ℕ} {marks : List ℕ} (so : Marking g ws j marks) where

@@ -50,7 +50,8 @@ check_call-c-requires c = c.requires
 pub returns-then-c-ne-TAKEN : goal.returns-then-c-ne-TAKEN
 returns-then-c-ne-TAKEN c =
     let a = c.args in
-    let bad : (checked a.book.now a.term.now a.out.now a.work.now).number ≡ 0 → ⊥ = λ z. c.if-c-ne-TAKEN.true (ap (λ y. y.number) (first (goal.at.returns-then-c-ne-TAKEN c).After-check_call-c) ∙ z) in record {
+    let bad : (checked a.book.now a.term.now a.out.now a.work.now).number ≡ 0 → ⊥ = λ z.
+    c.if-c-ne-TAKEN.true (ap (λ y. y.number) (first (goal.at.returns-then-c-ne-TAKEN c).After-check_call-c) ∙ z) in record {
       expanded = ap (λ y. answer_and_buffers y a.out.now a.work.now) (first (goal.at.returns-then-c-ne-TAKEN c).After-check_call-c) ∙ sym (refuses a.book.now a.term.now a.out.now a.work.now _ bad);
       told = lent-refused a.bounds.recorded a.book.now a.term.now (limits (goal.at.returns-then-c-ne-TAKEN c).Start) a.out.now a.work.now a.«record».now bad;
     }

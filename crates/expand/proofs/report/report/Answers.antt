@@ -49,8 +49,12 @@ returns-then-cue-lt2 c =
     (omega (arith, c.if-cue-lt2.true)) c.put_line.ensures
 
 pub expand_files-requires : goal.expand_files-requires
-expand_files-requires c =
-    ((book (goal.at.expand_files-requires c).Else-b-ne0).small, omega (arith, c.if-cue-lt2.false), (cue (goal.at.expand_files-requires c).Else-c-ne0).small, rw ((cue (goal.at.expand_files-requires c).Else-c-ne0).same, (book (goal.at.expand_files-requires c).Else-b-ne0).same) c.if-text-lt-TEXT_BYTES.false)
+expand_files-requires c = (
+  (book (goal.at.expand_files-requires c).Else-b-ne0).small,
+  omega (arith, c.if-cue-lt2.false),
+  (cue (goal.at.expand_files-requires c).Else-c-ne0).small,
+  rw ((cue (goal.at.expand_files-requires c).Else-c-ne0).same, (book (goal.at.expand_files-requires c).Else-b-ne0).same) c.if-text-lt-TEXT_BYTES.false,
+)
 
 pub returns : goal.returns
 returns c =

@@ -1,6 +1,5 @@
 -- `refuse` meets its contract.
 use native.Mathlib.Omega.{arith}
-use borrow.Author.Tests.{not-true, not-false}
 use Rattle.printing.proofs.Writing.{written-nothing}
 use Rattle.files.proofs.checks.Checks.{check-missing, check-long, check-odd, check-holds}
 use Rattle.files.proofs.checks.refuse.Goals as goal

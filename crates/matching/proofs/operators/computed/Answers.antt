@@ -45,19 +45,23 @@ squared-requires c = left (goal.at.squared-requires c).Else-not-is_literal
 
 pub returns-then-f-eq-SQUARE : goal.returns-then-f-eq-SQUARE
 returns-then-f-eq-SQUARE c =
-    puts square_rule (computed-square (words (goal.at.returns-then-f-eq-SQUARE c).After-wide-f) (left (goal.at.returns-then-f-eq-SQUARE c).Else-not-is_literal) (sym c.wide-f.ensures.0 ∙ c.if-f-eq-SQUARE.true)) c.squared.ensures
+    puts square_rule (computed-square (words (goal.at.returns-then-f-eq-SQUARE c).After-wide-f) (left (goal.at.returns-then-f-eq-SQUARE c).Else-not-is_literal)
+    (sym c.wide-f.ensures.0 ∙ c.if-f-eq-SQUARE.true)) c.squared.ensures
 
 pub returns-then-not-is_literal-2 : goal.returns-then-not-is_literal-2
 returns-then-not-is_literal-2 c =
-    nothing (computed-second (words (goal.at.returns-then-not-is_literal-2 c).After-wide-f) (other (goal.at.returns-then-not-is_literal-2 c).Else-f-eq-SQUARE) (sym c.is_literal-2.ensures ∙ c.if-not-is_literal-2.true))
+    nothing (computed-second (words (goal.at.returns-then-not-is_literal-2 c).After-wide-f) (other (goal.at.returns-then-not-is_literal-2 c).Else-f-eq-SQUARE)
+    (sym c.is_literal-2.ensures ∙ c.if-not-is_literal-2.true))
 
 pub returns-then-f-eq-MAXIMUM : goal.returns-then-f-eq-MAXIMUM
 returns-then-f-eq-MAXIMUM c =
-    puts maximum_rule (computed-maximum (words (goal.at.returns-then-f-eq-MAXIMUM c).After-wide-f) (left (goal.at.returns-then-f-eq-MAXIMUM c).Else-not-is_literal) (right (goal.at.returns-then-f-eq-MAXIMUM c).Else-not-is_literal-2) (sym c.wide-f.ensures.0 ∙ c.if-f-eq-MAXIMUM.true)) c.larger.ensures
+    puts maximum_rule (computed-maximum (words (goal.at.returns-then-f-eq-MAXIMUM c).After-wide-f) (left (goal.at.returns-then-f-eq-MAXIMUM c).Else-not-is_literal)
+    (right (goal.at.returns-then-f-eq-MAXIMUM c).Else-not-is_literal-2) (sym c.wide-f.ensures.0 ∙ c.if-f-eq-MAXIMUM.true)) c.larger.ensures
 
 pub returns-then-f-eq-MINIMUM : goal.returns-then-f-eq-MINIMUM
 returns-then-f-eq-MINIMUM c =
-    puts minimum_rule (computed-minimum (words (goal.at.returns-then-f-eq-MINIMUM c).After-wide-f) (left (goal.at.returns-then-f-eq-MINIMUM c).Else-not-is_literal) (right (goal.at.returns-then-f-eq-MINIMUM c).Else-not-is_literal-2) (sym c.wide-f.ensures.0 ∙ c.if-f-eq-MINIMUM.true)) c.smaller.ensures
+    puts minimum_rule (computed-minimum (words (goal.at.returns-then-f-eq-MINIMUM c).After-wide-f) (left (goal.at.returns-then-f-eq-MINIMUM c).Else-not-is_literal)
+    (right (goal.at.returns-then-f-eq-MINIMUM c).Else-not-is_literal-2) (sym c.wide-f.ensures.0 ∙ c.if-f-eq-MINIMUM.true)) c.smaller.ensures
 
 pub returns : goal.returns
 returns c =

@@ -30,7 +30,8 @@ stretch c = c.requires.2.inside (c.wide-w.result - variable)
 pub returns-then-w-lt-VARIABLE : goal.returns-then-w-lt-VARIABLE
 returns-then-w-lt-VARIABLE c =
     let a = c.args in
-    let told = symbol-binds (signature_of a.book.now) a.ws.now c.wide-w.ensures.0 a.q a.starts.now a.lengths.now (took (goal.at.returns-then-w-lt-VARIABLE c).After-consumed-n) c.if-w-lt-VARIABLE.true in
+    let told = symbol-binds (signature_of a.book.now) a.ws.now c.wide-w.ensures.0 a.q a.starts.now a.lengths.now (took (goal.at.returns-then-w-lt-VARIABLE c).After-consumed-n)
+    c.if-w-lt-VARIABLE.true in
     record { taken = told.0; bound = told.1.0; unbound = told.1.1 }
 
 pub returns-then-n-eq0 : goal.returns-then-n-eq0
@@ -42,7 +43,8 @@ returns-then-n-eq0 c =
 pub returns-then-m-eq0 : goal.returns-then-m-eq0
 returns-then-m-eq0 c =
     let a = c.args in
-    let told = new-binds (signature_of a.book.now) a.ws.now c.wide-w.ensures.0 a.q a.starts.now a.lengths.now (took (goal.at.returns-then-m-eq0 c).After-consumed-n) c.if-w-lt-VARIABLE.false c.if-n-eq0.false
+    let told = new-binds (signature_of a.book.now) a.ws.now c.wide-w.ensures.0 a.q a.starts.now a.lengths.now (took (goal.at.returns-then-m-eq0 c).After-consumed-n)
+    c.if-w-lt-VARIABLE.false c.if-n-eq0.false
     c.if-m-eq0.true in
     record { taken = told.0; bound = told.1.0; unbound = told.1.1 }
 
@@ -52,7 +54,8 @@ same_parts-requires c = (stretch (goal.at.same_parts-requires c).After-wide-w, f
 pub returns-then-not-same_parts : goal.returns-then-not-same_parts
 returns-then-not-same_parts c =
     let a = c.args in
-    let told = unlike-binds (signature_of a.book.now) a.ws.now c.wide-w.ensures.0 a.q a.starts.now a.lengths.now (took (goal.at.returns-then-not-same_parts c).After-consumed-n) c.if-w-lt-VARIABLE.false c.if-m-eq0.false
+    let told = unlike-binds (signature_of a.book.now) a.ws.now c.wide-w.ensures.0 a.q a.starts.now a.lengths.now (took (goal.at.returns-then-not-same_parts c).After-consumed-n)
+    c.if-w-lt-VARIABLE.false c.if-m-eq0.false
     c.same_parts.ensures c.if-not-same_parts.true in
     record { taken = told.0; bound = told.1.0; unbound = told.1.1 }
 

@@ -9,7 +9,6 @@ use native.Mathlib.Omega.{arith}
 use Prim.Native.Nat.{◌+◌}
 use Rattle.matching.specs.Bindings.{no_bindings, taken, match_listed, match_of}
 use Rattle.matching.specs.rules.Searches.{stretches}
-use borrow.Author.Rules.{rules}
 use Rattle.matching.proofs.rules.first_rule.Goals as goal
 use Rattle.matching.proofs.rules.first_rule.Goals.{After-bind-n, After-rule_at-r, After-wide, At-rules}
 
@@ -91,7 +90,8 @@ bind-n-requires c =
 
 pub rules-preserved : goal.rules-preserved
 rules-preserved c =
-    given-up (turn (goal.at.rules-preserved c).After-rule_at-r) c.rules.invariant (walk-stops (turn (goal.at.rules-preserved c).After-rule_at-r) c.words.invariant c.words-test.true (sym (took (goal.at.rules-preserved c).After-bind-n) ∙ c.if-n-eq0.true))
+    given-up (turn (goal.at.rules-preserved c).After-rule_at-r) c.rules.invariant
+    (walk-stops (turn (goal.at.rules-preserved c).After-rule_at-r) c.words.invariant c.words-test.true (sym (took (goal.at.rules-preserved c).After-bind-n) ∙ c.if-n-eq0.true))
 
 pub overflow_add-q : goal.overflow_add-q
 overflow_add-q c =
@@ -109,4 +109,5 @@ returns-after-rules c = search-ends c.requires c.rules.invariant c.rules-test.fa
 
 pub returns-after-words : goal.returns-after-words
 returns-after-words c =
-    matches-here (turn (goal.at.returns-after-words c).After-rule_at-r) c.rules.invariant c.words.invariant c.listed-found.ensures c.words-test.false ∙ all_listed (goal.at.returns-after-words c).At-rules
+    matches-here (turn (goal.at.returns-after-words c).After-rule_at-r) c.rules.invariant c.words.invariant c.listed-found.ensures c.words-test.false
+    ∙ all_listed (goal.at.returns-after-words c).At-rules

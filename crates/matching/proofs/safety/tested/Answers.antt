@@ -1,4 +1,3 @@
-use borrow.Author.Tests.{not-true, not-false}
 use Rattle.layout.specs.index.Accepted.{StrategyAt}
 use Rattle.matching.proofs.safety.SafetySteps.{test-starts, test-fails, test-passes, test-strategy, goes-passing, goes-failing}
 use native.Mathlib.Omega.{arith}

@@ -4,7 +4,6 @@ use Rattle.system.proofs.words.BookWords.{signature-within}
 use Prim.Native.Nat.{◌<◌}
 use lib.ListN.{length}
 use native.Mathlib.Omega.{arith}
-use borrow.Author.Rules.{rules}
 use Rattle.reader.proofs.scan.scan_book.Goals as goal
 use Rattle.reader.proofs.scan.scan_book.Goals.{Else-s-ne-TAKEN}
 

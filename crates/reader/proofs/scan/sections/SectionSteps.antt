@@ -56,7 +56,8 @@ module _ (ws : List ℕ) (g : Signature) (role : SideRole) (known i : ℕ) where
 
 -- ---- a rule
 
-side-stop : {B : Type 0} (o : Parsed Reading) (on : Reading → ℕ → Parsed B) → ((side_of o).number ≡ 0 → ⊥) → section_of (and_then o on) ≡ record { number = (side_of o).number; place = (side_of o).place }
+side-stop : {B : Type 0} (o : Parsed Reading) (on : Reading → ℕ → Parsed B) → ((side_of o).number ≡ 0 → ⊥)
+    → section_of (and_then o on) ≡ record { number = (side_of o).number; place = (side_of o).place }
 side-stop (ok r i) on n = absurd (n refl)
 side-stop (fault f i) on n = refl
 

@@ -5,9 +5,9 @@ use Rattle.records.proofs.recording.limit_met.Goals as goal
 
 pub returns-then-bounds-k : goal.returns-then-bounds-k
 returns-then-bounds-k c = let a = c.args in record {
-      number = limit-spent a.bounds a.words a.k c.if-bounds-k.true;
-      counted = λ z. absurd (omega arith);
-    }
+  number = limit-spent a.bounds a.words a.k c.if-bounds-k.true;
+  counted = λ z. absurd (omega arith);
+}
 
 pub returns-then-words-k : goal.returns-then-words-k
 returns-then-words-k c =

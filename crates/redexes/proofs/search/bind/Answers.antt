@@ -19,7 +19,7 @@ inside : (c : Else-n-eq0) →
 inside c =
     let g = c.requires.0 in
     let n = words-length g.1.gapped in
-    let z = takes-inside g.0 ((term_in c.args.area.now c.args.spot.gap)) c.args.l c.requires.1 c.args.bindings.now (c.consumed_at-n.ensures g.0 g.1) c.if-n-eq0.false in
+    let z = takes-inside g.0 (term_in c.args.area.now c.args.spot.gap) c.args.l c.requires.1 c.args.bindings.now (c.consumed_at-n.ensures g.0 g.1) c.if-n-eq0.false in
     omega arith
 
 few : (c : After-wide-w) → c.wide-w.result - variable < variables
@@ -34,17 +34,17 @@ pub returns-then-w-lt-VARIABLE : goal.returns-then-w-lt-VARIABLE
 returns-then-w-lt-VARIABLE c =
     let bs = c.args.bindings.now in
     let is = c.wide-w.ensures.0 in record {
-      taken = λ g m. symbol-takes g ((term_in c.args.area.now c.args.spot.gap)) c.args.l c.requires.1 bs (c.consumed_at-n.ensures g m) is c.if-w-lt-VARIABLE.true;
+      taken = λ g m. symbol-takes g (term_in c.args.area.now c.args.spot.gap) c.args.l c.requires.1 bs (c.consumed_at-n.ensures g m) is c.if-w-lt-VARIABLE.true;
       bound = λ d. symbol-bound bs is c.if-w-lt-VARIABLE.true (c.args.q - c.args.spot.at) c.consumed_at-n.result;
       unbound = λ z. refl;
     }
 
 pub returns-then-n-eq0 : goal.returns-then-n-eq0
 returns-then-n-eq0 c = record {
-      taken = λ g m. nothing-takes g ((term_in c.args.area.now c.args.spot.gap)) c.args.l c.requires.1 c.args.bindings.now (c.consumed_at-n.ensures g m) c.if-n-eq0.true;
-      bound = λ d. absurd (d refl);
-      unbound = λ z. refl;
-    }
+  taken = λ g m. nothing-takes g (term_in c.args.area.now c.args.spot.gap) c.args.l c.requires.1 c.args.bindings.now (c.consumed_at-n.ensures g m) c.if-n-eq0.true;
+  bound = λ d. absurd (d refl);
+  unbound = λ z. refl;
+}
 
 pub overflow_add-v : goal.overflow_add-v
 overflow_add-v c = let f = few (goal.at.overflow_add-v c).After-wide-w in omega arith
@@ -85,7 +85,7 @@ returns-then-m-eq0 c =
     let is = c.wide-w.ensures.0 in
     let high = c.if-w-lt-VARIABLE.false in
     let new : get_or bs (variables + (c.wide-w.result - variable)) 0 ≡ 0 = (let e = c.wide-m.ensures.0 in let z = c.if-m-eq0.true in omega arith) in record {
-      taken = λ g m. new-takes g ((term_in c.args.area.now c.args.spot.gap)) c.args.l c.requires.1 bs (c.consumed_at-n.ensures g m) is high (few (goal.at.returns-then-m-eq0 c).After-wide-w) new;
+      taken = λ g m. new-takes g (term_in c.args.area.now c.args.spot.gap) c.args.l c.requires.1 bs (c.consumed_at-n.ensures g m) is high (few (goal.at.returns-then-m-eq0 c).After-wide-w) new;
       bound = λ d. new-bound bs is high (few (goal.at.returns-then-m-eq0 c).After-wide-w) (c.args.q - c.args.spot.at) c.consumed_at-n.result new;
       unbound = λ z. absurd (c.if-n-eq0.false z);
     }
@@ -94,7 +94,8 @@ pub returns-then-m-n : goal.returns-then-m-n
 returns-then-m-n c =
     let o = c.if-m-eq0.false in
     let d = c.if-m-n.true in record {
-      taken = λ g e. length-differs g ((term_in c.args.area.now c.args.spot.gap)) c.args.l c.requires.1 c.args.bindings.now (c.consumed_at-n.ensures g e) c.wide-w.ensures.0 c.if-w-lt-VARIABLE.false (few (goal.at.returns-then-m-n c).After-wide-w)
+      taken = λ g e. length-differs g (term_in c.args.area.now c.args.spot.gap) c.args.l c.requires.1 c.args.bindings.now (c.consumed_at-n.ensures g e)
+          c.wide-w.ensures.0 c.if-w-lt-VARIABLE.false (few (goal.at.returns-then-m-n c).After-wide-w)
           c.wide-m.ensures.0 (λ z. omega arith) c.requires.4 (λ z. omega arith);
       bound = λ d. absurd (d refl);
       unbound = λ z. refl;
@@ -111,7 +112,7 @@ inside' : (c : After-wide) →
 inside' c =
     let g = c.requires.0 in
     let n = words-length g.1.gapped in
-    let z = takes-inside g.0 ((term_in c.args.area.now c.args.spot.gap)) c.args.l c.requires.1 c.args.bindings.now (c.consumed_at-n.ensures g.0 g.1) c.if-n-eq0.false in
+    let z = takes-inside g.0 (term_in c.args.area.now c.args.spot.gap) c.args.l c.requires.1 c.args.bindings.now (c.consumed_at-n.ensures g.0 g.1) c.if-n-eq0.false in
     omega arith
 
 few' : (c : After-wide) → c.wide-w.result - variable < variables
@@ -123,7 +124,7 @@ stretch c =
     let n = words-length c.requires.0.1.gapped in
     let i = inside' c in
     let o = c.requires.1 in
-    let z = stretch-inside c.args.bindings.now c.wide-w.ensures.0 c.if-w-lt-VARIABLE.false (few' c) ((term_in c.args.area.now c.args.spot.gap)) {p = c.args.spot.at} (omega arith) c.requires.4 in
+    let z = stretch-inside c.args.bindings.now c.wide-w.ensures.0 c.if-w-lt-VARIABLE.false (few' c) (term_in c.args.area.now c.args.spot.gap) {p = c.args.spot.at} (omega arith) c.requires.4 in
     let x = c.wide.ensures.0 in
     let y = c.wide-m.ensures.0 in
     omega arith
@@ -140,11 +141,12 @@ same_at-requires c =
 
 pub returns-then-not-same_at : goal.returns-then-not-same_at
 returns-then-not-same_at c = record {
-      taken = λ g e. words-differ g ((term_in c.args.area.now c.args.spot.gap)) c.args.l c.requires.1 c.args.bindings.now (c.consumed_at-n.ensures g e) c.wide-w.ensures.0 c.if-w-lt-VARIABLE.false (few (goal.at.returns-then-not-same_at c).After-wide-w)
-          c.wide-m.ensures.0 c.if-m-eq0.false c.if-m-n.false c.wide.ensures.0 c.same_at.ensures c.if-not-same_at.true;
-      bound = λ d. absurd (d refl);
-      unbound = λ z. refl;
-    }
+  taken = λ g e. words-differ g (term_in c.args.area.now c.args.spot.gap) c.args.l c.requires.1 c.args.bindings.now (c.consumed_at-n.ensures g e)
+      c.wide-w.ensures.0 c.if-w-lt-VARIABLE.false (few (goal.at.returns-then-not-same_at c).After-wide-w)
+      c.wide-m.ensures.0 c.if-m-eq0.false c.if-m-n.false c.wide.ensures.0 c.same_at.ensures c.if-not-same_at.true;
+  bound = λ d. absurd (d refl);
+  unbound = λ z. refl;
+}
 
 pub returns : goal.returns
 returns c =
@@ -152,7 +154,8 @@ returns c =
     let is = c.wide-w.ensures.0 in
     let high = c.if-w-lt-VARIABLE.false in
     let old = c.if-m-eq0.false in record {
-      taken = λ g e. again-takes g ((term_in c.args.area.now c.args.spot.gap)) c.args.l c.requires.1 bs (c.consumed_at-n.ensures g e) is high (few (goal.at.returns c).After-wide-w) c.wide-m.ensures.0 old c.if-m-n.false
+      taken = λ g e. again-takes g (term_in c.args.area.now c.args.spot.gap) c.args.l c.requires.1 bs (c.consumed_at-n.ensures g e) is high (few (goal.at.returns c).After-wide-w)
+          c.wide-m.ensures.0 old c.if-m-n.false
           c.wide.ensures.0 c.same_at.ensures c.if-not-same_at.false;
       bound = λ d. old-bound bs is high (few (goal.at.returns c).After-wide-w) (c.args.q - c.args.spot.at) c.consumed_at-n.result (λ z. old (c.wide-m.ensures.0 ∙ z));
       unbound = λ z. refl;

@@ -22,7 +22,8 @@ returns-then-wide-ge-VARIABLE c g m =
 pub returns-then-l-word_at : goal.returns-then-l-word_at
 returns-then-l-word_at c g m =
     let a = c.args in
-    consumes-differ m a.l a.q (inside (goal.at.returns-then-l-word_at c).Else-words-q) c.word_at.ensures (let is = c.wide.ensures.0 in let h = c.if-wide-ge-VARIABLE.false in omega arith) c.if-l-word_at.true
+    consumes-differ m a.l a.q (inside (goal.at.returns-then-l-word_at c).Else-words-q) c.word_at.ensures (let is = c.wide.ensures.0 in let h = c.if-wide-ge-VARIABLE.false in omega arith)
+    c.if-l-word_at.true
 
 pub returns : goal.returns
 returns c g m =

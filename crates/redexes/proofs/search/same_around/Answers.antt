@@ -53,7 +53,8 @@ both c =
 pub returns-then-word_at : goal.returns-then-word_at
 returns-then-word_at c =
     let b = both (goal.at.returns-then-word_at c).After-word_at-in-loop-i in
-    sym (same-stops (even (goal.at.returns-then-word_at c).Start) c.loop-i.invariant (let n = (long (goal.at.returns-then-word_at c).Start).0 in let h = c.loop-i-test.true in omega arith) (λ e. c.if-word_at.true (b.0 ∙ e ∙ sym b.1)))
+    sym (same-stops (even (goal.at.returns-then-word_at c).Start) c.loop-i.invariant (let n = (long (goal.at.returns-then-word_at c).Start).0 in let h = c.loop-i-test.true in omega arith)
+    (λ e. c.if-word_at.true (b.0 ∙ e ∙ sym b.1)))
 
 pub overflow_add-i : goal.overflow_add-i
 overflow_add-i c = let s = c.requires in let l = s.0.lies in omega arith
@@ -61,7 +62,8 @@ overflow_add-i c = let s = c.requires in let l = s.0.lies in omega arith
 pub loop-i-preserved : goal.loop-i-preserved
 loop-i-preserved c =
     let b = both (goal.at.loop-i-preserved c).After-word_at-in-loop-i in
-    same_next (even (goal.at.loop-i-preserved c).Start) c.loop-i.invariant (let n = (long (goal.at.loop-i-preserved c).Start).0 in let h = c.loop-i-test.true in omega arith) (sym b.0 ∙ c.if-word_at.false ∙ b.1)
+    same_next (even (goal.at.loop-i-preserved c).Start) c.loop-i.invariant (let n = (long (goal.at.loop-i-preserved c).Start).0 in let h = c.loop-i-test.true in omega arith)
+    (sym b.0 ∙ c.if-word_at.false ∙ b.1)
 
 pub returns : goal.returns
 returns c = sym (same_ends (even (goal.at.returns c).Start) c.loop-i.invariant (let l = (long (goal.at.returns c).Start).0 in omega arith))

@@ -42,15 +42,18 @@ said c = λ e. let h = c.goes_before-before.ensures e in omega (arith, c.reduct_
 
 pub returns-then-g-front : goal.returns-then-g-front
 returns-then-g-front c =
-    edge-long c.requires c.goes_before-before.result (said (goal.at.returns-then-g-front c).After-move_gap-g) (at_edge (goal.at.returns-then-g-front c).After-move_gap-g) (omega (arith, c.if-g-front.true, c.reduct_length-k.ensures))
+    edge-long c.requires c.goes_before-before.result (said (goal.at.returns-then-g-front c).After-move_gap-g) (at_edge (goal.at.returns-then-g-front c).After-move_gap-g)
+    (omega (arith, c.if-g-front.true, c.reduct_length-k.ensures))
 
 pub write_reduct-requires : goal.write_reduct-requires
 write_reduct-requires c =
-    edge-writable c.requires (omega (arith, c.if-k-g.true, c.reduct_length-k.ensures)) c.goes_before-before.result (at_edge (goal.at.write_reduct-requires c).After-move_gap-g) c.reduct_length-k.ensures c.place_for-place.ensures
+    edge-writable c.requires (omega (arith, c.if-k-g.true, c.reduct_length-k.ensures)) c.goes_before-before.result (at_edge (goal.at.write_reduct-requires c).After-move_gap-g)
+    c.reduct_length-k.ensures c.place_for-place.ensures
 
 pub returns-then-k-g : goal.returns-then-k-g
 returns-then-k-g c =
-    edge-written c.requires (omega (arith, c.if-k-g.true, c.reduct_length-k.ensures)) c.goes_before-before.result (at_edge (goal.at.returns-then-k-g c).After-move_gap-g) c.reduct_length-k.ensures c.place_for-place.ensures
+    edge-written c.requires (omega (arith, c.if-k-g.true, c.reduct_length-k.ensures)) c.goes_before-before.result (at_edge (goal.at.returns-then-k-g c).After-move_gap-g)
+    c.reduct_length-k.ensures c.place_for-place.ensures
     (omega (arith, c.if-g-front.false, c.reduct_length-k.ensures)) c.write_reduct.ensures
 
 said' : (c : Else-k-g) →

@@ -87,7 +87,8 @@ shape_of-area-then-at-pair c = c.find-f.auto.area
 pub returns-then-at-pair : goal.returns-then-at-pair
 returns-then-at-pair c =
     let a = c.args in
-    let told = follows-measured (wrong (missed (system_of a.book.now) a.pair c.find-f.ensures c.if-at-pair.true) (ap (λ y. y.number) c.outcome.ensures) (bounds (goal.at.returns-then-at-pair c).After-find-f).total) in
+    let told = follows-measured (wrong (missed (system_of a.book.now) a.pair c.find-f.ensures c.if-at-pair.true) (ap (λ y. y.number) c.outcome.ensures)
+    (bounds (goal.at.returns-then-at-pair c).After-find-f).total) in
     record { followed = told.0; measured = told.1 }
 
 pub first_redex-m-requires : goal.first_redex-m-requires

@@ -11,7 +11,7 @@ use Rattle.walks.proofs.walk.Finding.{points-in}
 use Rattle.replay.proofs.retrace.Stepping.{follows-in}
 use Rattle.replay.proofs.retrace.Tracing.{tracing-start, traces-end, traces-half, Turns, turns}
 use Rattle.replay.proofs.retrace.retrace.Goals as goal
-use Rattle.replay.proofs.retrace.retrace.Goals.{After-follow-r, After-wide, At-loop-steps, Else-record-i-lt2}
+use Rattle.replay.proofs.retrace.retrace.Goals.{After-follow-r, At-loop-steps, Else-record-i-lt2}
 
 -- the area has the length that it came with
 same_area : (c : At-loop-steps) → length c.loop-steps.area ≡ length c.args.area.now

@@ -71,8 +71,11 @@ sides c = sides-at c.requires.accepted (inside'' c) (stands' c) c.rule_at-r.ensu
 
 pub put_word-requires : goal.put_word-requires
 put_word-requires c =
-    let e = c.requires in
-    ((signature_of c.args.book.now, stretches_in c.args.bindings.now, word-puttable e (word-is (goal.at.put_word-requires c).Then-m-ge-MAX_RULES)), word-symbol e (word-is (goal.at.put_word-requires c).Then-m-ge-MAX_RULES), word_wide e (word-is (goal.at.put_word-requires c).Then-m-ge-MAX_RULES))
+    let e = c.requires in (
+      (signature_of c.args.book.now, stretches_in c.args.bindings.now, word-puttable e (word-is (goal.at.put_word-requires c).Then-m-ge-MAX_RULES)),
+      word-symbol e (word-is (goal.at.put_word-requires c).Then-m-ge-MAX_RULES),
+      word_wide e (word-is (goal.at.put_word-requires c).Then-m-ge-MAX_RULES),
+    )
 
 pub returns-then-m-ge-MAX_RULES : goal.returns-then-m-ge-MAX_RULES
 returns-then-m-ge-MAX_RULES c =
@@ -111,8 +114,11 @@ slice_bounds-reduct_length-end c = let w = sides (goal.at.slice_bounds-reduct_le
 
 pub reduct_length-kept-requires : goal.reduct_length-kept-requires
 reduct_length-kept-requires c =
-    let e = c.shared_end in
-    (kept-sided c.requires (rule-is (goal.at.reduct_length-kept-requires c).Else-m-ge-MAX_RULES).2 c.rule_at-r.result (sides (goal.at.reduct_length-kept-requires c).After-rule_at-r) e.result e.ensures.1 e.ensures.2, c.requires.many)
+    let e = c.shared_end in (
+      kept-sided c.requires (rule-is (goal.at.reduct_length-kept-requires c).Else-m-ge-MAX_RULES).2 c.rule_at-r.result (sides (goal.at.reduct_length-kept-requires c).After-rule_at-r)
+          e.result e.ensures.1 e.ensures.2,
+      c.requires.many,
+    )
 
 rule-is''' : (c : After-reduct_length-kept) → (rhs : ℕ) × (size : ℕ) × ((found c.requires).rule ≡ First c.args.m.number rhs size)
 rule-is''' c =
@@ -150,10 +156,12 @@ slice_bounds-put_reduct-end c = let w = sides (goal.at.slice_bounds-put_reduct-e
 pub put_reduct-requires : goal.put_reduct-requires
 put_reduct-requires c =
     let e = c.shared_end in
-    listed-puttable c.requires (rule-is (goal.at.put_reduct-requires c).Else-m-ge-MAX_RULES).2 c.rule_at-r.result (sides (goal.at.put_reduct-requires c).After-rule_at-r) e.result e.ensures.1 e.ensures.2 c.reduct_length-kept.result c.reduct_length-kept.ensures
+    listed-puttable c.requires (rule-is (goal.at.put_reduct-requires c).Else-m-ge-MAX_RULES).2 c.rule_at-r.result (sides (goal.at.put_reduct-requires c).After-rule_at-r)
+    e.result e.ensures.1 e.ensures.2 c.reduct_length-kept.result c.reduct_length-kept.ensures
 
 pub returns : goal.returns
 returns c =
     let e = c.shared_end in
-    listed-rewrites c.requires (rule-is (goal.at.returns c).Else-m-ge-MAX_RULES).2 c.rule_at-r.result (sides (goal.at.returns c).After-rule_at-r) e.result e.ensures.1 e.ensures.2 c.reduct_length-kept.result c.reduct_length-kept.ensures
+    listed-rewrites c.requires (rule-is (goal.at.returns c).Else-m-ge-MAX_RULES).2 c.rule_at-r.result (sides (goal.at.returns c).After-rule_at-r)
+    e.result e.ensures.1 e.ensures.2 c.reduct_length-kept.result c.reduct_length-kept.ensures
     _ _ c.put_reduct.ensures

@@ -68,12 +68,14 @@ pub shape_of-area-then-r-ne-TAKEN : goal.shape_of-area-then-r-ne-TAKEN
 shape_of-area-then-r-ne-TAKEN c = same_area (goal.at.shape_of-area-then-r-ne-TAKEN c).After-struct_known-1
 
 pub returns-then-r-ne-TAKEN : goal.returns-then-r-ne-TAKEN
-returns-then-r-ne-TAKEN c = let told = ends-stopped (begun (goal.at.returns-then-r-ne-TAKEN c).After-index-3-1 _ refl refl _) c.run_at-r.result _ _ _ c.run_at-r.ensures (omega arith) c.if-r-ne-TAKEN.true c.outcome.result c.outcome.ensures in
+returns-then-r-ne-TAKEN c = let told = ends-stopped (begun (goal.at.returns-then-r-ne-TAKEN c).After-index-3-1 _ refl refl _) c.run_at-r.result _ _ _ c.run_at-r.ensures (omega arith)
+    c.if-r-ne-TAKEN.true c.outcome.result c.outcome.ensures in
     record { ran = told.0; told = told.1 }
 
 pub shape_of-area : goal.shape_of-area
 shape_of-area c = same_area (goal.at.shape_of-area c).After-struct_known-1
 
 pub returns : goal.returns
-returns c = let told = ends-final (begun (goal.at.returns c).After-index-3-1 _ refl refl _) c.run_at-r.result _ _ _ c.run_at-r.ensures (omega arith) c.if-r-ne-TAKEN.false c.outcome-2.result c.outcome-2.ensures in
+returns c = let told = ends-final (begun (goal.at.returns c).After-index-3-1 _ refl refl _) c.run_at-r.result _ _ _ c.run_at-r.ensures (omega arith)
+    c.if-r-ne-TAKEN.false c.outcome-2.result c.outcome-2.ensures in
     record { ran = told.0; told = told.1 }

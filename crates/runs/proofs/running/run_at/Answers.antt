@@ -1,187 +1,17 @@
+mod Places
 use native.Mathlib.Omega.{arith}
-use mathlib.Core.Path.{◌≡◌, sym, ap, ◌∙◌, subst}
+use mathlib.Core.Path.{ap, ◌∙◌, subst}
 use lib.ListN.{length}
-use Rattle.reader.specs.Book.{system_of}
-use Rattle.machine.specs.advance.Arrivals.{Advances}
-use Rattle.machine.proofs.advance.Areas.{tracks-base, tracks-first}
-use Rattle.records.specs.recording.Kept.{limits_of, met, paired}
+use Rattle.machine.proofs.advance.Areas.{tracks-first}
+use Rattle.records.specs.recording.Kept.{paired}
 use Rattle.records.proofs.Limiting.{pair_fits}
-use Rattle.runs.proofs.running.Running.{limits, running-start}
-use Rattle.runs.proofs.running.Rounds.{Round, ends-final, ends-deep, Before, comes-before}
+use Rattle.runs.proofs.running.Running.{running-start}
+use Rattle.runs.proofs.running.Rounds.{ends-final, ends-deep}
 use Rattle.runs.proofs.running.Steps.{before-room, stops-met, room-left, waits_there, long-there}
-use Rattle.runs.proofs.running.Onward.{Goes, goes, number_fits}
+use Rattle.runs.proofs.running.Onward.{Goes, number_fits}
 use Rattle.runs.proofs.running.run_at.Goals as goal
 use Rattle.runs.proofs.running.run_at.Goals.{After-advance-a, In-Ready, After-limit_met-met, After-step-r, Else-met-ne-TAKEN}
-
--- the round, read once
-abbrev round : After-advance-a → Round
-round c =
-    let l = c.loop-met in
-    let d = c.advance-a in
-    record {
-      book = c.args.book.now;
-      index = c.args.index.now;
-      a = record { from = c.args.from; ws = c.args.area.now; frame = c.args.frame.now; words = c.args.«record».now };
-      asked = c.requires;
-      ws = l.area;
-      positions = l.frame;
-      words = l.«record»;
-      gap = l.gap;
-      level = l.level;
-      steps = l.steps;
-      running = l.invariant;
-      d = d.result;
-      ws' = d.new.area;
-      positions' = d.new.frame;
-      came = subst (λ b. Advances (system_of c.args.book.now) (record { gap = l.gap; level = l.level }) b l.area d.result d.new.area d.new.frame)
-          (tracks-base l.invariant.holds) d.ensures.advanced;
-    }
-
--- the area, the frame and the record have the lengths that they came with
-same_area : (c : After-advance-a) → length c.advance-a.new.area ≡ length c.args.area.now
-same_area c =
-    c.advance-a.auto.area ∙ c.loop-met.invariant.holds.represents.total ∙ sym c.requires.tracks.represents.total
-
-same-frame : (c : After-advance-a) → length c.advance-a.new.frame ≡ length c.args.frame.now
-same-frame c =
-    c.advance-a.auto.frame ∙ c.loop-met.invariant.holds.slots ∙ sym c.requires.tracks.slots
-
-same-record : (c : After-advance-a) → length c.loop-met.«record» ≡ length c.args.«record».now
-same-record c = c.loop-met.invariant.room
-
-abbrev round' : In-Ready → Round
-round' c =
-    let l = c.loop-met in
-    let d = c.advance-a in
-    record {
-      book = c.args.book.now;
-      index = c.args.index.now;
-      a = record { from = c.args.from; ws = c.args.area.now; frame = c.args.frame.now; words = c.args.«record».now };
-      asked = c.requires;
-      ws = l.area;
-      positions = l.frame;
-      words = l.«record»;
-      gap = l.gap;
-      level = l.level;
-      steps = l.steps;
-      running = l.invariant;
-      d = d.result;
-      ws' = d.new.area;
-      positions' = d.new.frame;
-      came = subst (λ b. Advances (system_of c.args.book.now) (record { gap = l.gap; level = l.level }) b l.area d.result d.new.area d.new.frame)
-          (tracks-base l.invariant.holds) d.ensures.advanced;
-    }
-
-before : (c : In-Ready) → Before (round' c)
-before c = comes-before (round' c) c.in-Ready.is
-
-abbrev round'' : After-limit_met-met → Round
-round'' c =
-    let l = c.loop-met in
-    let d = c.advance-a in
-    record {
-      book = c.args.book.now;
-      index = c.args.index.now;
-      a = record { from = c.args.from; ws = c.args.area.now; frame = c.args.frame.now; words = c.args.«record».now };
-      asked = c.requires;
-      ws = l.area;
-      positions = l.frame;
-      words = l.«record»;
-      gap = l.gap;
-      level = l.level;
-      steps = l.steps;
-      running = l.invariant;
-      d = d.result;
-      ws' = d.new.area;
-      positions' = d.new.frame;
-      came = subst (λ b. Advances (system_of c.args.book.now) (record { gap = l.gap; level = l.level }) b l.area d.result d.new.area d.new.frame)
-          (tracks-base l.invariant.holds) d.ensures.advanced;
-    }
-
-same-record' : (c : After-limit_met-met) → length c.loop-met.«record» ≡ length c.args.«record».now
-same-record' c = c.loop-met.invariant.room
-
--- whether a limit is met
-asked : (c : After-limit_met-met) → let k = round'' c in c.limit_met-met.result ≡ met (limits k.a) k.steps
-asked c =
-    let k = round'' c in
-    c.limit_met-met.ensures.number ∙ ap (λ n. met (limits_of k.a.from.bounds n) k.steps) (same-record' c)
-
-abbrev round''' : Else-met-ne-TAKEN → Round
-round''' c =
-    let l = c.loop-met in
-    let d = c.advance-a in
-    record {
-      book = c.args.book.now;
-      index = c.args.index.now;
-      a = record { from = c.args.from; ws = c.args.area.now; frame = c.args.frame.now; words = c.args.«record».now };
-      asked = c.requires;
-      ws = l.area;
-      positions = l.frame;
-      words = l.«record»;
-      gap = l.gap;
-      level = l.level;
-      steps = l.steps;
-      running = l.invariant;
-      d = d.result;
-      ws' = d.new.area;
-      positions' = d.new.frame;
-      came = subst (λ b. Advances (system_of c.args.book.now) (record { gap = l.gap; level = l.level }) b l.area d.result d.new.area d.new.frame)
-          (tracks-base l.invariant.holds) d.ensures.advanced;
-    }
-
-same-record'' : (c : Else-met-ne-TAKEN) → length c.loop-met.«record» ≡ length c.args.«record».now
-same-record'' c = c.loop-met.invariant.room
-
-asked' : (c : Else-met-ne-TAKEN) → let k = round''' c in c.limit_met-met.result ≡ met (limits k.a) k.steps
-asked' c =
-    let k = round''' c in
-    c.limit_met-met.ensures.number ∙ ap (λ n. met (limits_of k.a.from.bounds n) k.steps) (same-record'' c)
-
-free : (c : Else-met-ne-TAKEN) → let k = round''' c in met (limits k.a) k.steps ≡ 0
-free c = sym (asked' c) ∙ c.if-met-ne-TAKEN.false
-
-abbrev round'''' : After-step-r → Round
-round'''' c =
-    let l = c.loop-met in
-    let d = c.advance-a in
-    record {
-      book = c.args.book.now;
-      index = c.args.index.now;
-      a = record { from = c.args.from; ws = c.args.area.now; frame = c.args.frame.now; words = c.args.«record».now };
-      asked = c.requires;
-      ws = l.area;
-      positions = l.frame;
-      words = l.«record»;
-      gap = l.gap;
-      level = l.level;
-      steps = l.steps;
-      running = l.invariant;
-      d = d.result;
-      ws' = d.new.area;
-      positions' = d.new.frame;
-      came = subst (λ b. Advances (system_of c.args.book.now) (record { gap = l.gap; level = l.level }) b l.area d.result d.new.area d.new.frame)
-          (tracks-base l.invariant.holds) d.ensures.advanced;
-    }
-
-before' : (c : After-step-r) → Before (round'''' c)
-before' c = comes-before (round'''' c) c.in-Ready.is
-
-same-record''' : (c : After-step-r) → length c.loop-met.«record» ≡ length c.args.«record».now
-same-record''' c = c.loop-met.invariant.room
-
-asked'' : (c : After-step-r) → let k = round'''' c in c.limit_met-met.result ≡ met (limits k.a) k.steps
-asked'' c =
-    let k = round'''' c in
-    c.limit_met-met.ensures.number ∙ ap (λ n. met (limits_of k.a.from.bounds n) k.steps) (same-record''' c)
-
-free' : (c : After-step-r) → let k = round'''' c in met (limits k.a) k.steps ≡ 0
-free' c = sym (asked'' c) ∙ c.if-met-ne-TAKEN.false
-
--- a step was taken
-stepped : (c : After-step-r) → let k = round'''' c in Goes k c.step-r.new.area c.step-r.result.gap c.step-r.result.long
-stepped c =
-    goes (round'''' c) (before' c) (free' c) c.if-from-steps.false c.step-r.result _ c.step-r.ensures.stepped
+use Rattle.runs.proofs.running.run_at.Answers.Places.{round, same_area, same-frame, same-record, before, asked, free, stepped}
 
 -- ---- the goals
 
@@ -228,7 +58,8 @@ shape_of-record-then-met-ne-TAKEN c = same-record (goal.at.shape_of-record-then-
 
 pub returns-then-met-ne-TAKEN : goal.returns-then-met-ne-TAKEN
 returns-then-met-ne-TAKEN c =
-    stops-met (round (goal.at.returns-then-met-ne-TAKEN c).After-advance-a) (before (goal.at.returns-then-met-ne-TAKEN c).In-Ready) c.limit_met-met.result c.if-met-ne-TAKEN.true (asked (goal.at.returns-then-met-ne-TAKEN c).After-limit_met-met) c.came-then-met-ne-TAKEN.result c.came-then-met-ne-TAKEN.ensures
+    stops-met (round (goal.at.returns-then-met-ne-TAKEN c).After-advance-a) (before (goal.at.returns-then-met-ne-TAKEN c).In-Ready)
+    c.limit_met-met.result c.if-met-ne-TAKEN.true (asked (goal.at.returns-then-met-ne-TAKEN c).After-limit_met-met) c.came-then-met-ne-TAKEN.result c.came-then-met-ne-TAKEN.ensures
 
 pub overflow_sub-steps : goal.overflow_sub-steps
 overflow_sub-steps c = let z = c.loop-met.invariant.since in omega arith
@@ -249,7 +80,8 @@ pub returns-then-size_after-gt-TERM_WORDS : goal.returns-then-size_after-gt-TERM
 returns-then-size_after-gt-TERM_WORDS c =
     let b = before (goal.at.returns-then-size_after-gt-TERM_WORDS c).In-Ready in
     let size = c.size_after.ensures b.steppable.x b.steppable.contracts in
-    long-there (round (goal.at.returns-then-size_after-gt-TERM_WORDS c).After-advance-a) b (free (goal.at.returns-then-size_after-gt-TERM_WORDS c).Else-met-ne-TAKEN) c.if-from-steps.true (omega (arith, size, c.if-size_after-gt-TERM_WORDS.true)) c.came-then-size_after-gt-TERM_WORDS.result c.came-then-size_after-gt-TERM_WORDS.ensures
+    long-there (round (goal.at.returns-then-size_after-gt-TERM_WORDS c).After-advance-a) b (free (goal.at.returns-then-size_after-gt-TERM_WORDS c).Else-met-ne-TAKEN)
+    c.if-from-steps.true (omega (arith, size, c.if-size_after-gt-TERM_WORDS.true)) c.came-then-size_after-gt-TERM_WORDS.result c.came-then-size_after-gt-TERM_WORDS.ensures
 
 pub shape_of-area-then-from-steps : goal.shape_of-area-then-from-steps
 shape_of-area-then-from-steps c = same_area (goal.at.shape_of-area-then-from-steps c).After-advance-a
@@ -264,10 +96,15 @@ pub returns-then-from-steps : goal.returns-then-from-steps
 returns-then-from-steps c =
     let b = before (goal.at.returns-then-from-steps c).In-Ready in
     let size = c.size_after.ensures b.steppable.x b.steppable.contracts in
-    waits_there (round (goal.at.returns-then-from-steps c).After-advance-a) b (free (goal.at.returns-then-from-steps c).Else-met-ne-TAKEN) c.if-from-steps.true (omega (arith, size, c.if-size_after-gt-TERM_WORDS.false)) c.came-then-from-steps.result c.came-then-from-steps.ensures
+    waits_there (round (goal.at.returns-then-from-steps c).After-advance-a) b (free (goal.at.returns-then-from-steps c).Else-met-ne-TAKEN)
+    c.if-from-steps.true (omega (arith, size, c.if-size_after-gt-TERM_WORDS.false)) c.came-then-from-steps.result c.came-then-from-steps.ensures
 
 pub bounds-frame-level : goal.bounds-frame-level
-bounds-frame-level c = omega (arith, before-room (round (goal.at.bounds-frame-level c).After-advance-a) (before (goal.at.bounds-frame-level c).In-Ready), (before (goal.at.bounds-frame-level c).In-Ready).tracks.slots)
+bounds-frame-level c = omega (
+  arith,
+  before-room (round (goal.at.bounds-frame-level c).After-advance-a) (before (goal.at.bounds-frame-level c).In-Ready),
+  (before (goal.at.bounds-frame-level c).In-Ready).tracks.slots,
+)
 
 pub step-r-requires : goal.step-r-requires
 step-r-requires c = (before (goal.at.step-r-requires c).In-Ready).steppable

@@ -60,7 +60,8 @@ pub stretch_at-from-requires : goal.stretch_at-from-requires
 stretch_at-from-requires c = let q = c.requires in (q.passable.based, q.passable.later, c.wide.ensures.1)
 
 pub bounds-bindings-v-else-v-lt-VARIABLE : goal.bounds-bindings-v-else-v-lt-VARIABLE
-bounds-bindings-v-else-v-lt-VARIABLE c = let k = known (goal.at.bounds-bindings-v-else-v-lt-VARIABLE c).Else-v-lt-VARIABLE in let n = whole (goal.at.bounds-bindings-v-else-v-lt-VARIABLE c).Else-v-lt-VARIABLE in omega arith
+bounds-bindings-v-else-v-lt-VARIABLE c = let k = known (goal.at.bounds-bindings-v-else-v-lt-VARIABLE c).Else-v-lt-VARIABLE in let n
+    = whole (goal.at.bounds-bindings-v-else-v-lt-VARIABLE c).Else-v-lt-VARIABLE in omega arith
 
 abbrev some''' : (c : After-stretch_at-from) → 0 < c.loop-j.j
 some''' c = c.loop-j-test.true
@@ -119,13 +120,15 @@ move_words-requires c =
     let f = fits (goal.at.move_words-requires c).After-wide-n in
     let t = lengthening-total q v in
     let l = v.left.left in (
-      lengths-within q v (some (goal.at.move_words-requires c).After-wide-v) c.wide-v.result c.wide-v.ensures.0 c.if-v-lt-VARIABLE.false (from_is (goal.at.move_words-requires c).After-stretch_at-from) (long-is (goal.at.move_words-requires c).After-wide-n),
+      lengths-within q v (some (goal.at.move_words-requires c).After-wide-v) c.wide-v.result c.wide-v.ensures.0
+          c.if-v-lt-VARIABLE.false (from_is (goal.at.move_words-requires c).After-stretch_at-from) (long-is (goal.at.move_words-requires c).After-wide-n),
       omega (arith, q.passable.area, q.passable.high),
     )
 
 pub loop-j-preserved : goal.loop-j-preserved
 loop-j-preserved c =
-    lengths-variable c.requires c.loop-j.invariant (some (goal.at.loop-j-preserved c).After-wide-v) c.wide-v.result c.wide-v.ensures.0 c.if-v-lt-VARIABLE.false (from_is (goal.at.loop-j-preserved c).After-stretch_at-from) (long-is (goal.at.loop-j-preserved c).After-wide-n)
+    lengths-variable c.requires c.loop-j.invariant (some (goal.at.loop-j-preserved c).After-wide-v)
+    c.wide-v.result c.wide-v.ensures.0 c.if-v-lt-VARIABLE.false (from_is (goal.at.loop-j-preserved c).After-stretch_at-from) (long-is (goal.at.loop-j-preserved c).After-wide-n)
     c.move_words.ensures
 
 pub shape_of-area : goal.shape_of-area

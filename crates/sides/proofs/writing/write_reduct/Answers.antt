@@ -34,7 +34,8 @@ push-to-requires c =
 
 pub loop-j-preserved-then-v-lt-VARIABLE : goal.loop-j-preserved-then-v-lt-VARIABLE
 loop-j-preserved-then-v-lt-VARIABLE c =
-    writes-symbol c.requires c.loop-j.invariant (some (goal.at.loop-j-preserved-then-v-lt-VARIABLE c).After-wide-v) (small (goal.at.loop-j-preserved-then-v-lt-VARIABLE c).Then-v-lt-VARIABLE) c.push-to.ensures
+    writes-symbol c.requires c.loop-j.invariant (some (goal.at.loop-j-preserved-then-v-lt-VARIABLE c).After-wide-v) (small (goal.at.loop-j-preserved-then-v-lt-VARIABLE c).Then-v-lt-VARIABLE)
+    c.push-to.ensures
 
 abbrev some' : (c : Else-v-lt-VARIABLE) → 0 < c.loop-j.j
 some' c = c.loop-j-test.true
@@ -54,7 +55,8 @@ pub stretch_at-from-requires : goal.stretch_at-from-requires
 stretch_at-from-requires c = let q = c.requires in (q.based, q.later, c.wide.ensures.1)
 
 pub bounds-bindings-v-else-v-lt-VARIABLE : goal.bounds-bindings-v-else-v-lt-VARIABLE
-bounds-bindings-v-else-v-lt-VARIABLE c = let k = known (goal.at.bounds-bindings-v-else-v-lt-VARIABLE c).Else-v-lt-VARIABLE in let n = whole (goal.at.bounds-bindings-v-else-v-lt-VARIABLE c).Else-v-lt-VARIABLE in omega arith
+bounds-bindings-v-else-v-lt-VARIABLE c = let k = known (goal.at.bounds-bindings-v-else-v-lt-VARIABLE c).Else-v-lt-VARIABLE in let n
+    = whole (goal.at.bounds-bindings-v-else-v-lt-VARIABLE c).Else-v-lt-VARIABLE in omega arith
 
 abbrev some'' : (c : After-stretch_at-from) → 0 < c.loop-j.j
 some'' c = c.loop-j-test.true
@@ -102,8 +104,10 @@ loop-j-preserved c =
     let w = c.wide-v.result in
     let e = c.wide-v.ensures.0 in
     let l = c.if-v-lt-VARIABLE.false in
-    let k = variable-copyable q v (some (goal.at.loop-j-preserved c).After-wide-v) w e l (from_is (goal.at.loop-j-preserved c).After-stretch_at-from) (long-is (goal.at.loop-j-preserved c).After-wide-n) in
-    writes-variable q v (some (goal.at.loop-j-preserved c).After-wide-v) w e l (from_is (goal.at.loop-j-preserved c).After-stretch_at-from) (long-is (goal.at.loop-j-preserved c).After-wide-n) (c.copy-to.ensures (signature_of c.args.book.now) c.args.gap k)
+    let k = variable-copyable q v (some (goal.at.loop-j-preserved c).After-wide-v) w e l (from_is (goal.at.loop-j-preserved c).After-stretch_at-from)
+    (long-is (goal.at.loop-j-preserved c).After-wide-n) in
+    writes-variable q v (some (goal.at.loop-j-preserved c).After-wide-v) w e l (from_is (goal.at.loop-j-preserved c).After-stretch_at-from)
+    (long-is (goal.at.loop-j-preserved c).After-wide-n) (c.copy-to.ensures (signature_of c.args.book.now) c.args.gap k)
 
 pub shape_of-area : goal.shape_of-area
 shape_of-area c = c.loop-j.invariant.written.total

@@ -1,6 +1,5 @@
 use native.Mathlib.Omega.{arith}
 use borrow.Author.Rules.{rules}
-use borrow.Author.Tests.{not-true, not-false}
 use Rattle.layout.proofs.Books.{room}
 use Rattle.layout.proofs.Seeking.{Sides, sides, seek-starts, seek-ends, seek-fails, seek-passes}
 use Rattle.sort_test.proofs.testing.TestSteps.{passes_at, sides-short, found-sorted, narrow-book}

@@ -31,7 +31,7 @@ returns-then-not-note t c =
       sized = c.note.ensures.sized;
       grows = inl refl;
       ran = loop-clash _ _ _ _ _ _ so c.loop-due-test.true c.if-p-ge-SIDE_WORDS.false c.wide-x.ensures.0 refl c.if-a.false
-            c.listed-e.ensures c.if-a-2.true c.note.result _ c.note.ensures.noted c.if-not-note.true _;
+          c.listed-e.ensures c.if-a-2.true c.note.result _ c.note.ensures.noted c.if-not-note.true _;
     }
 
 pub loop-due-preserved-then-a-2 : goal.loop-due-preserved-then-a-2
@@ -46,7 +46,7 @@ returns-then-listed-e t c =
       sized = so.stands.size;
       grows = inl refl;
       ran = loop-differs _ _ _ _ _ _ so c.loop-due-test.true c.if-p-ge-SIDE_WORDS.false c.wide-x.ensures.0 refl c.if-a.false
-            c.listed-e.ensures c.if-a-2.false c.listed.ensures c.if-listed-e.true _;
+          c.listed-e.ensures c.if-a-2.false c.listed.ensures c.if-listed-e.true _;
     }
 
 pub loop-due-preserved-then-due-eq1 : goal.loop-due-preserved-then-due-eq1
@@ -74,8 +74,8 @@ returns-then-next-eq0 t c =
       sized = c.check-next.ensures.sized;
       grows = inl refl;
       ran = loop-fails _ _ _ _ _ _ so c.loop-due-test.true c.if-p-ge-SIDE_WORDS.false c.wide-x.ensures.0 q (λ z. c.if-a.false (sym q ∙ z))
-            c.listed-e.ensures (λ z. c.if-a-2.false (sym q ∙ z)) c.listed.ensures c.if-listed-e.false
-            c.check-next.result _ c.check-next.ensures.ran c.if-next-eq0.true _;
+          c.listed-e.ensures (λ z. c.if-a-2.false (sym q ∙ z)) c.listed.ensures c.if-listed-e.false
+          c.check-next.result _ c.check-next.ensures.ran c.if-next-eq0.true _;
     }
 
 pub loop-due-smaller : goal.loop-due-smaller

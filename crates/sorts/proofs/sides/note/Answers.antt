@@ -7,9 +7,9 @@ use Rattle.sorts.proofs.sides.note.Goals as goal
 
 pub returns-then-v-ge-VARIABLES : goal.returns-then-v-ge-VARIABLES
 returns-then-v-ge-VARIABLES c = let a = c.args in record {
-      noted = noted-past a.vars.now a.v a.e (let z = c.requires in omega arith);
-      sized = c.requires;
-    }
+  noted = noted-past a.vars.now a.v a.e (let z = c.requires in omega arith);
+  sized = c.requires;
+}
 
 pub returns-then-known-eq-UNSET : goal.returns-then-known-eq-UNSET
 returns-then-known-eq-UNSET c =

@@ -5,11 +5,6 @@ use native.Mathlib.Omega.{arith}
 use mathlib.Core.Path.{◌≡◌, ap, ◌∙◌}
 use Rattle.system.specs.Signature.{signature_of}
 use Rattle.sorts.specs.Sorts.{offset}
-use Rattle.sorts.proofs.sides.offset.Reads as reads
-use Rattle.sorts.proofs.sides.offset.Lts as lts
-use Rattle.system.proofs.words.arity.Reads as arity-reads
-use Rattle.system.proofs.words.symbols.Reads as symbols-reads
-use Rattle.system.proofs.words.wide.Reads as wide-reads
 use Rattle.sorts.proofs.sides.offset.Goals as goal
 
 pub loop-j-init : goal.loop-j-init

@@ -3,11 +3,6 @@ use Prim.Native.Nat.{◌*◌, ◌-◌, ◌≤◌}
 use mathlib.Core.Path.{◌≡◌}
 use Rattle.system.specs.Signature.{signature_of}
 use Rattle.sorts.specs.Sorts.{offset}
-use Rattle.sorts.proofs.sides.offset.Reads as reads
-use Rattle.sorts.proofs.sides.offset.Lts as lts
-use Rattle.system.proofs.words.arity.Reads as arity-reads
-use Rattle.system.proofs.words.symbols.Reads as symbols-reads
-use Rattle.system.proofs.words.wide.Reads as wide-reads
 use Rattle.sorts.proofs.sides.offset.Given as goal
 
 abbrev pub invariant-loop-j : goal.invariant-loop-j

@@ -208,8 +208,12 @@ pub slice_bounds-reduct_length-end : goal.slice_bounds-reduct_length-end
 slice_bounds-reduct_length-end c = let w = sides c in omega (arith, w.right-fits)
 
 pub reduct_length-size-requires : goal.reduct_length-size-requires
-reduct_length-size-requires c =
-    (size-sided (asked (goal.at.reduct_length-size-requires c).After-length_at-width) (rule-is (goal.at.reduct_length-size-requires c).Else-m-ge-MAX_RULES).2 c.rule_at-r.result (sides (goal.at.reduct_length-size-requires c).After-rule_at-r), subst (λ y. length y ≡ binding_words) (bindings (goal.at.reduct_length-size-requires c).After-length_at-width) (asked (goal.at.reduct_length-size-requires c).After-length_at-width).many)
+reduct_length-size-requires c = (
+  size-sided (asked (goal.at.reduct_length-size-requires c).After-length_at-width) (rule-is (goal.at.reduct_length-size-requires c).Else-m-ge-MAX_RULES).2
+      c.rule_at-r.result (sides (goal.at.reduct_length-size-requires c).After-rule_at-r),
+  subst (λ y. length y ≡ binding_words)
+      (bindings (goal.at.reduct_length-size-requires c).After-length_at-width) (asked (goal.at.reduct_length-size-requires c).After-length_at-width).many,
+)
 
 pub overflow_add-result-2 : goal.overflow_add-result-2
 overflow_add-result-2 c =
@@ -217,10 +221,12 @@ overflow_add-result-2 c =
       arith,
       c.words.ensures,
       small (asked (goal.at.overflow_add-result-2 c).After-length_at-width),
-      size-bound (asked (goal.at.overflow_add-result-2 c).After-length_at-width) (rule-is (goal.at.overflow_add-result-2 c).Else-m-ge-MAX_RULES).2 c.rule_at-r.result (sides (goal.at.overflow_add-result-2 c).After-rule_at-r) c.reduct_length-size.result (reduct-is c),
+      size-bound (asked (goal.at.overflow_add-result-2 c).After-length_at-width) (rule-is (goal.at.overflow_add-result-2 c).Else-m-ge-MAX_RULES).2
+          c.rule_at-r.result (sides (goal.at.overflow_add-result-2 c).After-rule_at-r) c.reduct_length-size.result (reduct-is c),
     )
 
 pub returns : goal.returns
 returns c x q =
     ap (λ y. y - c.length_at-width.result + c.reduct_length-size.result) c.words.ensures
-    ∙ size-listed (asked (goal.at.returns c).After-length_at-width) (rule-is (goal.at.returns c).Else-m-ge-MAX_RULES).2 c.rule_at-r.result (sides (goal.at.returns c).After-rule_at-r) c.reduct_length-size.result (reduct-is c) x q
+    ∙ size-listed (asked (goal.at.returns c).After-length_at-width) (rule-is (goal.at.returns c).Else-m-ge-MAX_RULES).2 c.rule_at-r.result (sides (goal.at.returns c).After-rule_at-r)
+    c.reduct_length-size.result (reduct-is c) x q

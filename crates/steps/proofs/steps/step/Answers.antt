@@ -176,7 +176,7 @@ shallow : (c : After-slice_known-4-1) → ((done'' c)).state.level < 64
 shallow c = (step-bounds ((done'' c)).asked).shallow
 
 total : (c : After-slice_known-4-1) → length c.raise.new.area ≡ area_words
-total c = c.raise.ensures.total ∙ c.raise_way.ensures.total ∙ (step-placed ((done'' c))).total
+total c = c.raise.ensures.total ∙ c.raise_way.ensures.total ∙ (step-placed (done'' c)).total
 
 -- ---- the goals
 
@@ -190,10 +190,12 @@ rewrite-r-requires c =
     let a = c.args in
     subst₂ (λ p bs. Reducible a.book.now a.index.now a.area.now a.from.state.gap
     (record { level = a.from.state.level; at = p; width = c.length_at-width.result }) a.m bs)
-    (sym (at-is (goal.at.rewrite-r-requires c).After-wide-at)) (bindings (goal.at.rewrite-r-requires c).After-length_at-width) (step-reducible c.requires c.length_at-width.result (read_is (goal.at.rewrite-r-requires c).After-length_at-width))
+    (sym (at-is (goal.at.rewrite-r-requires c).After-wide-at)) (bindings (goal.at.rewrite-r-requires c).After-length_at-width)
+    (step-reducible c.requires c.length_at-width.result (read_is (goal.at.rewrite-r-requires c).After-length_at-width))
 
 pub returns-then-r : goal.returns-then-r
-returns-then-r c = let told = steps-measured c.requires (step-long c.requires c.length_at-width.result (read_is (goal.at.returns-then-r c).After-length_at-width) (rewrites (goal.at.returns-then-r c).After-rewrite-r) c.if-r.true) in
+returns-then-r c = let told = steps-measured c.requires (step-long c.requires c.length_at-width.result (read_is (goal.at.returns-then-r c).After-length_at-width)
+    (rewrites (goal.at.returns-then-r c).After-rewrite-r) c.if-r.true) in
     record { stepped = told.0; measured = told.1 }
 
 pub words-requires : goal.words-requires

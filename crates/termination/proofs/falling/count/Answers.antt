@@ -28,7 +28,7 @@ bounds-counts-v c =
 pub overflow_add-counts : goal.overflow_add-counts
 overflow_add-counts c =
     let n = numbers c in
-    let z = count_small c.args.words.now c.requires c.loop-j.j c.loop-j.invariant.1 ((c.wide-w.result - variable)) n.1 in
+    let z = count_small c.args.words.now c.requires c.loop-j.j c.loop-j.invariant.1 (c.wide-w.result - variable) n.1 in
     omega arith
 
 pub bounds-counts-v-then-w-ge-VARIABLE : goal.bounds-counts-v-then-w-ge-VARIABLE
@@ -45,9 +45,9 @@ loop-j-preserved c =
           let n = numbered c.requires more is (let l = w.if-w-ge-VARIABLE.true in omega arith) in
           (omega arith, rw w.counts-is (counts-variable ws k more c.loop-j.invariant.1 (c.wide-w.result - variable) n.0 n.1))
       | else-w-ge-VARIABLE w ↦ (
-          omega arith,
-          rw w.counts-is (counts-symbol ws k more c.loop-j.invariant.1 (let l = w.if-w-ge-VARIABLE.false in omega arith)),
-        )
+        omega arith,
+        rw w.counts-is (counts-symbol ws k more c.loop-j.invariant.1 (let l = w.if-w-ge-VARIABLE.false in omega arith)),
+      )
     ]
 
 pub returns : goal.returns

@@ -1,6 +1,5 @@
 use native.Mathlib.Omega.{arith}
 use borrow.Author.Rules.{rules}
-use borrow.Author.Tests.{not-true, not-false}
 use Rattle.layout.proofs.Books.{room}
 use Rattle.layout.proofs.Seeking.{Sides, sides, seek-starts, seek-fails, seek-passes}
 use Rattle.termination.proofs.testing.TestSteps.{falls_at, numbered-left, numbered-right, found-falling, test-rises, test-falls}

@@ -4,7 +4,6 @@ use native.Mathlib.Omega.{arith}
 use lib.ListN.{get_or, get_or-eq_default}
 use Rattle.termination.proofs.Words.{weight-name, weight-builtin}
 use Rattle.termination.proofs.weighing.word_weight.Goals as goal
-use Rattle.termination.proofs.weighing.word_weight.Goals.{Else-f-ge-LITERAL}
 
 pub returns-then-f-ge-LITERAL : goal.returns-then-f-ge-LITERAL
 returns-then-f-ge-LITERAL c =

@@ -8,7 +8,8 @@ use mathlib.Core.Path.{◌≡◌}
 use Rattle.terms.proofs.checking.first_break.Given as goal
 
 abbrev pub invariant-loop-i : goal.invariant-loop-i
-invariant-loop-i l = (l.i ≤ length l.term) × (l.i ≤ term_words) × (l.due ≤ 1 + 65535 * l.i) × (term_fault (signature_of l.book) l.due (drop l.i l.term) l.i ≡ term_fault (signature_of l.book) 1 l.term 0)
+invariant-loop-i l = (l.i ≤ length l.term) × (l.i ≤ term_words) × (l.due ≤ 1 + 65535 * l.i)
+    × (term_fault (signature_of l.book) l.due (drop l.i l.term) l.i ≡ term_fault (signature_of l.book) 1 l.term 0)
 
 abbrev pub decreases-loop-i : goal.decreases-loop-i
 decreases-loop-i l = length l.term - l.i

@@ -6,7 +6,7 @@ use Rattle.walks.proofs.walk.climb.Goals as goal
 use Rattle.walks.proofs.walk.climb.Goals.{At-loop-level}
 
 -- whatever the system is
-bounds : (c : At-loop-level) → Bounds c.args.area.now ((record { gap = c.args.f.gap; level = c.loop-level.level; at = c.loop-level.at }))
+bounds : (c : At-loop-level) → Bounds c.args.area.now (record { gap = c.args.f.gap; level = c.loop-level.level; at = c.loop-level.at })
 bounds c = let p = c.requires.0 in points-bounds p.0 p.1 (c.loop-level.invariant p.0 p.1 p.2)
 
 -- ---- the goals

@@ -7,7 +7,7 @@ use Rattle.walks.proofs.walk.Descending.{Turn, descent-bounds, over-in, descende
 use Rattle.walks.proofs.walk.descend.Goals as goal
 use Rattle.walks.proofs.walk.descend.Goals.{After-stands_in, At-loop-at}
 
-bounds : (c : At-loop-at) → Bounds c.loop-at.area ((record { gap = c.args.f.gap; level = c.loop-at.level; at = c.loop-at.at }))
+bounds : (c : At-loop-at) → Bounds c.loop-at.area (record { gap = c.args.f.gap; level = c.loop-at.level; at = c.loop-at.at })
 bounds c = descent-bounds c.args.book.now c.args.shape c.requires.0 c.loop-at.invariant.0
 
 -- where the argument is known that holds q, and where it is known whether it stands in the strategy

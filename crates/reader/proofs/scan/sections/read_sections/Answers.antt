@@ -68,7 +68,8 @@ read_numbers-a-requires c = let n = c.check-f.ensures.inside c.if-f-ne-TAKEN.fal
 pub returns-then-a-ne-TAKEN : goal.returns-then-a-ne-TAKEN
 returns-then-a-ne-TAKEN c = let ws = c.args.book.now in
     let a = c.read_numbers-a in
-    c.refused-then-a-ne-TAKEN.ensures ∙ sym (scan-refused ws (times c.wide-n.result (number ws range 0 max_arity) 1) (after_arities ws c.wide-n.result) (arities-left (goal.at.returns-then-a-ne-TAKEN c).After-wide-n) a.result
+    c.refused-then-a-ne-TAKEN.ensures ∙ sym (scan-refused ws (times c.wide-n.result (number ws range 0 max_arity) 1) (after_arities ws c.wide-n.result)
+    (arities-left (goal.at.returns-then-a-ne-TAKEN c).After-wide-n) a.result
     (a.ensures.value range refl) c.if-a-ne-TAKEN.true)
 
 pub overflow_add-n : goal.overflow_add-n
@@ -85,7 +86,8 @@ returns-then-c-ne-TAKEN c =
     let ws = c.args.book.now in
     let n = c.wide-n.result in
     let k = c.check-c in
-    c.refused-then-c-ne-TAKEN.ensures ∙ sym (number-bad ws range n n (n + 1) (after_count ws (signature_of ws)) (count_left (goal.at.returns-then-c-ne-TAKEN c).Else-a-ne-TAKEN).0 k.result (k.ensures.value range refl)
+    c.refused-then-c-ne-TAKEN.ensures ∙ sym (number-bad ws range n n (n + 1) (after_count ws (signature_of ws)) (count_left (goal.at.returns-then-c-ne-TAKEN c).Else-a-ne-TAKEN).0
+    k.result (k.ensures.value range refl)
     c.if-c-ne-TAKEN.true)
 
 pub overflow_add-n-2 : goal.overflow_add-n-2
@@ -99,7 +101,8 @@ returns-then-o-ne-TAKEN c =
     let ws = c.args.book.now in
     let n = c.wide-n.result in
     let o = c.read_strategies-o in
-    c.refused-then-o-ne-TAKEN.ensures ∙ sym (scan-refused ws (each (read_strategy ws) (signature_of ws) (n + 2)) (after_strategies ws (signature_of ws)) (strategies-left (goal.at.returns-then-o-ne-TAKEN c).Else-c-ne-TAKEN) o.result o.ensures.value
+    c.refused-then-o-ne-TAKEN.ensures ∙ sym (scan-refused ws (each (read_strategy ws) (signature_of ws) (n + 2)) (after_strategies ws (signature_of ws))
+    (strategies-left (goal.at.returns-then-o-ne-TAKEN c).Else-c-ne-TAKEN) o.result o.ensures.value
     c.if-o-ne-TAKEN.true)
 
 pub read_tail-r-requires : goal.read_tail-r-requires
@@ -109,7 +112,8 @@ pub returns-then-r-ne-TAKEN : goal.returns-then-r-ne-TAKEN
 returns-then-r-ne-TAKEN c = let ws = c.args.book.now in
     let o = c.read_strategies-o.result in
     let t = c.read_tail-r in
-    c.refused-then-r-ne-TAKEN.ensures ∙ sym (scan-refused ws (read_rules ws (signature_of ws) o.place) _ (rules-left (goal.at.returns-then-r-ne-TAKEN c).Else-o-ne-TAKEN).rest t.result t.ensures.value c.if-r-ne-TAKEN.true)
+    c.refused-then-r-ne-TAKEN.ensures ∙ sym (scan-refused ws (read_rules ws (signature_of ws) o.place) _ (rules-left (goal.at.returns-then-r-ne-TAKEN c).Else-o-ne-TAKEN).rest
+    t.result t.ensures.value c.if-r-ne-TAKEN.true)
 
 pub returns : goal.returns
 returns c =

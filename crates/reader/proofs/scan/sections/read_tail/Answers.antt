@@ -51,7 +51,8 @@ pub returns-then-r-ne-TAKEN : goal.returns-then-r-ne-TAKEN
 returns-then-r-ne-TAKEN c = let a = c.args in
     let t = c.read_rules-r in
     record {
-      value = sym (rules-bad a.book.now (signature_of a.book.now) a.at (count (goal.at.returns-then-r-ne-TAKEN c).Else-f-ne-TAKEN) t.result (rules_here (goal.at.returns-then-r-ne-TAKEN c).After-read_rules-r) c.if-r-ne-TAKEN.true);
+      value = sym (rules-bad a.book.now (signature_of a.book.now) a.at (count (goal.at.returns-then-r-ne-TAKEN c).Else-f-ne-TAKEN)
+          t.result (rules_here (goal.at.returns-then-r-ne-TAKEN c).After-read_rules-r) c.if-r-ne-TAKEN.true);
       within = t.ensures.within;
     }
 
@@ -60,7 +61,8 @@ returns-then-r-book c =
     let a = c.args in
     let t = c.read_rules-r in
     record {
-      value = sym (rules-surplus a.book.now (signature_of a.book.now) a.at (count (goal.at.returns-then-r-book c).Else-f-ne-TAKEN) t.result (rules_here (goal.at.returns-then-r-book c).After-read_rules-r) c.if-r-ne-TAKEN.false c.if-r-book.true);
+      value = sym (rules-surplus a.book.now (signature_of a.book.now) a.at (count (goal.at.returns-then-r-book c).Else-f-ne-TAKEN)
+          t.result (rules_here (goal.at.returns-then-r-book c).After-read_rules-r) c.if-r-ne-TAKEN.false c.if-r-book.true);
       within = t.ensures.within;
     }
 
@@ -69,6 +71,7 @@ returns c =
     let a = c.args in
     let t = c.read_rules-r in
     record {
-      value = sym (rules-end a.book.now (signature_of a.book.now) a.at (count (goal.at.returns c).Else-f-ne-TAKEN) t.result (rules_here (goal.at.returns c).After-read_rules-r) c.if-r-ne-TAKEN.false c.if-r-book.false);
+      value = sym (rules-end a.book.now (signature_of a.book.now) a.at (count (goal.at.returns c).Else-f-ne-TAKEN) t.result (rules_here (goal.at.returns c).After-read_rules-r)
+          c.if-r-ne-TAKEN.false c.if-r-book.false);
       within = t.ensures.within;
     }

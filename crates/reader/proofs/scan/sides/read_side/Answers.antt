@@ -21,9 +21,9 @@ size c = c.check-f.ensures.inside c.if-f-ne-TAKEN.false
 
 pub returns-then-f-ne-TAKEN : goal.returns-then-f-ne-TAKEN
 returns-then-f-ne-TAKEN c = let a = c.args in record {
-      value = sym (side-refused a.book.now (signature_of a.book.now) a.role a.known a.at c.check-f.result (c.check-f.ensures.value range refl) c.if-f-ne-TAKEN.true);
-      within = (omega arith, omega arith);
-    }
+  value = sym (side-refused a.book.now (signature_of a.book.now) a.role a.known a.at c.check-f.result (c.check-f.ensures.value range refl) c.if-f-ne-TAKEN.true);
+  within = (omega arith, omega arith);
+}
 
 pub overflow_add-at : goal.overflow_add-at
 overflow_add-at c = let h = (size c).here in omega arith
