@@ -28,7 +28,7 @@
  *
  *   linked                                                  bytes   needs           red zone
  *   libcue.a                                               29,941   memcpy, memset  used
- *   libcue.a, cue_test_strategies and cue_expand alone     18,741   memcpy, memset  used
+ *   libcue.a, cue_test_strategies and cue_expand alone     18,741   memset          used
  *   libcue_replay.a                                        19,037   memset          used
  *
  * An expansion is lent 8 KB for the answer and 24 KB to work in. The stack that a call takes, read from the compiled archives with everything

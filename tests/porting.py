@@ -53,12 +53,17 @@ def up_to_sse2(archive):
 
 
 def show_alone(archive):
-    """The same of what the linker keeps of an archive for the functions of a show, with --gc-sections."""
+    """The same of what the linker keeps of an archive for the functions of a show, with --gc-sections; and what that needs."""
     with tempfile.TemporaryDirectory() as room:
         out = os.path.join(room, "show")
         roots = [word for name in SHOW for word in ("-u", name)]
         said("ld", "--gc-sections", "--unresolved-symbols=ignore-all", "-e", SHOW[0], *roots, "-o", out, archive)
-        return linked(out)
+        return linked(out), needs(out)
+
+
+def needs(linkable):
+    """The functions of others that it calls."""
+    return ", ".join(sorted(line.split()[-1] for line in said("nm", "-u", linkable) if " U " in line)) or "nothing"
 
 
 def declared(header):
@@ -73,11 +78,11 @@ def tables(header, archives):
     for archive in archives:
         up_to_sse2(archive)
         name, found = os.path.basename(archive), stack.functions(archive)
-        needs = ", ".join(sorted(line.split()[-1] for line in said("nm", "-u", archive) if " U " in line)) or "nothing"
         zone = "used" if stack.in_red_zone(found) else "not used"
-        sizes.append(SIZES.format(name, f"{linked(archive):,}", needs, zone))
+        sizes.append(SIZES.format(name, f"{linked(archive):,}", needs(archive), zone))
         if all(f in found for f in SHOW):
-            sizes.append(SIZES.format(f"{name}, {SHOW[0]} and {SHOW[1]} alone", f"{show_alone(archive):,}", needs, zone))
+            size, asked = show_alone(archive)
+            sizes.append(SIZES.format(f"{name}, {SHOW[0]} and {SHOW[1]} alone", f"{size:,}", asked, zone))
         for f in (f for f in declared(header) if f in found):
             depths.append(STACK.format(f, name, f"{stack.deepest(found, f)[0]:,}"))
     return {SIZES.format("linked", "bytes", "needs", "red zone"): sizes, STACK.format("function", "archive", "stack, bytes"): depths}

@@ -15,7 +15,7 @@ use Rattle.system.specs.Signature.{Signature, Symbol, arity}
 use Rattle.system.specs.System.{Rule, head}
 use Rattle.system.specs.Rules.{BuiltIn, max, min, sqr, maximum_rule, minimum_rule, square_rule}
 use Rattle.system.specs.Terms.{Forest, more, Whole}
-use Rattle.system.proofs.BuiltIns.{literal-is, is-literal, number_of, binary, unary, nullary, operands, arity-two, arity-one, arity-none, clash}
+use Rattle.system.proofs.BuiltIns.{literal-is, is-literal, number_of_lem, binary, unary, nullary, operands, arity-two, arity-one, arity-none, clash}
 use Rattle.system.proofs.BuiltIns.{larger-words, smaller-words, larger-below, smaller-below}
 use Rattle.system.proofs.SquareLaw.{square-below}
 use Rattle.system.proofs.Signatures.{arity-unlisted}
@@ -223,19 +223,19 @@ module _ (g : Signature) (few : length g ≤ literal) where
 
       two : maximum ≤ w → w ≤ minimum → is_literal a ≡ true → is_literal b ≡ true → ws ≡ (literal + (a - literal)) ∷ (literal + (b - literal)) ∷ []
       two l h u v =
-          two-literals (under (arity-unlisted g w (omega arith) ∙ arity-two w l h)) u v ∙ (λ i. (number_of a u).0 i ∷ (number_of b v).0 i ∷ [])
+          two-literals (under (arity-unlisted g w (omega arith) ∙ arity-two w l h)) u v ∙ (λ i. (number_of_lem a u).0 i ∷ (number_of_lem b v).0 i ∷ [])
 
       one : w ≡ square → is_literal a ≡ true → ws ≡ (literal + (a - literal)) ∷ []
-      one q u = one-literal (under (arity-unlisted g w (omega arith) ∙ arity-one w (omega arith) (omega arith))) u ∙ (λ i. (number_of a u).0 i ∷ [])
+      one q u = one-literal (under (arity-unlisted g w (omega arith) ∙ arity-one w (omega arith) (omega arith))) u ∙ (λ i. (number_of_lem a u).0 i ∷ [])
 
       by : {k v : ℕ} {r : Rule} → BuiltIn k r → x ≡ record { number = k; word = v } → v ∷ [] ≡ r.rhs → w ∷ ws ≡ r.lhs → Redex (w ∷ ws) x
       by {r} d e q l =
           record { chosen = r; built = subst (λ y. BuiltIn y.number r) (sym e) d; left = l; right = ap (λ y. y.word ∷ []) e ∙ q }
 
       go : Operates w a b x → Redex (w ∷ ws) x
-      go (by-max q u v e) = by (max (number_of a u).1 (number_of b v).1) e refl (λ i. q i ∷ two (omega arith) (omega arith) u v i)
-      go (by-min q u v e) = by (min (number_of a u).1 (number_of b v).1) e refl (λ i. q i ∷ two (omega arith) (omega arith) u v i)
-      go (by-square q u e) = by (sqr (number_of a u).1) e refl (λ i. q i ∷ one q u i)
+      go (by-max q u v e) = by (max (number_of_lem a u).1 (number_of_lem b v).1) e refl (λ i. q i ∷ two (omega arith) (omega arith) u v i)
+      go (by-min q u v e) = by (min (number_of_lem a u).1 (number_of_lem b v).1) e refl (λ i. q i ∷ two (omega arith) (omega arith) u v i)
+      go (by-square q u e) = by (sqr (number_of_lem a u).1) e refl (λ i. q i ∷ one q u i)
 
   -- what follows the term does not count
   pub computed-rest : {u : List ℕ} (b : List ℕ) → Whole g u → computed (u ++ b) ≡ computed u
@@ -267,6 +267,6 @@ computed-literal ws {x} e = go (operates ws x e)
     word q h = rw (ap (λ y. y.word) q) (omega arith, omega arith)
 
     go : Found ws x → (literal ≤ x.word) × (x.word < literal + literals)
-    go (by-max q u v e) = word e (larger-below _ _ literals (number_of _ u).1 (number_of _ v).1)
-    go (by-min q u v e) = word e (smaller-below _ _ literals (number_of _ u).1 (number_of _ v).1)
-    go (by-square q u e) = word e (square-below _ (number_of _ u).1)
+    go (by-max q u v e) = word e (larger-below _ _ literals (number_of_lem _ u).1 (number_of_lem _ v).1)
+    go (by-min q u v e) = word e (smaller-below _ _ literals (number_of_lem _ u).1 (number_of_lem _ v).1)
+    go (by-square q u e) = word e (square-below _ (number_of_lem _ u).1)

@@ -69,8 +69,8 @@ unfolding is_literal
 above-literal w h = rw (le-leb literal w h)
 
 -- the word of a literal, by its number
-pub number_of : (w : ℕ) → is_literal w ≡ true → (w ≡ literal + (w - literal)) × (w - literal < literals)
-number_of w e = let c = is-literal w e in (omega arith, omega arith)
+pub number_of_lem : (w : ℕ) → is_literal w ≡ true → (w ≡ literal + (w - literal)) × (w - literal < literals)
+number_of_lem w e = let c = is-literal w e in (omega arith, omega arith)
 
 -- ---- how many arguments they take
 

@@ -23,12 +23,6 @@ overflow_add-end c = omega (arith, fits c)
 pub offset_bounds-book-first : goal.offset_bounds-book-first
 offset_bounds-book-first c = omega (arith, fits c)
 
--- ?? part-among-start : tie.Need-slice-bounds-among-start
--- part-among-start c = omega (arith, fits c)
-
--- ?? part-among-end : tie.Need-slice-bounds-among-end
--- part-among-end c = omega (arith, fits c)
-
 pub returns : goal.returns
 returns c =
     let a = c.args in

@@ -1,3 +1,4 @@
+-- `machine::advance` meets its contract: at each place (Places.antt) a law of Advancing or Arriving.
 mod Places
 use native.Mathlib.Omega.{arith}
 use mathlib.Core.Path.{sym, ◌∙◌, subst}

@@ -9,10 +9,6 @@ use native.Mathlib.Omega.{arith}
 use mathlib.Core.Path.{sym, ap, ◌∙◌}
 use Rattle.system.proofs.words.arity.Goals as goal
 
--- ---- the places of the code that are behind others: the entry, the word as a number
-
--- ---- the needs
-
 pub bounds-book-i : goal.bounds-book-i
 bounds-book-i c = let ws = c.args.book.now in
     signature-room ws c.wide-i.result (omega arith)

@@ -4,10 +4,6 @@ use native.Mathlib.Omega.{arith}
 use borrow.Author.Rules.{rules}
 use Rattle.system.proofs.words.spans.Goals as goal
 
--- ---- the places of the code that are behind others: the entry, the loop's head
-
--- ---- the needs
-
 pub returns-then-due-eq0 : goal.returns-then-due-eq0
 returns-then-due-eq0 c = let l = c.loop-i in
     let a = c.args in

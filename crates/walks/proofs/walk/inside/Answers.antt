@@ -5,10 +5,6 @@ use Rattle.rows.proofs.lengths.Measures.{measured-length}
 use Rattle.walks.proofs.walk.Insides.{within-before, within-read}
 use Rattle.walks.proofs.walk.inside.Goals as goal
 
--- ---- the place of the code where the position is tested
-
--- ---- the goals
-
 pub returns-then-q-at : goal.returns-then-q-at
 returns-then-q-at c = let a = c.args in λ g m. sym (within-before g (term_in a.area.now a.gap) a.at a.q c.if-q-at.true)
 

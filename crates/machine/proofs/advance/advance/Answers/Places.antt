@@ -273,5 +273,3 @@ some-around'' c = let h = c.if-level-eq0.false in omega arith
 pub left-inner : (c : Else-level-floor) → let τ = round''''' c in Goes τ (τ.level - 1) τ.floor τ.since
 left-inner c =
     goes_left (round''''' c) c.in-End.is (some-around'' c) (let h = c.if-level-floor.false in omega arith)
-
--- `machine::advance` meets its contract: at each place (Places.antt) a law of Advancing or Arriving.
