@@ -270,7 +270,8 @@ uint32_t cue_weigh(const uint16_t *weights, size_t weights_words, const uint16_t
  * They are checked in this order. Where the answer is 0, each step keeps the cue well-kinded, and its kind, with whatever rule that fits and wherever
  * it is taken: so the cue that an expansion hands back, with a record or without one, and where it is stopped the cue that it has reached, is
  * well-kinded and has the kind of the cue handed in. To test a book alone, hand over a level as the cue: it passes over every book. In the
- * benchmark (tests/bench, one core) the test took 0.1 milliseconds over the largest book, and 0.9 over the longest cues, deep or wide.
+ * benchmark (tests/bench, one core, with the older Rattle) the test took 0.1 milliseconds over the largest book, and 0.9 over the longest cues,
+ * deep or wide.
  */
 cue_answer cue_test_kinds(const uint16_t *book, size_t book_words, const uint16_t *term, size_t term_words, const uint16_t *kinds,
                           size_t kinds_words);
@@ -278,8 +279,9 @@ cue_answer cue_test_kinds(const uint16_t *book, size_t book_words, const uint16_
 /*
  * Expands a cue over a book, with at most `limit` steps (the allowance).
  *
- * The allowance is the only bound on the time of a call, which can't be left and taken up again. In the benchmark (tests/bench, one core) a step
- * took 0.03 microseconds over a small cue, and 17 over a cue of 4,090 words that are all visited again for each step; longer ones can be made.
+ * The allowance is the only bound on the time of a call, which can't be left and taken up again. In the benchmark (tests/bench, one core, with the
+ * older Rattle) a step took 0.03 microseconds over a small cue, and 17 over a cue of 4,090 words that are all visited again for each step; longer
+ * ones can be made.
  *
  *   number    place                        steps            out                                     work
  *   0         the answer's length, words   taken            the answer in its first words,          the first 12,288 words are
