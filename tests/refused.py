@@ -32,7 +32,10 @@ MISFIT = re.compile(rf"(?:expected type|this has type|where one has|the other ha
 def has_answers(crate, module, line):
     """Whether the function that has this line of a crate's source has a file of answers."""
     with open(f"crates/{crate}/src/{module}.rt", encoding="utf-8") as f:
-        heads = [re.match(r'\s*(?:pub )?(?:extern "C" )?fn (\w+)', text) for text in f.read().split("\n")[:line]]
+        lines = f.read().split("\n")
+    while lines[line - 1].startswith("#["):
+        line += 1
+    heads = [re.match(r'\s*(?:pub )?(?:extern "C" )?fn (\w+)', text) for text in lines[:line]]
     name = [head[1] for head in heads if head][-1]
     above = "" if module in ("lib", "main") else module + "/"
     return any(os.path.exists(f"crates/{crate}/proofs/{above}{folder}/Answers.antt") for folder in (name, "+" + name))
