@@ -27,31 +27,31 @@
  * not called.
  *
  *   linked                                                  bytes   needs           red zone
- *   libcue.a                                               29,941   memcpy, memset  used
- *   libcue.a, cue_test_strategies and cue_expand alone     18,741   memset          used
- *   libcue_replay.a                                        19,037   memset          used
+ *   libcue.a                                               30,656   memmove, memset used
+ *   libcue.a, cue_test_strategies and cue_expand alone     18,178   memmove, memset used
+ *   libcue_replay.a                                        19,719   memmove, memset used
  *
  * An expansion is lent 8 KB for the answer and 24 KB to work in. The stack that a call takes, read from the compiled archives with everything
  * that is called, is below 4,096 bytes for each function (`bash tests/stack.sh` measures it, and holds both tables to the archives):
  *
  *   function                archive             stack, bytes
  *   cue_version             libcue.a                       8
- *   cue_read                libcue.a                     280
- *   cue_shape_of            libcue.a                     280
- *   cue_check_term          libcue.a                     360
- *   cue_argument            libcue.a                     408
- *   cue_span                libcue.a                       8
- *   cue_first_match         libcue.a                   1,160
- *   cue_test_strategies     libcue.a                     328
- *   cue_test_weights        libcue.a                     376
+ *   cue_read                libcue.a                     424
+ *   cue_shape_of            libcue.a                     424
+ *   cue_check_term          libcue.a                     488
+ *   cue_argument            libcue.a                     520
+ *   cue_span                libcue.a                      16
+ *   cue_first_match         libcue.a                   1,320
+ *   cue_test_strategies     libcue.a                     536
+ *   cue_test_weights        libcue.a                     536
  *   cue_weigh               libcue.a                       8
- *   cue_test_kinds          libcue.a                   3,424
- *   cue_expand              libcue.a                   2,208
- *   cue_expand_checked      libcue.a                   2,240
- *   cue_expand_twice        libcue.a                   2,240
- *   cue_expand_recorded     libcue.a                   2,224
- *   cue_replay              libcue_replay.a            1,968
- *   cue_expand_retraced     libcue_replay.a            3,568
+ *   cue_test_kinds          libcue.a                   3,264
+ *   cue_expand              libcue.a                   2,304
+ *   cue_expand_checked      libcue.a                   2,336
+ *   cue_expand_twice        libcue.a                   2,336
+ *   cue_expand_recorded     libcue.a                   2,304
+ *   cue_replay              libcue_replay.a            2,240
+ *   cue_expand_retraced     libcue_replay.a            3,968
  */
 #ifndef CUE_H
 #define CUE_H

@@ -11,7 +11,7 @@ sys.dont_write_bytecode = True
 sys.path.insert(0, "tools")  # tools/sources.py
 from sources import declarations, depth
 
-TOKEN = re.compile(r"\[\]|[^\s(){}\[\].;,@\"«»λ⌜⌝⟦⟧]+")
+TOKEN = re.compile(r"\[\]|[^\s(){}\[\].;:,@\"«»λ⌜⌝⟦⟧]+")
 USE = re.compile(r"^\s*(?:ghost )?use ([^\s{;]+)\.\{([^}]*)\}")
 # what a file of invariants or of answers gives for a goal, under its name
 ANSWER = re.compile(r"(?:abbrev )?pub (\S+) : \w+\.\1\b")
@@ -72,7 +72,9 @@ def alone(texts, said):
         if part != "proofs" or rest.endswith(("Proof.antt", "Invariants.antt", "Answers.antt", "Lib.antt", "Cases.antt")) or not declarations(lines):
             continue
         module = re.escape(rest[:-5].replace("/", "."))
-        if not re.search(rf"Rattle\.{crate}\.proofs\.{module}(?!\w)", everything) and path.split("crates/")[1] not in said:
+        # by an attribute too, as a Rust path: using(crate::proofs::Words::length_more)
+        rust = rest[:-5].replace("/", "::")
+        if not re.search(rf"Rattle\.{crate}\.proofs\.{module}(?!\w)|(?:crate|{crate})::proofs::{rust}::", everything) and path.split("crates/")[1] not in said:
             yield f"{path}: nobody imports it"
 
 

@@ -25,11 +25,12 @@ rm -r target
 
 # a function that is there, from here: a line for each goal, with its place in the source, from a step back to the start
 cases=$((cases + 1))
-"$program" buffers clear > printed 2> said || true
-loop=$(grep -n 'while i < n' "$top/crates/buffers/src/lib.rt" | tail -n 1 | cut -d: -f1)
-if ! grep -qx "loop-i-preserved: src/lib.rt:$loop:[0-9]* 0:loop-i-test 1:loop-i 2:start" printed || [ -s said ] || [ -e target ] ||
-    grep -vqE '^[^ :]+: src/lib\.rt:[0-9]+:[0-9]+( [0-9]+:[^ ]+)* [0-9]+:start$' printed; then
-    printf 'places: from another folder: it should print the goals of buffers::clear, and make no folder there; it prints\n'
+"$program" rows lengths/hop > printed 2> said || true
+loop=$(grep -n 'for _ in' "$top/crates/rows/src/lengths.rt" | tail -n 1 | cut -d: -f1)
+back='[0-9]:length_at-at [0-9]:if-n-at [0-9]:loop-test [0-9]:loop [0-9]:words-n ([0-9]:[^ ]+ )*[0-9]:start'
+if ! grep -qxE "loop-preserved: src/lengths\.rt:$loop:[0-9]+ ([0-9]:[^ ]+ )*$back" printed || [ -s said ] || [ -e target ] ||
+    grep -vqE '^[^ :]+: src/lengths\.rt:[0-9]+:[0-9]+( [0-9]+:[^ ]+)* [0-9]+:start$' printed; then
+    printf 'places: from another folder: it should print the goals of rows::lengths::hop, and make no folder there; it prints\n'
     sed 's/^/    /' printed said
     wrong=1
 fi

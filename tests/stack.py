@@ -5,8 +5,8 @@
 
 For each exported cue_* function: the bytes of its deepest chain of calls, and that chain; and which functions use the red zone. Read from
 the compiled code (objdump), as a bound from above: a function takes its return address, every push and every move of the stack pointer in
-it, and the red zone if it uses bytes below the stack pointer. A jump to another function counts as a call. What the C library brings
-counts with ALLOWED bytes. A function of OPEN may call itself: its frame counts as often as calls of it are open at most. tests/porting.py
+it, and the red zone if it uses bytes below the stack pointer. A jump to another function counts as a call; one by a table of the function's own
+(a `match`), each of whose places lies in that function, as a jump within it. What the C library brings counts with ALLOWED bytes. A function of OPEN may call itself: its frame counts as often as calls of it are open at most. tests/porting.py
 holds the header's tables to this measure.
 
 Exit status: 0 all at most LIMIT; 1 one above it, or one that can't be bounded: another recursion, a call or jump through a pointer, a frame
@@ -33,20 +33,39 @@ class Function:
         self.frame = 8
         self.below = 0
         self.goes = []  # where it calls or jumps: a name or a section, the place in it, and whether it is a jump
+        self.before = []  # the last three instructions, each with what the linker puts into it
         self.faults = []
 
-    def take(self, instruction):
+    def by_table(self, tables, rest):
+        """Whether a jump through a register takes its place from a table whose places all lie in this function: the table's address, the place of
+        the number in it, counted from the table, and both added."""
+        if len(self.before) < 3:
+            return False
+        (lea, table), (load, _), (add, _) = self.before
+        m = re.fullmatch(r"movslq \((%\w+),%\w+,4\),(%\w+)", load)
+        return bool(
+            m
+            and re.fullmatch(rf"lea 0x0\(%rip\),{m[1]}", lea)
+            and add == f"add {m[1]},{m[2]}"
+            and rest == f"*{m[2]}"
+            and tables.get(table)
+            and all(to == self.section for to in tables[table])
+        )
+
+    def take(self, instruction, tables):
         """Counts what one instruction does to the stack, and where it goes."""
         name, _, rest = instruction.partition(" ")
         if name in ("bnd", "notrack", "rep", "repz"):
-            return self.take(rest)
+            return self.take(rest, tables)
         if m := re.search(r"-0x([0-9a-f]+)\(%rsp([,)])(?!,%rsp)", rest):
             self.reach(int(m[1], 16), m[2] == ",", instruction)
         if name.startswith(("call", "j")):
+            if name == "jmp" and self.by_table(tables, rest):
+                return False
             if "*" in rest:
                 self.faults.append(f"it goes through a pointer: {instruction}")
                 return False
-            self.goes.append((re.sub(r"^.*<|(\+0x[0-9a-f]+)?>$", "", rest), 0, name.startswith("j")))
+            self.goes.append((re.sub(r"^[^<]*<|(\+0x[0-9a-f]+)?>$", "", rest), 0, name.startswith("j")))
             return True
         if name.startswith("push"):
             self.frame += 8
@@ -77,13 +96,29 @@ class Function:
         return 0
 
 
-def functions(archive):
-    """The functions of an archive by name."""
-    run = subprocess.run(["objdump", "-dr", "--no-show-raw-insn", archive], capture_output=True, text=True)
+def objdump(archive, *flags):
+    run = subprocess.run(["objdump", *flags, archive], capture_output=True, text=True)
     if run.returncode != 0:
         sys.exit("stack: " + run.stderr)
+    return run.stdout.splitlines()
+
+
+def tables_of(archive):
+    """Of each section of data the sections that its places lie in."""
+    tables, section = {}, ""
+    for line in objdump(archive, "-r"):
+        if m := re.match(r"RELOCATION RECORDS FOR \[(.+)\]:$", line):
+            section = m[1]
+        elif section.startswith(".rodata") and (m := re.match(r"[0-9a-f]+ R_\S+\s+(.+?)([-+]0x[0-9a-f]+)?$", line)):
+            tables.setdefault(section, []).append(m[1])
+    return tables
+
+
+def functions(archive):
+    """The functions of an archive by name."""
+    tables = tables_of(archive)
     found, section, f, going = {}, "", None, False
-    for line in run.stdout.splitlines():
+    for line in objdump(archive, "-dr", "--no-show-raw-insn"):
         if m := re.match(r"Disassembly of section (.+):$", line):
             section = m[1]
         elif m := re.match(r"([0-9a-f]+) <(.+)>:$", line):
@@ -94,8 +129,11 @@ def functions(archive):
             # the linker puts the target in: this line says what it is (the place less 4, as the processor counts from the next instruction)
             if going:
                 f.goes[-1] = (m[1], int(m[2] or "0", 16) + 4, f.goes[-1][2])
+            f.before[-1] = (f.before[-1][0], m[1])
         elif m := re.match(r"\s+[0-9a-f]+:\t(.+)$", line):
-            going = f.take(" ".join(m[1].split("#")[0].split()))
+            instruction = " ".join(m[1].split("#")[0].split())
+            going = f.take(instruction, tables)
+            f.before = f.before[-2:] + [(instruction, "")]
     return found
 
 

@@ -131,6 +131,12 @@ def declarations(lines):
             modules[-1][1] = depth(line)
         if depth(line) != (modules[-1][1] if modules else 0):
             continue
+        if re.match(r"^ *(pub )?ruleset ", line):
+            # laws under one name: no part of what stands before it
+            if now:
+                found.append(now[1] + (i,))
+                now = None
+            continue
         m = HEAD.match(line)
         if not m or m.group(4) in WORDS or re.match(r"^ *(pub )?mod ", line):
             continue

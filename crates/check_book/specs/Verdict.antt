@@ -2,7 +2,8 @@
 use Rattle.std.specs.Prelude.{ℕ, zero, suc, List, ◌++◌}
 use Prim.Native.String.{String}
 use Rattle.system.specs.declared.Answer.{Answer}
-use Rattle.system.specs.Numbers.{Fault, missing, range, entry, unknown, unbalanced, variable_head, unbound, trailing, built_in_head}
+use Rattle.system.specs.declared.numbers.Fault.{Fault}
+use Rattle.system.specs.declared.numbers.Fault.TheVariants.{Missing, Range, Entry, Unknown, Unbalanced, VariableHead, Unbound, Trailing, BuiltInHead}
 use Rattle.reader.specs.Parser.{ok, fault, read}
 use Rattle.matching.specs.StrategyTest.{test_answer}
 use Rattle.printing.specs.Text.{ascii, decimal, line}
@@ -14,15 +15,15 @@ pub record Row : Type 0 where
   pub when : String
 
 abbrev pub row : Fault → Row
-row missing = record { word = "short"; when = "a word the book needs is missing" }
-row range = record { word = "count"; when = "a count or length outside its range" }
-row entry = record { word = "entry"; when = "an order entry above the argument count" }
-row unknown = record { word = "stranger"; when = "a side's word is neither name nor placeholder" }
-row unbalanced = record { word = "ragged"; when = "a side is complete too early, or not at its last word" }
-row variable_head = record { word = "headless"; when = "a left side starts with a placeholder" }
-row unbound = record { word = "stray"; when = "a left placeholder is above the count of different ones before it, or a right one is not in the left" }
-row trailing = record { word = "surplus"; when = "words after the last rule" }
-row built_in_head = record { word = "builtin"; when = "a left side starts with a level or a built-in word" }
+row Missing = record { word = "short"; when = "a word the book needs is missing" }
+row Range = record { word = "count"; when = "a count or length outside its range" }
+row Entry = record { word = "entry"; when = "an order entry above the argument count" }
+row Unknown = record { word = "stranger"; when = "a side's word is neither name nor placeholder" }
+row Unbalanced = record { word = "ragged"; when = "a side is complete too early, or not at its last word" }
+row VariableHead = record { word = "headless"; when = "a left side starts with a placeholder" }
+row Unbound = record { word = "stray"; when = "a left placeholder is above the count of different ones before it, or a right one is not in the left" }
+row Trailing = record { word = "surplus"; when = "words after the last rule" }
+row BuiltInHead = record { word = "builtin"; when = "a left side starts with a level or a built-in word" }
 
 -- 14, and in place of "the order test failed" what failed: not "its order holds a 0 and every entry after the last 0 is an idle argument"
 abbrev pub unsettled_row : Row

@@ -7,13 +7,13 @@ mod report;
 
 use files::checks::BOOK_BYTES;
 use files::reading::read_file;
+use printing::Page;
 use std::io;
 
 fn main(rt: HostRuntime) -> io::Result<()> {
-    let mut book = [0u8; BOOK_BYTES + 1];
-    let b = read_file(&rt, b"show.book", &mut book);
-    let mut text = [0u8; report::TEXT_BYTES];
-    let n = b.size;
-    let size = report::verdict(b.there, &book[0..n], &mut text);
-    rt.write_all(&text[0..size])
+    let mut buffer = [0u8; BOOK_BYTES + 1];
+    let book = read_file(&rt, "show.book", &mut buffer);
+    let mut page = Page::<{ report::TEXT_BYTES }>::new();
+    report::verdict(book, &mut page);
+    rt.write_all(page.as_bytes())
 }

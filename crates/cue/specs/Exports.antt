@@ -1,10 +1,10 @@
 -- The structs that C sees, as what the libraries answer, and the version of what C sees.
-use Rattle.std.specs.Prelude.{ℕ, ◌+◌, ◌*◌}
+use Rattle.std.specs.Prelude.{ℕ, ◌+◌, ◌*◌, Some, None}
 use Rattle.system.specs.declared.Answer.{Answer}
 use Rattle.reader.specs.declared.Shape.{Shape}
 use Rattle.reader.specs.declared.ArgumentSpan.{ArgumentSpan}
 use Rattle.matching.specs.declared.Match.{Match}
-use Rattle.matching.specs.declared.FirstRule.TheVariants.{Nothing, First, Computed}
+use Rattle.matching.specs.declared.FirstRule.TheVariants.{First, Computed}
 use Rattle.cue.specs.declared.CueAnswer.{CueAnswer}
 use Rattle.cue.specs.declared.CueShape.{CueShape}
 use Rattle.cue.specs.declared.CuePart.{CuePart}
@@ -29,9 +29,9 @@ part_for s = record { start = s.start; length = s.length }
 abbrev pub match_for : Match → CueMatch
 match_for m =
     elim m.rule [
-      | Nothing ↦ record { found = 0; number = 0; rhs = 0; size = 0; starts = m.starts; lengths = m.lengths; word = 0 }
-      | First k at n ↦ record { found = 1; number = k; rhs = at; size = n; starts = m.starts; lengths = m.lengths; word = 0 }
-      | Computed k w ↦ record { found = 1; number = k; rhs = 0; size = 0; starts = m.starts; lengths = m.lengths; word = w }
+      | None ↦ record { found = 0; number = 0; rhs = 0; size = 0; starts = m.starts; lengths = m.lengths; word = 0 }
+      | Some (First k at n) ↦ record { found = 1; number = k; rhs = at; size = n; starts = m.starts; lengths = m.lengths; word = 0 }
+      | Some (Computed k w) ↦ record { found = 1; number = k; rhs = 0; size = 0; starts = m.starts; lengths = m.lengths; word = w }
     ]
 
 -- the version of include/cue.h, 4.1, as one number: the first times 65,536 and the second

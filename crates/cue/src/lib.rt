@@ -19,8 +19,8 @@ ghost use Rattle.evaluation.specs.Expansion.{answer_and_buffers, expansion, reco
 ghost use Rattle.demands.specs.Demand3.{IsDone, IsStopped, IsHandedBack, IsFound, secondly, RestsAgain};
 ghost use Rattle.cue.specs.Exports.{answer_for, as_answer, shape_for, part_for, match_for, version};
 
-use matching::FirstRule;
-use system::Answer;
+mod conversions;
+
 use system::limits::VARIABLES;
 use termination::weighing::weigh;
 
@@ -88,17 +88,6 @@ pub struct CueTwice {
     pub second: CueAnswer,
 }
 
-// Three numbers of the libraries as those of C; the crate `cue_replay` hands its answers on by it too.
-pub fn answer_for(a: Answer) -> CueAnswer
-    ensures { result ≡ answer_for a }
-{
-    CueAnswer {
-        number: a.number,
-        place: a.place,
-        steps: a.steps,
-    }
-}
-
 // The version that this archive was built for: where it is not the header's CUE_VERSION, the two do not belong together.
 pub fn cue_version() -> u32
     ensures { result ≡ version }
@@ -110,38 +99,28 @@ pub fn cue_version() -> u32
 pub fn cue_read(book: &[u16]) -> CueAnswer
     ensures { result ≡ answer_for (answer_of (read book.now)) }
 {
-    answer_for(reader::read(book))
+    reader::read(book).into()
 }
 
 // The shape of an accepted book; all 0 of a refused one.
 pub fn cue_shape_of(book: &[u16]) -> CueShape
     ensures { result ≡ shape_for (shape_of (read book.now)) }
 {
-    let s = reader::shape_of(book);
-    CueShape {
-        symbols: s.symbols,
-        strategies: s.strategies,
-        rules: s.rules,
-        first_rule: s.first_rule,
-    }
+    reader::shape_of(book).into()
 }
 
 // Checks a term (01: a cue) against a book.
 pub fn cue_check_term(book: &[u16], term: &[u16]) -> CueAnswer
     ensures { result ≡ answer_for (term_answer book.now term.now) }
 {
-    answer_for(terms::check_term(book, term))
+    terms::check_term(book, term).into()
 }
 
 // Argument i (from 1) of the term's first symbol.
 pub fn cue_argument(book: &[u16], term: &[u16], i: usize) -> CuePart
     ensures { result ≡ part_for (argument_span book.now term.now i) }
 {
-    let s = terms::argument_span(book, term, i);
-    CuePart {
-        start: s.start,
-        length: s.length,
-    }
+    terms::argument_span(book, term, i).into()
 }
 
 // How many words the subterm at the front of ws takes, by the arities that the book's words list.
@@ -155,39 +134,7 @@ pub fn cue_span(book: &[u16], ws: &[u16]) -> usize
 pub fn cue_first_match(book: &[u16], ws: &[u16]) -> CueMatch
     ensures { result ≡ match_for (match_in book.now ws.now) }
 {
-    let m = matching::first_match(book, ws);
-    let starts = m.starts;
-    let lengths = m.lengths;
-    let found = m.rule;
-    match found {
-        FirstRule::Nothing => CueMatch {
-            found: 0,
-            number: 0,
-            rhs: 0,
-            size: 0,
-            starts: starts,
-            lengths: lengths,
-            word: 0,
-        },
-        FirstRule::First { number, rhs, size } => CueMatch {
-            found: 1,
-            number: number,
-            rhs: rhs,
-            size: size,
-            starts: starts,
-            lengths: lengths,
-            word: 0,
-        },
-        FirstRule::Computed { number, word } => CueMatch {
-            found: 1,
-            number: number,
-            rhs: 0,
-            size: 0,
-            starts: starts,
-            lengths: lengths,
-            word: word,
-        },
-    }
+    matching::first_match(book, ws).into()
 }
 
 // The strategy test (01: the order test).
@@ -195,7 +142,7 @@ pub fn cue_test_strategies(book: &[u16]) -> CueAnswer
     ensures tested { result ≡ answer_for (test_answer book.now) }
     ensures told { Tells book.now (as_answer result) }
 {
-    answer_for(matching::test_strategies(book))
+    matching::test_strategies(book).into()
 }
 
 // The test by weights (02, F-6).
@@ -203,7 +150,7 @@ pub fn cue_test_weights(book: &[u16], weights: &[u16]) -> CueAnswer
     ensures tested { result ≡ answer_for (weights_answer book.now weights.now) }
     ensures told { TellsWeights book.now weights.now (as_answer result) }
 {
-    answer_for(termination::test_weights(book, weights))
+    termination::test_weights(book, weights).into()
 }
 
 // What a term weighs in all, as a step limit.
@@ -218,7 +165,7 @@ pub fn cue_test_kinds(book: &[u16], term: &[u16], kinds: &[u16]) -> CueAnswer
     ensures tested { result ≡ answer_for (sorts_answer book.now term.now kinds.now) }
     ensures told { TellsSorts book.now term.now kinds.now (as_answer result) }
 {
-    answer_for(sort_test::test_kinds(book, term, kinds))
+    sort_test::test_kinds(book, term, kinds).into()
 }
 
 // Expands a term over a book with at most `limit` steps (01: the allowance).
@@ -232,7 +179,7 @@ pub fn cue_expand(
     ensures { answer_and_buffers (as_answer result) out.new work.new
         ≡ expansion book.now term.now (unrecorded limit) out.old work.old }
 {
-    answer_for(evaluation::expand(book, term, limit, out, work))
+    evaluation::expand(book, term, limit, out, work).into()
 }
 
 // Tests the book's strategies and expands the term: "done" whether or not the book passed, "found" where it did.
@@ -256,8 +203,8 @@ pub fn cue_expand_checked(
 {
     let c = demands::expand_checked(book, term, limit, out, work);
     CueChecked {
-        test: answer_for(c.test),
-        answer: answer_for(c.answer),
+        test: c.test.into(),
+        answer: c.answer.into(),
     }
 }
 
@@ -284,9 +231,9 @@ pub fn cue_expand_twice(
 {
     let c = demands::expand_twice(book, term, limit, out, work, again, spare);
     CueTwice {
-        test: answer_for(c.test),
-        first: answer_for(c.first),
-        second: answer_for(c.second),
+        test: c.test.into(),
+        first: c.first.into(),
+        second: c.second.into(),
     }
 }
 
@@ -306,5 +253,5 @@ pub fn cue_expand_recorded(
     ensures told { «record».new ≡ record_after book.now term.now
         (recorded limit (length «record».old)) out.old work.old «record».old }
 {
-    answer_for(evaluation::expand_recorded(book, term, limit, out, work, record))
+    evaluation::expand_recorded(book, term, limit, out, work, record).into()
 }

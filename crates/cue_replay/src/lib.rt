@@ -12,7 +12,7 @@ ghost use Rattle.demands.specs.Retracing.{Reported, retracing, IsRetraced};
 ghost use Rattle.cue.specs.Exports.{as_answer};
 ghost use Rattle.cue_replay.specs.Exports.{replayed_answer};
 
-use cue::{CueAnswer, answer_for};
+use cue::CueAnswer;
 use replay::Replayed;
 
 // The three numbers of a replay: a record may have more pairs than 32 bits tell.
@@ -32,13 +32,15 @@ pub struct CueRetraced {
     pub replay: CueReplayed,
 }
 
-fn replayed_for(e: Replayed) -> CueReplayed
-    ensures { result ≡ record { number = e.number; place = e.place; steps = e.steps } }
-{
-    CueReplayed {
-        number: e.number,
-        place: e.place,
-        steps: e.steps,
+impl From<Replayed> for CueReplayed {
+    ghost from_gives = { λ e c. c ≡ record { number = e.number; place = e.place; steps = e.steps } };
+
+    fn from(e: Replayed) -> CueReplayed {
+        CueReplayed {
+            number: e.number,
+            place: e.place,
+            steps: e.steps,
+        }
     }
 }
 
@@ -57,7 +59,7 @@ pub fn cue_replay(
     ensures mistold { IsMistold book.now term.now «record».now
         (answer_and_buffers (replayed_answer result) out.new work.new) }
 {
-    replayed_for(replay::replay(book, term, record, out, work))
+    replay::replay(book, term, record, out, work).into()
 }
 
 // Expands the term with a record, and follows the record, cut to its pairs, in a second pair of buffers; where nothing is handed back the
@@ -91,7 +93,7 @@ pub fn cue_expand_retraced(
 {
     let c = demands::expand_retraced(book, term, limit, out, work, record, again, spare);
     CueRetraced {
-        answer: answer_for(c.answer),
-        replay: replayed_for(c.replay),
+        answer: c.answer.into(),
+        replay: c.replay.into(),
     }
 }

@@ -4,7 +4,8 @@ use mathlib.Core.Path.{◌≡◌, refl, sym, ap, subst}
 use mathlib.Core.Option.{Option, none, some}
 use mathlib.Core.List.{List}
 use Rattle.system.specs.declared.Answer.{Answer}
-use Rattle.system.specs.Numbers.{Verdict, number_of}
+use Rattle.system.specs.Numbers.{number_of}
+use Rattle.system.specs.declared.numbers.Verdict.{Verdict}
 use Rattle.system.specs.System.{System}
 use Rattle.reader.specs.Parser.{Parsed, ok, fault, read}
 use Rattle.system.specs.TermCheck.{term_fault}

@@ -6,7 +6,10 @@ use mathlib.Core.Path.{◌≡◌, refl, sym, ap, ◌∙◌, subst, subst₂}
 use mathlib.Core.Logic.{inl, inr}
 use mathlib.Core.List.{List}
 use Rattle.system.specs.declared.Answer.{Answer}
-use Rattle.system.specs.Numbers.{Limit, spent, overlong, nested, full, Verdict, number_of, limit_number}
+use Rattle.system.specs.Numbers.{number_of, limit_number}
+use Rattle.system.specs.declared.numbers.Limit.{Limit}
+use Rattle.system.specs.declared.numbers.Limit.TheVariants.{Spent, Overlong, Nested, Full}
+use Rattle.system.specs.declared.numbers.Verdict.{Verdict}
 use Rattle.system.specs.System.{System}
 use Rattle.system.specs.Terms.{WellFormed}
 use Rattle.reader.specs.Book.{system_of}
@@ -30,11 +33,11 @@ early-other (book f) e = elim (fault-range f) [ inl z ↦ (let h = z.1 in omega 
 early-other term e = omega arith
 early-other buffers e = omega arith
 
-only-spent : (l : Limit) → limit_number l ≡ 11 → l ≡ spent
-only-spent spent e = refl
-only-spent overlong e = absurd (omega arith)
-only-spent nested e = absurd (omega arith)
-only-spent full e = absurd (omega arith)
+only-spent : (l : Limit) → limit_number l ≡ 11 → l ≡ Spent
+only-spent Spent e = refl
+only-spent Overlong e = absurd (omega arith)
+only-spent Nested e = absurd (omega arith)
+only-spent Full e = absurd (omega arith)
 
 run-same : {r r' : Config} → finished r ≡ finished r' → r ≡ r'
 run-same {r} e = ap (λ o. elim o [ finished x ↦ x | stopped l h ↦ r ]) e

@@ -8,7 +8,10 @@ use mathlib.Core.List.{List, []}
 use lib.ListN.{length, take, drop}
 use Rattle.system.specs.declared.Answer.{Answer}
 use Rattle.system.specs.Limits.{term_words}
-use Rattle.system.specs.Numbers.{Limit, spent, overlong, nested, full, Verdict, number_of, limit_number}
+use Rattle.system.specs.Numbers.{number_of, limit_number}
+use Rattle.system.specs.declared.numbers.Limit.{Limit}
+use Rattle.system.specs.declared.numbers.Limit.TheVariants.{Spent, Overlong, Nested, Full}
+use Rattle.system.specs.declared.numbers.Verdict.{Verdict}
 use Rattle.system.proofs.FaultNumbers.{fault-range}
 use Rattle.reader.specs.Book.{system_of}
 use Rattle.rewriting.specs.Trace.{Trace, in_order, keep}
@@ -29,29 +32,29 @@ use Rattle.demands.proofs.Demand1.{Said, said, term-said}
 -- ---- the numbers of limits
 
 same-limit : (l k : Limit) → limit_number l ≡ limit_number k → l ≡ k
-same-limit spent spent e = refl
-same-limit spent overlong e = absurd (omega arith)
-same-limit spent nested e = absurd (omega arith)
-same-limit spent full e = absurd (omega arith)
-same-limit overlong spent e = absurd (omega arith)
-same-limit overlong overlong e = refl
-same-limit overlong nested e = absurd (omega arith)
-same-limit overlong full e = absurd (omega arith)
-same-limit nested spent e = absurd (omega arith)
-same-limit nested overlong e = absurd (omega arith)
-same-limit nested nested e = refl
-same-limit nested full e = absurd (omega arith)
-same-limit full spent e = absurd (omega arith)
-same-limit full overlong e = absurd (omega arith)
-same-limit full nested e = absurd (omega arith)
-same-limit full full e = refl
+same-limit Spent Spent e = refl
+same-limit Spent Overlong e = absurd (omega arith)
+same-limit Spent Nested e = absurd (omega arith)
+same-limit Spent Full e = absurd (omega arith)
+same-limit Overlong Spent e = absurd (omega arith)
+same-limit Overlong Overlong e = refl
+same-limit Overlong Nested e = absurd (omega arith)
+same-limit Overlong Full e = absurd (omega arith)
+same-limit Nested Spent e = absurd (omega arith)
+same-limit Nested Overlong e = absurd (omega arith)
+same-limit Nested Nested e = refl
+same-limit Nested Full e = absurd (omega arith)
+same-limit Full Spent e = absurd (omega arith)
+same-limit Full Overlong e = absurd (omega arith)
+same-limit Full Nested e = absurd (omega arith)
+same-limit Full Full e = refl
 
 -- 15 is none of them
 not-fifteen : (l : Limit) → limit_number l ≡ 15 → ⊥
-not-fifteen spent e = omega arith
-not-fifteen overlong e = omega arith
-not-fifteen nested e = omega arith
-not-fifteen full e = omega arith
+not-fifteen Spent e = omega arith
+not-fifteen Overlong e = omega arith
+not-fifteen Nested e = omega arith
+not-fifteen Full e = omega arith
 
 -- nor is a number that is said before anything is evaluated
 early-none : {v : Verdict} → Early v → (l : Limit) → number_of v ≡ limit_number l → ⊥

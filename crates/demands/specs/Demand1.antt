@@ -2,15 +2,19 @@
 use Rattle.std.specs.Prelude.{ℕ, ◌≡◌, List}
 use Rattle.buffers.specs.Words.{over, zeros}
 use Rattle.system.specs.declared.Answer.{Answer}
-use Rattle.system.specs.Numbers.{Fault, Limit, Verdict, faulty, broken, cramped, number_of, limit_number}
+use Rattle.system.specs.Numbers.{number_of, limit_number}
+use Rattle.system.specs.declared.numbers.Fault.{Fault}
+use Rattle.system.specs.declared.numbers.Limit.{Limit}
+use Rattle.system.specs.declared.numbers.Verdict.{Verdict}
+use Rattle.system.specs.declared.numbers.Verdict.TheVariants.{Faulty, Broken, Cramped}
 use Rattle.evaluation.specs.Expansion.{Expansion, answer_and_buffers}
 use Rattle.system.specs.Limits.{area_words}
 
 -- what is said before anything is evaluated: something is wrong with the book, the term or the lent buffers (1 to 10, and 15)
 pub data Early : Verdict → Type 0 where
-  book : (f : Fault) → Early (faulty f)
-  term : Early broken
-  buffers : Early cramped
+  book : (f : Fault) → Early (Faulty f)
+  term : Early Broken
+  buffers : Early Cramped
 
 -- these touch no buffer, and no step is taken; 11 to 13, and 16 where a record is lent, leave the answer buffer unchanged and the area at the
 -- front of the work buffer zero

@@ -10,7 +10,8 @@ use Rattle.rewriting.specs.Stopped.{Stopped}
 use Rattle.rewriting.specs.Trace.{Trace}
 use Rattle.evaluation.specs.Expansion.{Expansion, answer_and_buffers, expansion, handed_back}
 use Rattle.system.specs.Limits.{area_words, term_words}
-use Rattle.system.specs.Numbers.{Limit, limit_number}
+use Rattle.system.specs.Numbers.{limit_number}
+use Rattle.system.specs.declared.numbers.Limit.{Limit}
 
 -- "a cue is handed back if the expander answers 0": then that many words are there, and they are done
 abbrev pub IsDone : List ℕ → List ℕ → Limits → Expansion → Type 0

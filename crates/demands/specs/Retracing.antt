@@ -2,7 +2,8 @@
 use Rattle.std.specs.Prelude.{ℕ, zero, suc, ◌*◌, ◌≤◌, ◌≡◌, List, [], length, take, drop}
 use Rattle.system.specs.declared.Answer.{Answer}
 use Rattle.system.specs.Limits.{area_words, term_words}
-use Rattle.system.specs.Numbers.{Limit, limit_number}
+use Rattle.system.specs.Numbers.{limit_number}
+use Rattle.system.specs.declared.numbers.Limit.{Limit}
 use Rattle.reader.specs.Book.{system_of}
 use Rattle.rewriting.specs.Trace.{Trace, in_order}
 use Rattle.rewriting.specs.Evaluation.{Limits}

@@ -19,13 +19,12 @@ use replay::Replayed;
 use replay::scanned::replay_scanned;
 use system::Answer;
 use system::built_ins::{LITERAL, SQUARE};
-use system::numbers::TAKEN;
 
 pub mod weighed;
 
-// The answers of the strategy test and of the evaluator.
+// The answers of a test and of the evaluator.
 #[derive(Clone, Copy)]
-pub struct Checked {
+pub struct Tested {
     pub test: Answer,
     pub answer: Answer,
 }
@@ -37,7 +36,7 @@ pub fn expand_checked(
     limit: u32,
     out: &mut [u16],
     work: &mut [u16],
-) -> Checked
+) -> Tested
     ensures tested { result.test ≡ test_answer book.now }
     ensures expanded { answer_and_buffers result.answer out.new work.new
         ≡ expansion book.now term.now (unrecorded limit) out.old work.old }
@@ -50,9 +49,9 @@ pub fn expand_checked(
         (answer_and_buffers result.answer out.new work.new) }
 {
     let s = scan_book(book);
-    let test = test(book, s);
-    let answer = expand_scanned(book, s, term, limit, out, work);
-    Checked { test, answer }
+    let test = test(&s);
+    let answer = expand_scanned(&s, term, limit, out, work);
+    Tested { test, answer }
 }
 
 // The answers of the strategy test and of two expansions.
@@ -85,9 +84,9 @@ pub fn expand_twice(
         again.old spare.old (answer_and_buffers result.second again.new spare.new) }
 {
     let s = scan_book(book);
-    let test = test(book, s);
-    let first = expand_scanned(book, s, term, limit, out, work);
-    if first.number != TAKEN {
+    let test = test(&s);
+    let first = expand_scanned(&s, term, limit, out, work);
+    if !first.is_taken() {
         return Twice {
             test,
             first,
@@ -95,7 +94,7 @@ pub fn expand_twice(
         };
     }
     let n = first.place;
-    let second = expand_scanned(book, s, &out[0..n], 0, again, spare);
+    let second = expand_scanned(&s, &out[0..n], 0, again, spare);
     Twice {
         test,
         first,
@@ -143,19 +142,15 @@ pub fn expand_retraced(
         limit,
         recorded: true,
     };
-    let answer = expand_within(book, s, term, bounds, out, work, record);
-    if answer.number != TAKEN {
+    let answer = expand_within(&s, term, bounds, out, work, record);
+    if !answer.is_taken() {
         return Retraced {
             answer,
-            replay: Replayed {
-                number: answer.number,
-                place: answer.place,
-                steps: answer.steps as usize,
-            },
+            replay: Replayed::from(answer),
         };
     }
     let pairs = 2 * (answer.steps as usize);
-    let replay = replay_scanned(book, s, term, &record[0..pairs], again, spare);
+    let replay = replay_scanned(&s, term, &record[0..pairs], again, spare);
     Retraced { answer, replay }
 }
 
@@ -167,8 +162,8 @@ pub fn expand_square(book: &[u16], n: u8, limit: u32, out: &mut [u16], work: &mu
         (answer_and_buffers result out.new work.new) }
 {
     let s = scan_book(book);
-    let term = [SQUARE as u16, (LITERAL + n as usize) as u16];
-    expand_scanned(book, s, &term, limit, out, work)
+    let term = [SQUARE as u16, (LITERAL + usize::from(n)) as u16];
+    expand_scanned(&s, &term, limit, out, work)
 }
 
 // The answers of two expansions.

@@ -6,19 +6,12 @@ ghost use Rattle.termination.specs.WeightTest.{weights_answer, weight_limit};
 ghost use Rattle.evaluation.specs.Expansion.{answer_and_buffers, expansion, record_after};
 ghost use Rattle.demands.specs.Finite.{IsFinite, NeverSpent};
 
+use crate::Tested;
 use evaluation::scanned::{expand_scanned, expand_within};
 use reader::scan::scan_book;
 use records::recording::Bounds;
-use system::Answer;
 use termination::testing::test;
 use termination::weighing::weigh;
-
-// The answers of the test by weights and of the evaluator.
-#[derive(Clone, Copy)]
-pub struct Weighed {
-    pub test: Answer,
-    pub answer: Answer,
-}
 
 // Tests the book by the weights, and expands the term: where every rule falls, its weight bounds the steps.
 pub fn expand_weighed(
@@ -28,7 +21,7 @@ pub fn expand_weighed(
     limit: u32,
     out: &mut [u16],
     work: &mut [u16],
-) -> Weighed
+) -> Tested
     ensures tested { result.test ≡ weights_answer book.now weights.now }
     ensures expanded { answer_and_buffers result.answer out.new work.new
         ≡ expansion book.now term.now (unrecorded limit) out.old work.old }
@@ -36,9 +29,9 @@ pub fn expand_weighed(
         (answer_and_buffers result.answer out.new work.new) }
 {
     let s = scan_book(book);
-    let test = test(book, s, weights);
-    let answer = expand_scanned(book, s, term, limit, out, work);
-    Weighed { test, answer }
+    let test = test(&s, weights);
+    let answer = expand_scanned(&s, term, limit, out, work);
+    Tested { test, answer }
 }
 
 // The same with a record of the steps.
@@ -50,7 +43,7 @@ pub fn expand_weighed_recorded(
     out: &mut [u16],
     work: &mut [u16],
     record: &mut [u16],
-) -> Weighed
+) -> Tested
     ensures tested { result.test ≡ weights_answer book.now weights.now }
     ensures expanded { answer_and_buffers result.answer out.new work.new
         ≡ expansion book.now term.now (recorded limit (length «record».old))
@@ -61,13 +54,13 @@ pub fn expand_weighed_recorded(
         (recorded limit (length «record».old)) (answer_and_buffers result.answer out.new work.new) }
 {
     let s = scan_book(book);
-    let test = test(book, s, weights);
+    let test = test(&s, weights);
     let bounds = Bounds {
         limit,
         recorded: true,
     };
-    let answer = expand_within(book, s, term, bounds, out, work, record);
-    Weighed { test, answer }
+    let answer = expand_within(&s, term, bounds, out, work, record);
+    Tested { test, answer }
 }
 
 // Tests the book by the weights, and expands the term with its own weight as the step limit, which is then never used up.
@@ -77,7 +70,7 @@ pub fn expand_by_weight(
     term: &[u16],
     out: &mut [u16],
     work: &mut [u16],
-) -> Weighed
+) -> Tested
     ensures tested { result.test ≡ weights_answer book.now weights.now }
     ensures expanded { answer_and_buffers result.answer out.new work.new
         ≡ expansion book.now term.now (unrecorded (weight_limit weights.now term.now))

@@ -2,7 +2,8 @@
 use Prim.Native.Nat.{ℕ, zero, suc, ◌+◌, ◌≤◌, ◌<◌}
 use native.Mathlib.Omega.{arith}
 use native.Mathlib.Decide.{dec_lt, ℕ_discrete}
-use mathlib.Core.Path.{◌≡◌, refl, sym, ap, ◌∙◌}
+use mathlib.Core.Path.{◌≡◌, refl, sym, ap, ◌∙◌, subst}
+use Rattle.std.specs.Prelude.{Result, Ok, Err, IsErrAnd}
 use mathlib.Core.Bool.{Bool, true, false, cond}
 use mathlib.Core.List.{List, ◌++◌}
 use lib.ListN.{length, drop, length-append, length-drop}
@@ -12,23 +13,25 @@ use Rattle.system.specs.Limits.{area_words, term_words}
 use Rattle.buffers.specs.Words.{over, zeros}
 use Rattle.buffers.proofs.Zeros.{length-zeros}
 use Rattle.system.specs.declared.Answer.{Answer}
-use Rattle.reader.specs.declared.Shape.{Shape}
 use Rattle.system.specs.Terms.{Whole, WellFormed}
 use Rattle.reader.specs.Parser.{read, ok}
-use Rattle.reader.specs.Answers.{shape_of, term_answer}
+use Rattle.reader.specs.Answers.{term_answer}
 use Rattle.reader.proofs.Accepts.{read-sound}
 use Rattle.terms.proofs.Answering as answering
 use Rattle.system.proofs.TermChecks.{fault-whole}
-use Rattle.reader.specs.Book.{system_of, Accepted}
+use Rattle.reader.specs.Book.{system_of}
 use Rattle.rows.proofs.lengths.Measures.{words-length}
 use Rattle.rows.specs.declared.gap.Gap.{Gap}
 use Rattle.rows.specs.Rows.{closed, term_in, Lies}
 use Rattle.rows.specs.gap.Gaps.{words_in}
 use Rattle.rewriting.specs.Evaluation.{Limits, Outcome, finished, stopped, evaluation}
+use Rattle.system.specs.Numbers.{limit_number}
+use Rattle.system.specs.declared.numbers.Limit.{Limit}
 use Rattle.runs.specs.declared.run.RunResult.{RunResult}
-use Rattle.runs.specs.run.RunResult.{outcome_number, left, Ran}
+use Rattle.runs.specs.run.RunResult.{Hands, Ran}
 use Rattle.records.specs.recording.Kept.{kept}
 use Rattle.evaluation.specs.Expansion.{Expansion, answer_and_buffers, expansion_of, room, earlier, checked, after_checks, record_after}
+use Rattle.evaluation.specs.scanned.Checked.{Checked}
 use Rattle.rewriting.specs.Evaluation.{trace_of}
 use Rattle.rewriting.specs.Trace.{keep}
 
@@ -52,9 +55,6 @@ checks book term e =
 module _ (book term : List ℕ) (c : Checks book term) where
   pub checks-well : WellFormed (system_of book)
   checks-well = (read-sound book c.accepted).0
-
-  pub checks-accepted : (shape : Shape) → shape ≡ shape_of (read book) → Accepted book shape
-  checks-accepted shape e = record { accepted = c.accepted; shaped = e }
 
 -- ---- the checks of the evaluator
 
@@ -84,6 +84,15 @@ earlier-first a b bad = go a.number refl
 pub earlier-second : (a b : Answer) → a.number ≡ 0 → earlier a b ≡ b
 unfolding earlier
 earlier-second a b e = rw (e, earlier)
+
+-- of two checks the first that refuses
+pub earlier-refused : (a b : Answer) {e : Answer} → e ≡ a → (e.number ≡ 0 → ⊥) → e ≡ earlier a b
+earlier-refused a b q bad = q ∙ sym (earlier-first a b (λ z. bad (ap (λ w. w.number) q ∙ z)))
+
+-- what `?` hands on is what a check refused
+pub handed_on : {T : Type 0} {a : Answer} (o : Result T Answer) {e : Answer} → IsErrAnd o (λ x. x ≡ e) → e ≡ a → (e.number ≡ 0 → ⊥) → Checked a o
+handed_on (Ok _) h q bad = absurd h
+handed_on (Err x) h q bad = (h ∙ q, λ z. bad (sym (ap (λ y. y.number) h) ∙ z))
 
 -- what passes the checks
 pub record Passed (book term out work : List ℕ) : Type 0 where
@@ -195,6 +204,13 @@ module _ (b : Bool) (book term : List ℕ) (limits : Limits) (out work words : L
 pub same-result : {r r' : Answer} {out out' work work' : List ℕ} → r ≡ r' → out ≡ out' → work ≡ work' → answer_and_buffers r out work ≡ answer_and_buffers r' out' work'
 same-result p q s i = answer_and_buffers (p i) (q i) (s i)
 
+pub ran-lies : {o : Outcome} {e : RunResult} {ws : List ℕ} → Ran o e ws → {gap : Gap} → e.outcome ≡ Ok gap → Lies gap
+ran-lies {o} {e} {ws} h {gap} is = go o (subst (λ r. Hands o r ws) is h.hands)
+  where
+    go : (o : Outcome) → Hands o (Ok gap) ws → Lies gap
+    go (finished r) z = z.0
+    go (stopped n k) z = absurd z
+
 -- the area is lent as the first words of the work buffer; what stands behind it is as it was
 module _ (work ws : List ℕ) (room : area_words ≤ length work) (size : length ws ≡ area_words) where
   abbrev whole : List ℕ
@@ -218,16 +234,23 @@ module _ (work ws : List ℕ) (room : area_words ≤ length work) (size : length
   pub whole_words : {t : List ℕ} {gap : Gap} → Lies gap → term_in ws gap ≡ t → (words_in gap ≡ length t) × (term_in whole gap ≡ t)
   whole_words {gap = gap} l e = (sym (words-length {ws = ws} {gap = gap} (record { room = omega arith; lies = l })) ∙ ap length e, whole-term gap ∙ e)
 
-  -- the end: the numbers, the answer buffer and the work buffer
-  pub finishes : (o : Outcome) (e : RunResult) (out : List ℕ) → Ran o e ws →
-      answer_and_buffers (record { number = e.number; place = words_in e.gap; steps = e.steps }) (over out 0 (term_in whole e.gap)) (over whole 0 (zeros area_words))
-      ≡ expansion_of out work o
-  finishes o e out h =
-      let w = whole_words h.lies h.words in
-      same-result (λ i. record { number = h.number i; place = w.0 i; steps = h.steps i }) (ap (over out 0) w.1) whole-zeroed ∙ told o
+  -- the end: the numbers, the answer buffer and the work buffer, by what the run hands on
+  pub finishes : {o : Outcome} {e : RunResult} (out : List ℕ) → Ran o e ws → {gap : Gap} → e.outcome ≡ Ok gap →
+      answer_and_buffers (record { number = 0; place = words_in gap; steps = e.steps }) (over out 0 (term_in whole gap)) (over whole 0 (zeros area_words)) ≡ expansion_of out work o
+  finishes {o} {e} out h {gap} is = go o (subst (λ r. Hands o r ws) is h.hands) h.steps
     where
-      told : (o : Outcome) →
-          answer_and_buffers (record { number = outcome_number o; place = length (left o); steps = length (trace_of o) }) (over out 0 (left o)) (over work 0 (zeros area_words))
-          ≡ expansion_of out work o
-      told (finished r) = refl
-      told (stopped n k) = refl
+      go : (o : Outcome) → Hands o (Ok gap) ws → e.steps ≡ length (trace_of o) →
+          answer_and_buffers (record { number = 0; place = words_in gap; steps = e.steps }) (over out 0 (term_in whole gap)) (over whole 0 (zeros area_words)) ≡ expansion_of out work o
+      go (finished r) z k =
+          let w = whole_words z.0 z.1 in
+          same-result (λ i. record { number = 0; place = w.0 i; steps = k i }) (ap (over out 0) w.1) whole-zeroed
+      go (stopped n t) z k = absurd z
+
+  pub stops : {o : Outcome} {e : RunResult} (out : List ℕ) → Ran o e ws → {l : Limit} → e.outcome ≡ Err l →
+      answer_and_buffers (record { number = limit_number l; place = 0; steps = e.steps }) out (over whole 0 (zeros area_words)) ≡ expansion_of out work o
+  stops {o} {e} out h {l} is = go o (subst (λ r. Hands o r ws) is h.hands) h.steps
+    where
+      go : (o : Outcome) → Hands o (Err l) ws → e.steps ≡ length (trace_of o) →
+          answer_and_buffers (record { number = limit_number l; place = 0; steps = e.steps }) out (over whole 0 (zeros area_words)) ≡ expansion_of out work o
+      go (finished r) z k = absurd z
+      go (stopped n t) z k = same-result (λ i. record { number = limit_number (z i); place = 0; steps = k i }) refl whole-zeroed

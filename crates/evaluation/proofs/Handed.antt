@@ -6,7 +6,9 @@ use mathlib.Core.List.{List}
 use lib.ListN.{length}
 use lib.Seq.{length-sets}
 use Rattle.system.specs.Limits.{area_words, term_words}
-use Rattle.system.specs.Numbers.{Limit, spent, overlong, nested, full, limit_number}
+use Rattle.system.specs.Numbers.{limit_number}
+use Rattle.system.specs.declared.numbers.Limit.{Limit}
+use Rattle.system.specs.declared.numbers.Limit.TheVariants.{Spent, Overlong, Nested, Full}
 use Rattle.reader.specs.Answers.{term_answer}
 use Rattle.reader.specs.Book.{system_of}
 use Rattle.rewriting.specs.Evaluation.{Limits, Config, steps, Outcome, finished, stopped, evaluation}
@@ -18,10 +20,10 @@ use Rattle.evaluation.proofs.Expanding.{Checks, checks, checks-well, Course, nar
 
 -- no limit has number 0
 pub limit-number : (n : Limit) → 11 ≤ limit_number n
-limit-number spent = omega arith
-limit-number overlong = omega arith
-limit-number nested = omega arith
-limit-number full = omega arith
+limit-number Spent = omega arith
+limit-number Overlong = omega arith
+limit-number Nested = omega arith
+limit-number Full = omega arith
 
 module _ (book term : List ℕ) (limits : Limits) (out work : List ℕ) where
   -- a term is handed back: the checks passed and the evaluation ended within its limits

@@ -2,7 +2,8 @@
 use Rattle.std.specs.Prelude.{ℕ, zero, suc, true, false, ◌&&◌, List, length, take, leb}
 use Rattle.buffers.specs.Words.{over, zeros}
 use Rattle.system.specs.declared.Answer.{Answer}
-use Rattle.system.specs.Numbers.{taken, cramped, number_of, limit_number}
+use Rattle.system.specs.Numbers.{number_of, limit_number}
+use Rattle.system.specs.declared.numbers.Verdict.TheVariants.{Taken, Cramped}
 use Rattle.reader.specs.Answers.{term_answer}
 use Rattle.reader.specs.Book.{system_of}
 use Rattle.rewriting.specs.Trace.{keep}
@@ -24,7 +25,7 @@ answer_and_buffers r out work = record { numbers = r; answer = out; work = work 
 -- 02, F-5: "Number 10 and the zeroing use 12,288 for the work buffer".
 abbrev pub expansion_of : List ℕ → List ℕ → Outcome → Expansion
 expansion_of out work (finished r) =
-    answer_and_buffers (record { number = number_of taken; place = length r.term; steps = steps r }) (over out 0 r.term)
+    answer_and_buffers (record { number = number_of Taken; place = length r.term; steps = steps r }) (over out 0 r.term)
     (over work 0 (zeros area_words))
 expansion_of out work (stopped n h) =
     answer_and_buffers (record { number = limit_number n; place = 0; steps = length h }) out (over work 0 (zeros area_words))
@@ -33,8 +34,8 @@ expansion_of out work (stopped n h) =
 unfoldable pub room : ℕ → ℕ → Answer
 room out work =
     elim (leb term_words out && leb area_words work) [
-      | true ↦ record { number = number_of taken; place = 0; steps = 0 }
-      | false ↦ record { number = number_of cramped; place = 0; steps = 0 }
+      | true ↦ record { number = number_of Taken; place = 0; steps = 0 }
+      | false ↦ record { number = number_of Cramped; place = 0; steps = 0 }
     ]
 
 -- of two checks the first that refuses

@@ -1,2 +1,3 @@
 -- What the evaluator (01: the expander) answers
 pub mod Expansion
+pub mod scanned

@@ -21,8 +21,7 @@ pub fn expand(book: &[u16], term: &[u16], limit: u32, out: &mut [u16], work: &mu
     ensures { answer_and_buffers result out.new work.new
         ≡ expansion book.now term.now (unrecorded limit) out.old work.old }
 {
-    let s = scan_book(book);
-    scanned::expand_scanned(book, s, term, limit, out, work)
+    scanned::expand_scanned(&scan_book(book), term, limit, out, work)
 }
 
 // The same, and tells each step in a record that is lent: two words for each, its index in the whole term before it and the number of its
@@ -42,10 +41,9 @@ pub fn expand_recorded(
     ensures told { «record».new ≡ record_after book.now term.now (recorded limit (length «record».old))
         out.old work.old «record».old }
 {
-    let s = scan_book(book);
     let bounds = Bounds {
         limit,
         recorded: true,
     };
-    scanned::expand_within(book, s, term, bounds, out, work, record)
+    scanned::expand_within(&scan_book(book), term, bounds, out, work, record)
 }

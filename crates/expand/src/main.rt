@@ -6,16 +6,15 @@ mod report;
 
 use files::checks::BOOK_BYTES;
 use files::reading::read_file;
+use printing::Page;
 use std::io;
 
 fn main(rt: HostRuntime) -> io::Result<()> {
-    let mut book = [0u8; BOOK_BYTES + 1];
-    let b = read_file(&rt, b"show.book", &mut book);
-    let mut cue = [0u8; report::CUE_BYTES + 1];
-    let c = read_file(&rt, b"show.cue", &mut cue);
-    let mut text = [0u8; report::TEXT_BYTES];
-    let n = b.size;
-    let m = c.size;
-    let size = report::report(b.there, &book[0..n], c.there, &cue[0..m], &mut text);
-    rt.write_all(&text[0..size])
+    let mut buffer = [0u8; BOOK_BYTES + 1];
+    let book = read_file(&rt, "show.book", &mut buffer);
+    let mut buffer = [0u8; report::CUE_BYTES + 1];
+    let cue = read_file(&rt, "show.cue", &mut buffer);
+    let mut page = Page::<{ report::TEXT_BYTES }>::new();
+    report::report(book, cue, &mut page);
+    rt.write_all(page.as_bytes())
 }

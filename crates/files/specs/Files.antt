@@ -1,5 +1,6 @@
 -- A file of words as a program finds it, and its checks (01, "The program").
-use Rattle.std.specs.Prelude.{ℕ, ◌%◌, Bool, true, false, cond, List, length, ltb, eqb}
+use Rattle.std.specs.Prelude.{ℕ, ◌%◌, cond, Option, Some, None, List, length, ltb, eqb}
+use Rattle.std.specs.Borrow.{Bor}
 use Rattle.printing.specs.Text.{ascii}
 use Rattle.files.specs.Words.{words_of}
 
@@ -8,9 +9,10 @@ pub data File : Type 0 where
   absent : File
   bytes : List ℕ → File
 
-abbrev pub file_of : Bool → List ℕ → File
-file_of false bs = absent
-file_of true bs = bytes bs
+-- what the code has of it: nothing, or its bytes
+abbrev pub file_of : Option (Bor (List ℕ)) → File
+file_of None = absent
+file_of (Some bs) = bytes bs.now
 
 -- the most bytes of a book: "`long` (over 42,502 .. bytes)"
 abbrev pub book_bytes : ℕ

@@ -1,7 +1,9 @@
 -- What 02 (F-8) asks of the sort test and the evaluator together, without and with a record: "a well-kinded cue stays so, and keeps its kind, at
 -- every step".
 use Rattle.std.specs.Prelude.{ℕ, ◌≡◌, List, length}
-use Rattle.system.specs.Numbers.{Limit, taken, number_of, limit_number}
+use Rattle.system.specs.Numbers.{number_of, limit_number}
+use Rattle.system.specs.declared.numbers.Limit.{Limit}
+use Rattle.system.specs.declared.numbers.Verdict.TheVariants.{Taken}
 use Rattle.system.specs.System.{head}
 use Rattle.system.specs.Terms.{Whole}
 use Rattle.reader.specs.Book.{system_of}
@@ -23,7 +25,7 @@ pub record Kept (book : List ℕ) (ks : Sorts) (term : List ℕ) (limits : Limit
   -- "at every step": with any rule that matches, built-in ones too, at any position, active or not
   pub stays : (n : ℕ) (t : List ℕ) → AnySteps (system_of book) n term t → SameSort book ks term t
   -- so the term that is handed back
-  pub handed : x.numbers.number ≡ number_of taken → SameSort book ks term (handed_back x)
+  pub handed : x.numbers.number ≡ number_of Taken → SameSort book ks term (handed_back x)
   -- and where a limit stops it (11, 12, 13, or 16 where a record is lent), the term to which the steps reported lead
   pub reached : (l : Limit) → x.numbers.number ≡ limit_number l →
       (h : Trace) × (d : Stopped (system_of book) limits term l h) × (x.numbers.steps ≡ length h) × SameSort book ks term d.last

@@ -8,18 +8,11 @@ ghost use Rattle.sort_test.specs.SortTest.{sorts_answer};
 ghost use Rattle.evaluation.specs.Expansion.{answer_and_buffers, expansion, record_after};
 ghost use Rattle.keeping.specs.Kept.{IsKept};
 
+use demands::Tested;
 use evaluation::scanned::{expand_scanned, expand_within};
 use reader::scan::scan_book;
 use records::recording::Bounds;
 use sort_test::testing::test;
-use system::Answer;
-
-// The answers of the sort test and of the evaluator.
-#[derive(Clone, Copy)]
-pub struct Kinded {
-    pub test: Answer,
-    pub answer: Answer,
-}
 
 // Tests book and term by the list of sorts, and expands the term: where they passed, every step keeps a term well-sorted and of its sort, so what is
 // handed back is, and where a limit stops it, the term that was reached.
@@ -30,7 +23,7 @@ pub fn expand_kinded(
     limit: u32,
     out: &mut [u16],
     work: &mut [u16],
-) -> Kinded
+) -> Tested
     ensures tested { result.test ≡ sorts_answer book.now term.now kinds.now }
     ensures expanded { answer_and_buffers result.answer out.new work.new
         ≡ expansion book.now term.now (unrecorded limit) out.old work.old }
@@ -38,9 +31,9 @@ pub fn expand_kinded(
         (answer_and_buffers result.answer out.new work.new) }
 {
     let s = scan_book(book);
-    let test = test(book, s, term, kinds);
-    let answer = expand_scanned(book, s, term, limit, out, work);
-    Kinded { test, answer }
+    let test = test(&s, term, kinds);
+    let answer = expand_scanned(&s, term, limit, out, work);
+    Tested { test, answer }
 }
 
 // The same with a record of the steps.
@@ -52,7 +45,7 @@ pub fn expand_kinded_recorded(
     out: &mut [u16],
     work: &mut [u16],
     record: &mut [u16],
-) -> Kinded
+) -> Tested
     ensures tested { result.test ≡ sorts_answer book.now term.now kinds.now }
     ensures expanded { answer_and_buffers result.answer out.new work.new
         ≡ expansion book.now term.now (recorded limit (length «record».old))
@@ -63,11 +56,11 @@ pub fn expand_kinded_recorded(
         (recorded limit (length «record».old)) (answer_and_buffers result.answer out.new work.new) }
 {
     let s = scan_book(book);
-    let test = test(book, s, term, kinds);
+    let test = test(&s, term, kinds);
     let bounds = Bounds {
         limit,
         recorded: true,
     };
-    let answer = expand_within(book, s, term, bounds, out, work, record);
-    Kinded { test, answer }
+    let answer = expand_within(&s, term, bounds, out, work, record);
+    Tested { test, answer }
 }

@@ -17,10 +17,9 @@ use Rattle.reader.proofs.Accepts.{read-sound}
 use Rattle.system.proofs.Forests.{forest-length}
 use Rattle.system.proofs.Members.{member-get_or, numbered_below}
 use Rattle.reader.proofs.Located.{Located, located, read-signature, RuleAt, rule-at}
-use Rattle.layout.specs.declared.rules.RuleSpan.{RuleSpan}
 use Rattle.reader.specs.Book.{system_of, Accepted}
 pub use Rattle.layout.specs.index.Accepted.{RulesAt as Rest}
-use Rattle.layout.specs.rules.Rules.{rule_end, rule_span}
+use Rattle.layout.specs.rules.Rules.{RuleSpan, rule_end, rule_span}
 
 -- rule number k stands at p
 pub record Here (b : List ℕ) (k at : ℕ) (p : RuleSpan) : Type 0 where

@@ -1,12 +1,14 @@
 // Where the strategies and the rules stand in a book, and the rules by the first words of their left sides: an index, made once per call.
-ghost use Rattle.std.specs.Prelude.{◌≡◌, ◌≤◌, ◌<◌, length};
-ghost use Rattle.reader.specs.Book.{system_of, Accepted};
-ghost use Rattle.layout.specs.index.Accepted.{StrategyAt, RulesAt};
-ghost use Rattle.layout.specs.rules.Rules.{rule_end};
-ghost use Rattle.layout.specs.index.Index.{index_words, bucket, rule_from, rule_after, Emptied, Indexing, Indexed};
+ghost use Rattle.std.specs.Prelude.{◌≡◌, ◌≤◌, ◌<◌, IfSome};
+ghost use Rattle.system.specs.System.{strategy, rule};
+ghost use Rattle.reader.specs.Book.{system_of};
+ghost use Rattle.layout.specs.listed.Listed.{rule_of};
+ghost use Rattle.layout.specs.index.Index.{bucket, rule_from, rule_after, RuleNumber, StrategiesNoted, RulesNoted, Linked, Indexed};
 
+use crate::listed::{Rule, rules_of};
 use crate::rules::rule_at;
-use reader::Shape;
+use crate::strategies::strategies_of;
+use reader::book::Book;
 use system::limits::{MAX_RULES, MAX_SYMBOLS};
 use system::words::wide;
 
@@ -15,108 +17,127 @@ const BUCKETS: usize = 64;
 
 // The words of an index: where each strategy stands, where each rule stands, the first rule of each bucket, and the rule that follows each in its
 // bucket. No accepted book is so long that an index into it is not a word.
-pub const RULE_STARTS: usize = MAX_SYMBOLS;
+#[derive(Drop)]
+pub struct Places {
+    strategies: [u16; MAX_SYMBOLS],
+    rules: [u16; MAX_RULES],
+    firsts: [u16; BUCKETS],
+    nexts: [u16; MAX_RULES],
+}
 
-const FIRST_RULES: usize = RULE_STARTS + MAX_RULES;
+impl Places {
+    pub const EMPTY: Places = Places {
+        strategies: [0; MAX_SYMBOLS],
+        rules: [0; MAX_RULES],
+        firsts: [0; BUCKETS],
+        nexts: [0; MAX_RULES],
+    };
+}
 
-const NEXT_RULES: usize = FIRST_RULES + BUCKETS;
+// A book with its index.
+#[derive(Clone, Copy)]
+pub struct Index<'a> {
+    pub book: Book<'a>,
+    places: &'a Places,
+    ghost indexed: { Indexed book.words.now book.shape places.now },
+}
 
-pub const INDEX: usize = NEXT_RULES + MAX_RULES;
-
-// Every list starts at its end.
-fn empty_lists(index: &mut [u16], end: u16)
-    requires { length index.old ≡ index_words }
-    ensures { Emptied index.new end }
+// Notes where each strategy stands.
+fn note_strategies(book: &Book<'_>, strategies: &mut [u16; MAX_SYMBOLS])
+    ensures { StrategiesNoted book.now.words.now book.now.shape.symbols strategies.new }
 {
-    let mut b = 0;
-    while b < BUCKETS {
-        index[FIRST_RULES + b] = end;
-        b += 1;
+    for (f, strategy) in strategies_of(book).enumerate() {
+        strategies[f] = strategy.at as u16;
     }
 }
 
-// Walks over the strategies and notes where each stands.
-fn note_strategies(book: &[u16], shape: Shape, index: &mut [u16])
-    requires { Accepted book.now shape × Indexing book.now index.old 0 0 shape.rules }
-    ensures { Indexing book.now index.new shape.symbols 0 shape.rules }
+// Notes where each rule stands.
+fn note_rules(book: &Book<'_>, rules: &mut [u16; MAX_RULES])
+    ensures { RulesNoted book.now.words.now book.now.shape.rules rules.new }
 {
-    let mut at = shape.strategies;
-    let mut f = 0;
-    while f < shape.symbols {
-        index[f] = at as u16;
-        at = at + 1 + wide(book[at]);
-        f += 1;
+    for (k, rule) in rules_of(book).enumerate() {
+        rules[k] = rule.at as u16;
     }
 }
 
-// Walks over the rules and notes where each stands.
-fn note_rules(book: &[u16], shape: Shape, index: &mut [u16])
-    requires { Accepted book.now shape × Indexing book.now index.old shape.symbols 0 shape.rules }
-    ensures { Indexing book.now index.new shape.symbols shape.rules shape.rules }
+// Puts each rule, the last one first, in front of its bucket's list; every list starts at its end.
+fn link_rules(
+    book: &Book<'_>,
+    rules: &[u16; MAX_RULES],
+    firsts: &mut [u16; BUCKETS],
+    nexts: &mut [u16; MAX_RULES],
+)
+    requires { RulesNoted book.now.words.now book.now.shape.rules rules.now }
+    ensures { Linked book.now.words.now 0 firsts.new nexts.new }
 {
-    let mut at = shape.first_rule;
-    let mut k = 0;
-    while k < shape.rules {
-        index[RULE_STARTS + k] = at as u16;
-        let r = rule_at(book, at);
-        at = r.next;
-        k += 1;
+    firsts.fill(book.shape.rules as u16);
+    for k in (0..book.shape.rules).rev() {
+        let rule = rule_at(book, wide(rules[k]));
+        let first = wide(rule.lhs[0]) % BUCKETS;
+        nexts[k] = firsts[first];
+        firsts[first] = k as u16;
     }
 }
 
-// Puts each rule, the last one first, in front of its bucket's list.
-fn link_rules(book: &[u16], shape: Shape, index: &mut [u16])
-    requires { Accepted book.now shape × Indexing book.now index.old shape.symbols shape.rules shape.rules }
-    ensures { Indexed book.now shape index.new }
+// Writes the index of a book.
+pub fn build_index<'a>(book: &Book<'a>, places: &'a mut Places) -> Index<'a>
+    ensures { result.book ≡ book.now }
 {
-    let mut k = shape.rules;
-    while 0 < k {
-        k -= 1;
-        let lhs = wide(index[RULE_STARTS + k]) + 1;
-        let first = FIRST_RULES + wide(book[lhs]) % BUCKETS;
-        index[NEXT_RULES + k] = index[first];
-        index[first] = k as u16;
+    note_strategies(book, &mut places.strategies);
+    note_rules(book, &mut places.rules);
+    link_rules(book, &places.rules, &mut places.firsts, &mut places.nexts);
+    Index {
+        book: *book,
+        places,
     }
 }
 
-pub fn build_index(book: &[u16], shape: Shape, index: &mut [u16])
-    requires { Accepted book.now shape × (length index.old ≡ index_words) }
-    ensures { Indexed book.now shape index.new }
-{
-    empty_lists(index, shape.rules as u16);
-    note_strategies(book, shape, index);
-    note_rules(book, shape, index);
-    link_rules(book, shape, index);
-}
+impl<'a> Index<'a> {
+    // The entries of the strategy of symbol f.
+    pub fn entries_of(&self, f: usize) -> &'a [u16]
+        requires { f < self.now.book.shape.symbols }
+        ensures { result.now ≡ strategy (system_of self.now.book.words.now) f }
+    {
+        let at = wide(self.places.strategies[f]);
+        let first = at + 1;
+        let end = first + wide(self.book.words[at]);
+        &self.book.words[first..end]
+    }
 
-// The index at which the strategy of symbol f stands in the book: its length, and its entries after it.
-pub fn strategy_at(book: &[u16], shape: Shape, index: &[u16], f: usize) -> usize
-    requires { Accepted book.now shape × Indexed book.now shape index.now × (f < shape.symbols) }
-    ensures { StrategyAt book.now f result }
-{
-    wide(index[f])
-}
+    // Rule k.
+    pub fn rule(&self, k: usize) -> Rule<'a>
+        requires { k < self.now.book.shape.rules }
+        ensures { rule_of result ≡ rule (system_of self.now.book.words.now) k }
+    {
+        let at = wide(self.places.rules[k]);
+        rule_at(&self.book, at)
+    }
 
-// The index at which rule k stands in the book, as `rule_at` takes it.
-pub fn rule_start(book: &[u16], shape: Shape, index: &[u16], k: usize) -> usize
-    requires { Accepted book.now shape × Indexed book.now shape index.now × (k < shape.rules) }
-    ensures { RulesAt book.now k result × (rule_end book.now result ≤ length book.now) }
-{
-    wide(index[RULE_STARTS + k])
-}
+    // The number of a rule that a word of the lists is; the number of rules, which ends a list, is none.
+    fn number(&self, word: u16) -> Option<usize>
+        requires { word ≤ self.now.book.shape.rules }
+        ensures { RuleNumber self.now.book.shape.rules word result }
+    {
+        let k = wide(word);
+        if k < self.book.shape.rules {
+            return Some(k);
+        }
+        None
+    }
 
-// The first rule whose left side may start with w: the first of the bucket of w; the number of rules where there is none.
-pub fn first_of(book: &[u16], shape: Shape, index: &[u16], w: u16) -> usize
-    requires { Accepted book.now shape × Indexed book.now shape index.now }
-    ensures { (result ≡ rule_from (system_of book.now) 0 (bucket w)) × (result ≤ shape.rules) }
-{
-    wide(index[FIRST_RULES + wide(w) % BUCKETS])
-}
+    // The first rule whose left side may start with w: the first of the bucket of w.
+    pub fn first_of(&self, w: u16) -> Option<usize>
+        ensures { RuleNumber self.now.book.shape.rules (rule_from (system_of self.now.book.words.now) 0 (bucket w)) result }
+    {
+        self.number(self.places.firsts[wide(w) % BUCKETS])
+    }
 
-// The next rule in the bucket of rule k; the number of rules where there is none.
-pub fn next_of(book: &[u16], shape: Shape, index: &[u16], k: usize) -> usize
-    requires { Accepted book.now shape × Indexed book.now shape index.now × (k < shape.rules) }
-    ensures { (result ≡ rule_after (system_of book.now) k) × (k < result) × (result ≤ shape.rules) }
-{
-    wide(index[NEXT_RULES + k])
+    // The next rule in the bucket of rule k.
+    pub fn next_of(&self, k: usize) -> Option<usize>
+        requires { k < self.now.book.shape.rules }
+        ensures number { RuleNumber self.now.book.shape.rules (rule_after (system_of self.now.book.words.now) k) result }
+        ensures later { IfSome result (λ n. k < n) }
+    {
+        self.number(self.places.nexts[k])
+    }
 }

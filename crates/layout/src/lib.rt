@@ -3,4 +3,6 @@
 
 pub mod entries;
 pub mod index;
-pub mod rules;
+pub mod listed;
+mod rules;
+pub mod strategies;

@@ -1,34 +1,29 @@
-// Where a rule stands in a book.
-ghost use Rattle.std.specs.Prelude.{◌≡◌, ◌≤◌, length};
-ghost use Rattle.layout.specs.rules.Rules.{rule_span, rule_end};
+// A rule where it stands in a book: a length and its left side, then a length and its right side.
+ghost use Rattle.std.specs.Prelude.{◌≡◌, ℕ, ◌<◌};
+ghost use Rattle.system.specs.System.{rule};
+ghost use Rattle.reader.specs.Book.{system_of};
+ghost use Rattle.layout.specs.index.Accepted.{RulesAt};
+ghost use Rattle.layout.specs.rules.Rules.{RuleStands};
+ghost use Rattle.layout.specs.listed.Listed.{rule_of};
 
+use crate::listed::Rule;
+use reader::book::Book;
 use system::words::wide;
 
-// A rule in the book: the index of the first word of each side, how many words each side has, and the index after the rule.
-#[derive(Clone, Copy)]
-pub struct RuleSpan {
-    pub lhs: usize,
-    pub width: usize,
-    pub rhs: usize,
-    pub size: usize,
-    pub next: usize,
-}
-
 // The rule whose first length stands at `at`.
-pub fn rule_at(book: &[u16], at: usize) -> RuleSpan
-    requires { rule_end book.now at ≤ length book.now }
-    ensures { result ≡ rule_span book.now at }
+pub fn rule_at<'a>(book: &Book<'a>, at: usize) -> Rule<'a>
+    requires { RuleStands book.now.words.now at }
+    ensures at { result.at ≡ at }
+    ensures sides { (k : ℕ) → k < book.now.shape.rules → RulesAt book.now.words.now k at → rule_of result ≡ rule (system_of book.now.words.now) k }
 {
-    let lhs = at + 1;
-    let width = wide(book[at]);
-    let second = lhs + width;
-    let size = wide(book[second]);
-    let rhs = second + 1;
-    RuleSpan {
-        lhs: lhs,
-        width: width,
-        rhs: rhs,
-        size: size,
-        next: rhs + size,
+    let words = book.words;
+    let first = at + 1;
+    let left = first + wide(words[at]);
+    let second = left + 1;
+    let end = second + wide(words[left]);
+    Rule {
+        at,
+        lhs: &words[first..left],
+        rhs: &words[second..end],
     }
 }

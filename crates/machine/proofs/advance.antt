@@ -10,5 +10,7 @@ pub mod Bounds
 pub mod Transitions
 pub mod Performing
 pub mod Trying
+pub mod Rounds
 pub mod Advancing
 pub mod Arriving
+pub mod Retrying

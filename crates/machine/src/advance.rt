@@ -1,21 +1,17 @@
 // The machine in an area of lent words: from a state to just before its next rewrite, without recursion.
 ghost use Rattle.std.specs.Prelude.{◌≡◌};
-ghost use Rattle.reader.specs.Book.{system_of, Accepted};
+ghost use Rattle.reader.specs.Book.{system_of};
 ghost use Rattle.rows.specs.Measured.{Measured};
-ghost use Rattle.machine.specs.declared.advance.Stop.TheVariants.{Ready};
 ghost use Rattle.machine.specs.advance.Area.{base_of, Tracks};
 ghost use Rattle.machine.specs.advance.Transition.{since_at, Performed};
 ghost use Rattle.machine.specs.advance.Arrivals.{Advances};
-ghost use Rattle.layout.specs.index.Index.{Indexed};
 
-use layout::entries::{Entry, entry_of};
-use matching::rules::UNNUMBERED;
-use reader::Shape;
+use layout::entries::Entry;
+use layout::index::Index;
 use redexes::search::{BINDINGS, Redex, Spot, first_redex};
 use rows::gap::{Gap, word_at};
 use rows::lengths::{COUNTS, hop};
 use system::limits::LEVELS;
-use system::words::wide;
 
 // How many levels stand around the deepest one.
 const DEEPEST: usize = LEVELS - 1;
@@ -30,24 +26,24 @@ pub struct State {
     pub level: usize,
 }
 
-// Where the machine came to: its end, an argument that would be opened from level 64, or a rewrite.
+// Where the machine came to: its end, an argument that would be opened from level 64, or a rewrite, by the rule that matches.
 #[derive(Clone, Copy)]
 pub enum Stop {
     Final,
     Deep,
-    Ready,
+    Ready(Redex),
 }
 
-// Where it came to, how many levels stand around the innermost one there, and if a rewrite is next the rule that matches.
+// Where it came to, and how many levels stand around the innermost one there.
 #[derive(Clone, Copy)]
 pub struct Advanced {
     pub stop: Stop,
     pub level: usize,
-    pub redex: Redex,
 }
 
 // What a transition came upon: the end of the innermost level's strategy, and the level was left; an entry that is repeated; entry 0: the
-// rules are to be tried; an argument, which was opened; or an argument that would be too deep.
+// rules are to be tried; an argument, which was opened; or an argument that would be too deep. That is one way on of five, each told apart in the
+// one match that reads it, so a Result with it for an error would be no plainer.
 #[derive(Clone, Copy)]
 enum Event {
     End,
@@ -69,42 +65,27 @@ struct Innermost {
 fn at_level(gap: Gap, level: usize, floor: usize, since: usize) -> Innermost
     ensures { result ≡ record { gap = gap; level = level; since = since_at floor since level } }
 {
-    let mut before = since;
-    if floor < level {
-        before = 0;
-    }
     Innermost {
         gap,
         level,
-        since: before,
+        since: if floor < level { 0 } else { since },
     }
 }
 
 // Takes the next entry of the innermost level's strategy, and counts it as begun. Nothing is changed where it would be too deep.
 // (measured) is 02, F-5: the lengths beside the words are "true after every step and every opened argument".
-fn take_transition(
-    book: &[u16],
-    shape: Shape,
-    index: &[u16],
-    area: &mut [u16],
-    frame: &mut [u16],
-    at: Innermost,
-) -> Event
-    requires { Accepted book.now shape × Indexed book.now shape index.now
-        × Tracks (system_of book.now) area.old frame.old at.gap (base_of frame.old) at.level }
-    ensures performed { Performed (system_of book.now) at (base_of frame.old) area.old frame.old result
+fn take_transition(index: &Index<'_>, area: &mut [u16], frame: &mut [u16], at: Innermost) -> Event
+    requires { Tracks (system_of index.now.book.words.now) area.old frame.old at.gap (base_of frame.old) at.level }
+    ensures performed { Performed (system_of index.now.book.words.now) at (base_of frame.old) area.old frame.old result
         area.new frame.new }
-    ensures measured { Measured (system_of book.now).arities area.new at.gap }
+    ensures measured { Measured (system_of index.now.book.words.now).arities area.new at.gap }
 {
-    let gap = at.gap;
-    let level = at.level;
-    let since = at.since;
-    let p = wide(frame[level]);
+    let Innermost { gap, level, since } = at;
+    let p = usize::from(frame[level]);
     let c = area[COUNTS + level];
     let begun = c + 1;
     let w = word_at(area, gap, p);
-    let e = entry_of(book, shape, index, w, since, wide(c));
-    match e {
+    match index.entry_of(w, since, usize::from(c)) {
         Entry::End => {
             return Event::End;
         }
@@ -134,76 +115,50 @@ fn take_transition(
 //
 // The term stays as it is, so an entry that was followed once in this run of transitions is passed over when it is repeated: `floor` is the
 // innermost level that was open before and has not been left, and `since` how many of its entries were begun before.
-pub fn advance(
-    book: &[u16],
-    shape: Shape,
-    index: &[u16],
-    area: &mut [u16],
-    frame: &mut [u16],
-    state: State,
-) -> Advanced
-    requires { Accepted book.now shape × Indexed book.now shape index.now
-        × Tracks (system_of book.now) area.old frame.old state.gap (base_of frame.old) state.level }
-    ensures advanced { Advances (system_of book.now) state (base_of frame.old) area.old result
+pub fn advance(index: &Index<'_>, area: &mut [u16], frame: &mut [u16], state: State) -> Advanced
+    requires { Tracks (system_of index.now.book.words.now) area.old frame.old state.gap (base_of frame.old) state.level }
+    ensures advanced { Advances (system_of index.now.book.words.now) state (base_of frame.old) area.old result
         area.new frame.new }
-    ensures measured { Measured (system_of book.now).arities area.new state.gap }
+    ensures measured { Measured (system_of index.now.book.words.now).arities area.new state.gap }
 {
-    let gap = state.gap;
-    let mut level = state.level;
+    let State { gap, mut level } = state;
     let mut floor = level;
-    let mut since = wide(area[COUNTS + level]);
+    let mut since = usize::from(area[COUNTS + level]);
     loop {
         let at = at_level(gap, level, floor, since);
-        let event = take_transition(book, shape, index, area, frame, at);
-        match event {
+        match take_transition(index, area, frame, at) {
             Event::Repeated => {}
             Event::Rules => {
-                let at = wide(frame[level]);
+                let at = usize::from(frame[level]);
                 let spot = Spot { gap, at };
-                let redex = first_redex(book, shape, index, area, spot, &mut frame[LEVELS..]);
-                if redex.number != UNNUMBERED {
-                    return ready(level, redex);
+                let found = first_redex(index, area, spot, &mut frame[LEVELS..]);
+                if let Some(redex) = found {
+                    return Advanced {
+                        stop: Stop::Ready(redex),
+                        level,
+                    };
                 }
             }
-            Event::Argument => {
-                level += 1;
-            }
+            Event::Argument => level += 1,
             Event::End => {
                 if level == 0 {
-                    return stopped(Stop::Final, level);
+                    return Advanced {
+                        stop: Stop::Final,
+                        level,
+                    };
                 }
                 level -= 1;
                 if level < floor {
                     floor = level;
-                    since = wide(area[COUNTS + level]);
+                    since = usize::from(area[COUNTS + level]);
                 }
             }
             Event::TooDeep => {
-                return stopped(Stop::Deep, level);
+                return Advanced {
+                    stop: Stop::Deep,
+                    level,
+                };
             }
         }
-    }
-}
-
-fn ready(level: usize, redex: Redex) -> Advanced
-    ensures { result ≡ record { stop = Ready; level = level; redex = redex } }
-{
-    Advanced {
-        stop: Stop::Ready,
-        level,
-        redex,
-    }
-}
-
-fn stopped(stop: Stop, level: usize) -> Advanced
-    ensures { (result.stop ≡ stop) × (result.level ≡ level) }
-{
-    Advanced {
-        stop,
-        level,
-        redex: Redex {
-            number: UNNUMBERED,
-            word: 0,
-        },
     }
 }

@@ -10,6 +10,7 @@ use mathlib.Core.Option.{Option, none, some}
 use mathlib.Core.List.{List, [], ◌∷◌, ◌++◌}
 use lib.ListN.{length, get_or, take, drop, set, length-append, length-drop, get_or-eq_default, get_or-append}
 use lib.Seq.{get_or_at, get_or-set_other, drop-cons}
+use Rattle.std.specs.Prelude.{None, Some}
 use Rattle.system.specs.Limits.{variable, variables}
 use Rattle.system.specs.Signature.{Signature, span, subterm}
 use Rattle.system.specs.System.{Rule, no_rule, instance}
@@ -20,7 +21,7 @@ use Rattle.reader.proofs.Located.{RuleAt, rule-encoded}
 use Rattle.system.proofs.words.SpanSteps.{span-le, span-some}
 use Rattle.matching.specs.Matching.{same_words, bind, Contraction, first_match}
 use Rattle.matching.specs.declared.Match.{Match}
-use Rattle.matching.specs.declared.FirstRule.TheVariants.{Nothing, First, Computed}
+use Rattle.matching.specs.declared.FirstRule.TheVariants.{First, Computed}
 use Rattle.matching.specs.Bindings.{Bindings, no_bindings, consumed, bindings, no_match, match_from, value, bindings_of, contraction_of}
 use Rattle.matching.specs.rules.Searches.{RightSideAt, Within}
 use Rattle.matching.proofs.Matched.{bind-nil, instance-cong}
@@ -194,7 +195,7 @@ module _ (b ws : List ℕ) where
   contraction-nothing = refl
 
   contraction-found : (k rhs size : ℕ) (a : Bindings) →
-      contraction_of b ws (record { rule = First k rhs size; starts = a.starts; lengths = a.lengths }) ≡ some (record { number = k; reduct = instance (value ws a) (take size (drop rhs b)) })
+      contraction_of b ws (record { rule = Some (First k rhs size); starts = a.starts; lengths = a.lengths }) ≡ some (record { number = k; reduct = instance (value ws a) (take size (drop rhs b)) })
   unfolding contraction_of
   contraction-found k rhs size a = refl
 
@@ -231,12 +232,12 @@ module _ (b ws : List ℕ) where
     -- what the search found: the first redex, with its right side and stretches
     pub record Answers (rs : List Rule) (k : ℕ) (m : Match) : Type 0 where
       pub contraction : contraction_of b ws m ≡ first_match g rs k ws
-      pub right : (n rhs size : ℕ) → m.rule ≡ First n rhs size → RightSideAt b rhs size
+      pub right : (n rhs size : ℕ) → m.rule ≡ Some (First n rhs size) → RightSideAt b rhs size
       pub within : Within ws m.starts m.lengths
-      pub chosen : (n rhs size : ℕ) → m.rule ≡ First n rhs size → Chosen rs k n (bindings_of m)
+      pub chosen : (n rhs size : ℕ) → m.rule ≡ Some (First n rhs size) → Chosen rs k n (bindings_of m)
       -- nothing is found that is not listed, and nothing is bound where nothing is found
-      pub listed : (n w : ℕ) → m.rule ≡ Computed n w → ⊥
-      pub nothing : m.rule ≡ Nothing → m ≡ no_match
+      pub listed : (n w : ℕ) → m.rule ≡ Some (Computed n w) → ⊥
+      pub nothing : m.rule ≡ None → m ≡ no_match
 
     answers-nothing : (k : ℕ) → Answers [] k no_match
     answers-nothing k = record {

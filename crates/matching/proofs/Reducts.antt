@@ -10,6 +10,7 @@ use mathlib.Core.List.{List, [], ◌∷◌, ◌++◌}
 use lib.ListN.{length, get_or, take, drop, length-append, drop_of_length-le}
 use lib.Seq.{drop-cons}
 use borrow.Author.Tests.{lt-ltb, le-ltb}
+use Rattle.std.specs.Prelude.{Option as Found, None, Some}
 use Rattle.reader.specs.declared.Shape.{Shape}
 use Rattle.system.specs.Limits.{variable}
 use Rattle.system.specs.BuiltIns.{literal, literals}
@@ -21,7 +22,7 @@ use Rattle.system.proofs.Signatures.{few-symbols, few-listed}
 use Rattle.system.proofs.Rules.{built-ground}
 use Rattle.matching.specs.declared.Match.{Match}
 use Rattle.matching.specs.declared.FirstRule.{FirstRule}
-use Rattle.matching.specs.declared.FirstRule.TheVariants.{Nothing, First, Computed}
+use Rattle.matching.specs.declared.FirstRule.TheVariants.{First, Computed}
 use Rattle.reader.specs.Book.{system_of, Accepted}
 use Rattle.matching.specs.Matching.{FirstMatch, Matches, bind, Contraction, contraction}
 use Rattle.matching.specs.Bindings.{Bindings, match_listed, match_of, value, bindings_of, contraction_of}
@@ -88,7 +89,7 @@ module _ (b : List ℕ) (sh : Shape) (acc : Accepted b sh) where
 
   module _ (ws : List ℕ) (m : Match) (e : m ≡ match_of s ws) where
     -- what was found of the listed rules
-    book-match : {n rhs size : ℕ} → m.rule ≡ First n rhs size → m ≡ match_listed s ws
+    book-match : {n rhs size : ℕ} → m.rule ≡ Some (First n rhs size) → m ≡ match_listed s ws
     book-match f = e ∙ match-listed b sh acc ws (ap (λ y. y.rule) (sym e) ∙ f)
 
     -- the stretches of its variables
@@ -99,21 +100,21 @@ module _ (b : List ℕ) (sh : Shape) (acc : Accepted b sh) where
     pub match-redex : contraction_of b ws m ≡ contraction s ws
     match-redex = ap (contraction_of b ws) e ∙ match-contraction b sh acc ws
 
-    pub match_none : m.rule ≡ Nothing → contraction s ws ≡ none
+    pub match_none : m.rule ≡ None → contraction s ws ≡ none
     unfolding contraction_of
     match_none f = sym match-redex ∙ rw (f, contraction_of)
 
-    pub match-some : {n rhs size : ℕ} → m.rule ≡ First n rhs size →
+    pub match-some : {n rhs size : ℕ} → m.rule ≡ Some (First n rhs size) →
         contraction s ws ≡ some (record { number = n; reduct = instance (value ws (bindings_of m)) (take size (drop rhs b)) })
     unfolding contraction_of
     match-some f = sym match-redex ∙ rw (f, contraction_of)
 
-    pub match-word : {k w : ℕ} → m.rule ≡ Computed k w → contraction s ws ≡ some (record { number = k; reduct = w ∷ [] })
+    pub match-word : {k w : ℕ} → m.rule ≡ Some (Computed k w) → contraction s ws ≡ some (record { number = k; reduct = w ∷ [] })
     unfolding contraction_of
     match-word f = sym match-redex ∙ rw (f, contraction_of)
 
     -- what a built-in rule puts there is a literal
-    pub match-literal : {k w : ℕ} → m.rule ≡ Computed k w → (literal ≤ w) × (w < literal + literals)
+    pub match-literal : {k w : ℕ} → m.rule ≡ Some (Computed k w) → (literal ≤ w) × (w < literal + literals)
     match-literal f = computed-literal ws (match-computed b sh acc ws (ap (λ y. y.rule) (sym e) ∙ f)).1
 
   -- ---- over a whole subterm u, wherever it stands: a ++ (u ++ d), and ws the words from it on
@@ -123,7 +124,7 @@ module _ (b : List ℕ) (sh : Shape) (acc : Accepted b sh) where
     same-redex = match-redex (u ++ d) m e ∙ contraction-rest s (well b sh acc) whole d
 
     -- nothing is found: no rule matches
-    pub nothing-matches : m.rule ≡ Nothing → (k : ℕ) (r : Rule) → RuleOf s k r → Matches s.arities (a ++ (u ++ d)) (length a) r → ⊥
+    pub nothing-matches : m.rule ≡ None → (k : ℕ) (r : Rule) → RuleOf s k r → Matches s.arities (a ++ (u ++ d)) (length a) r → ⊥
     nothing-matches f = unfired s (well b sh acc) whole a d (sym (contraction-rest s (well b sh acc) whole d) ∙ match_none (u ++ d) m e f)
 
     -- a rule is found: it matches, none of a lower number does, and the substitution makes the instance, which is whole
@@ -131,7 +132,7 @@ module _ (b : List ℕ) (sh : Shape) (acc : Accepted b sh) where
     first_matches x f = fired s (well b sh acc) whole a d x (sym same-redex ∙ f)
 
     -- what the left side of a listed rule is bound to
-    module _ {n rhs size : ℕ} (f : m.rule ≡ First n rhs size) where
+    module _ {n rhs size : ℕ} (f : m.rule ≡ Some (First n rhs size)) where
       abbrev c : Chosen b (u ++ d) (signature_of b) s.rules 0 n (bindings_of (match_listed s (u ++ d)))
       c = (found b sh acc (u ++ d)).chosen n rhs size (ap (λ y. y.rule) (sym (book-match (u ++ d) m e f)) ∙ f)
 
@@ -147,14 +148,14 @@ module _ (b : List ℕ) (sh : Shape) (acc : Accepted b sh) where
           ap (λ y. bind y (rule s n).lhs (u ++ d) []) (signature b sh acc) ∙ subst (λ y. bind (signature_of b) (rule s y).lhs (u ++ d) [] ≡ some c.σ) i c.bound
 
     -- a built-in rule that is found has the subterm for its left side: an operator and its arguments
-    built : {k w : ℕ} → m.rule ≡ Computed k w → Redex s.arities (few-listed s (well b sh acc)) u (record { number = k; word = w })
+    built : {k w : ℕ} → m.rule ≡ Some (Computed k w) → Redex s.arities (few-listed s (well b sh acc)) u (record { number = k; word = w })
     built f =
         let few = few-listed s (well b sh acc) in
         let q = (match-computed b sh acc (u ++ d) (ap (λ y. y.rule) (sym e) ∙ f)).1 in
         computed-built s.arities few whole _ (sym (computed-rest s.arities few d whole) ∙ q)
 
     -- the words of the stretches fill its left side to the subterm
-    listed-instance : {n rhs size : ℕ} → m.rule ≡ First n rhs size → instance (value (u ++ d) (bindings_of m)) (rule s n).lhs ≡ u
+    listed-instance : {n rhs size : ℕ} → m.rule ≡ Some (First n rhs size) → instance (value (u ++ d) (bindings_of m)) (rule s n).lhs ≡ u
     listed-instance {n} f =
         instance-cong (value (u ++ d) (bindings_of m)) (λ v. get_or (c f).σ v []) (rule s n).lhs
         (λ v k st y. ap (λ x. value (u ++ d) (bindings_of x) k) (book-match (u ++ d) m e f) ∙ sym ((c f).reads.values k))
@@ -171,11 +172,11 @@ module _ (b : List ℕ) (sh : Shape) (acc : Accepted b sh) where
             let z : record { number = k; reduct = v } ≡ x = cc in
             ap (λ y. y.number) z
 
-        go : (o : FirstRule) → m.rule ≡ o → (r : Rule) × RuleOf s x.number r × (instance (value (u ++ d) (bindings_of m)) r.lhs ≡ u)
-        go Nothing q = absurd (let y = sym f ∙ match-redex (u ++ d) m e ∙ match_none (u ++ d) m e q in let z : ◌≡◌ {A = ℕ} 0 1 = cc in omega arith)
-        go (First n rhs size) q =
+        go : (o : Found FirstRule) → m.rule ≡ o → (r : Rule) × RuleOf s x.number r × (instance (value (u ++ d) (bindings_of m)) r.lhs ≡ u)
+        go None q = absurd (let y = sym f ∙ match-redex (u ++ d) m e ∙ match_none (u ++ d) m e q in let z : ◌≡◌ {A = ℕ} 0 1 = cc in omega arith)
+        go (Some (First n rhs size)) q =
             (rule s n, subst (λ k. RuleOf s k (rule s n)) (number (match-some (u ++ d) m e q)) (listed (inside q)), listed-instance q)
-        go (Computed k w) q =
+        go (Some (Computed k w)) q =
             let r = built q in (
               r.chosen,
               subst (λ k. RuleOf s k r.chosen) (number (match-word (u ++ d) m e q)) (built_in r.built),
@@ -183,13 +184,13 @@ module _ (b : List ℕ) (sh : Shape) (acc : Accepted b sh) where
             )
 
     -- so a rule is found exactly if some rule matches
-    pub found-exactly : (m.rule ≡ Nothing) ↔ ((k : ℕ) (r : Rule) → RuleOf s k r → Matches s.arities (a ++ (u ++ d)) (length a) r → ⊥)
+    pub found-exactly : (m.rule ≡ None) ↔ ((k : ℕ) (r : Rule) → RuleOf s k r → Matches s.arities (a ++ (u ++ d)) (length a) r → ⊥)
     found-exactly = (nothing-matches, λ h. go m.rule refl h)
       where
         matches : {x : Contraction} → contraction_of b (u ++ d) m ≡ some x → ((k : ℕ) (r : Rule) → RuleOf s k r → Matches s.arities (a ++ (u ++ d)) (length a) r → ⊥) → ⊥
         matches {x} f h = let c = first_matches x f in h x.number c.chosen c.known c.match
 
-        go : (o : FirstRule) → m.rule ≡ o → ((k : ℕ) (r : Rule) → RuleOf s k r → Matches s.arities (a ++ (u ++ d)) (length a) r → ⊥) → m.rule ≡ Nothing
-        go Nothing f h = f
-        go (First n rhs size) f h = absurd (matches (match-redex (u ++ d) m e ∙ match-some (u ++ d) m e f) h)
-        go (Computed k w) f h = absurd (matches (match-redex (u ++ d) m e ∙ match-word (u ++ d) m e f) h)
+        go : (o : Found FirstRule) → m.rule ≡ o → ((k : ℕ) (r : Rule) → RuleOf s k r → Matches s.arities (a ++ (u ++ d)) (length a) r → ⊥) → m.rule ≡ None
+        go None f h = f
+        go (Some (First n rhs size)) f h = absurd (matches (match-redex (u ++ d) m e ∙ match-some (u ++ d) m e f) h)
+        go (Some (Computed k w)) f h = absurd (matches (match-redex (u ++ d) m e ∙ match-word (u ++ d) m e f) h)

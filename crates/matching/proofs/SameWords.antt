@@ -8,6 +8,7 @@ use mathlib.Core.List.{List, [], ◌∷◌}
 use lib.ListN.{length, get_or, take, drop, drop_of_length-le, length-drop}
 use lib.Seq.{drop-cons, get_or-take, get_or-drop, length-take-le}
 use lib.Dec.{eqb}
+use lib.Pointwise.{pointwise}
 use borrow.Author.Tests.{eq-eqb, ne_eqb, eqb-true}
 use Rattle.matching.specs.Matching.{same_words}
 
@@ -26,6 +27,14 @@ same-equal (v ∷ vs) (w ∷ ws) e = go (eqb v w) refl (same-equal vs ws) e
     go : (a : Bool) → eqb v w ≡ a → (same_words vs ws ≡ true → vs ≡ ws) → (a && same_words vs ws) ≡ true → v ∷ vs ≡ w ∷ ws
     go true p ih e = ap (λ y. y ∷ vs) (eqb-true v w p) ∙ ap (λ r. w ∷ r) (ih e)
     go false p ih e = absurd (let z : ◌≡◌ {A = ℕ} 0 1 = cc in omega arith)
+
+-- as `==` of slices finds it out
+pub same-pointwise : (vs ws : List ℕ) → pointwise eqb vs ws ≡ same_words vs ws
+unfolding same_words
+same-pointwise [] [] = refl
+same-pointwise [] (w ∷ ws) = refl
+same-pointwise (v ∷ vs) [] = refl
+same-pointwise (v ∷ vs) (w ∷ ws) = ap (λ b. eqb v w && b) (same-pointwise vs ws)
 
 pub differ_same : (vs ws : List ℕ) → (vs ≡ ws → ⊥) → same_words vs ws ≡ false
 differ_same vs ws d = go (same_words vs ws) refl

@@ -5,20 +5,18 @@ use mathlib.Core.Path.{◌≡◌, refl, sym, ap, ◌∙◌}
 use mathlib.Core.Option.{Option, none, some}
 use mathlib.Core.List.{List}
 use lib.ListN.{get_or, take, drop}
+use Rattle.std.specs.Prelude.{Option as Found, None, Some}
 use Rattle.reader.specs.declared.Shape.{Shape}
-use Rattle.system.specs.Numbers.{Fault}
+use Rattle.system.specs.declared.numbers.Fault.{Fault}
 use Rattle.system.specs.BuiltIns.{literal}
 use Rattle.system.specs.System.{System, instance}
 use Rattle.system.specs.Signature.{signature_of}
-use Rattle.reader.specs.declared.scan.Scan.{Scan}
 use Rattle.reader.specs.Parser.{ok, fault, read}
-use Rattle.reader.specs.scan.Sections.{scan_of}
 use Rattle.reader.specs.Book.{system_of, Accepted}
-use Rattle.layout.proofs.Accepting.{scan-accepted, scan-fault}
 use Rattle.layout.proofs.Books.{well, signature, first_rest, well_formed_rules, rule-count}
 use Rattle.matching.specs.declared.Match.{Match}
 use Rattle.matching.specs.declared.FirstRule.{FirstRule}
-use Rattle.matching.specs.declared.FirstRule.TheVariants.{Nothing, First, Computed}
+use Rattle.matching.specs.declared.FirstRule.TheVariants.{First, Computed}
 use Rattle.matching.specs.Matching.{first_match, Computation, computed, computed_contraction, contraction}
 use Rattle.matching.specs.Bindings.{no_bindings, no_match, match_listed, computed_rule, match_computed, or_else, match_of, match_in, value, bindings_of, contraction_of}
 use Rattle.matching.specs.rules.Searches.{Within}
@@ -39,32 +37,32 @@ module _ (b : List ℕ) (sh : Shape) (acc : Accepted b sh) where
 
     -- a rule that is listed, or else what is computed
     data Comes (m : Match) : Type 0 where
-      from-book : {n rhs size : ℕ} → m.rule ≡ First n rhs size → m ≡ match_listed s ws → Comes m
+      from-book : {n rhs size : ℕ} → m.rule ≡ Some (First n rhs size) → m ≡ match_listed s ws → Comes m
       from-words : match_listed s ws ≡ no_match → m ≡ match_computed ws → Comes m
 
     comes : Comes (match_of s ws)
     unfolding match_of
     comes = go (match_listed s ws).rule refl
       where
-        keeps : {n rhs size : ℕ} (f : FirstRule) (st ln : List ℕ) → f ≡ First n rhs size →
+        keeps : {n rhs size : ℕ} (f : Found FirstRule) (st ln : List ℕ) → f ≡ Some (First n rhs size) →
             or_else (record { rule = f; starts = st; lengths = ln }) (match_computed ws) ≡ record { rule = f; starts = st; lengths = ln }
-        keeps Nothing st ln e = absurd (let z : ◌≡◌ {A = ℕ} 0 1 = cc in omega arith)
-        keeps (First k rhs size) st ln e = refl
-        keeps (Computed k w) st ln e = refl
+        keeps None st ln e = absurd (let z : ◌≡◌ {A = ℕ} 0 1 = cc in omega arith)
+        keeps (Some (First k rhs size)) st ln e = refl
+        keeps (Some (Computed k w)) st ln e = refl
 
-        go : (f : FirstRule) → (match_listed s ws).rule ≡ f → Comes (or_else (match_listed s ws) (match_computed ws))
-        go Nothing e = let q = found.nothing e in from-words q (ap (λ y. or_else y (match_computed ws)) q)
-        go (First n rhs size) e =
+        go : (f : Found FirstRule) → (match_listed s ws).rule ≡ f → Comes (or_else (match_listed s ws) (match_computed ws))
+        go None e = let q = found.nothing e in from-words q (ap (λ y. or_else y (match_computed ws)) q)
+        go (Some (First n rhs size)) e =
             let q = keeps (match_listed s ws).rule (match_listed s ws).starts (match_listed s ws).lengths e in
             from-book (ap (λ y. y.rule) q ∙ e) q
-        go (Computed k w) e = absurd (found.listed k w e)
+        go (Some (Computed k w)) e = absurd (found.listed k w e)
 
     -- which it is, by what was found
-    pub not-computed : {n rhs size : ℕ} (o : Option Computation) → computed_rule o ≡ First n rhs size → ⊥
+    pub not-computed : {n rhs size : ℕ} (o : Option Computation) → computed_rule o ≡ Some (First n rhs size) → ⊥
     not-computed none e = let z : ◌≡◌ {A = ℕ} 0 1 = cc in omega arith
     not-computed (some c) e = let z : ◌≡◌ {A = ℕ} 0 1 = cc in omega arith
 
-    computed-is : {k w : ℕ} (o : Option Computation) → computed_rule o ≡ Computed k w → o ≡ some (record { number = k; word = w })
+    computed-is : {k w : ℕ} (o : Option Computation) → computed_rule o ≡ Some (Computed k w) → o ≡ some (record { number = k; word = w })
     computed-is none e = absurd (let z : ◌≡◌ {A = ℕ} 0 1 = cc in omega arith)
     computed-is {k} {w} (some c) e =
         let p : c.number ≡ k = cc in
@@ -75,17 +73,17 @@ module _ (b : List ℕ) (sh : Shape) (acc : Accepted b sh) where
     unfolding match_computed
     computed-rule = refl
 
-    pub match-listed : {n rhs size : ℕ} → (match_of s ws).rule ≡ First n rhs size → match_of s ws ≡ match_listed s ws
+    pub match-listed : {n rhs size : ℕ} → (match_of s ws).rule ≡ Some (First n rhs size) → match_of s ws ≡ match_listed s ws
     match-listed f = go comes f
       where
-        go : {m : Match} → Comes m → {n rhs size : ℕ} → m.rule ≡ First n rhs size → m ≡ match_listed s ws
+        go : {m : Match} → Comes m → {n rhs size : ℕ} → m.rule ≡ Some (First n rhs size) → m ≡ match_listed s ws
         go (from-book _ q) f = q
         go (from-words _ q) f = absurd (not-computed (computed ws) (sym computed-rule ∙ ap (λ y. y.rule) (sym q) ∙ f))
 
-    pub match-computed : {k w : ℕ} → (match_of s ws).rule ≡ Computed k w → (match_of s ws ≡ match_computed ws) × (computed ws ≡ some (record { number = k; word = w }))
+    pub match-computed : {k w : ℕ} → (match_of s ws).rule ≡ Some (Computed k w) → (match_of s ws ≡ match_computed ws) × (computed ws ≡ some (record { number = k; word = w }))
     match-computed f = go comes f
       where
-        go : {m : Match} → Comes m → {k w : ℕ} → m.rule ≡ Computed k w → (m ≡ match_computed ws) × (computed ws ≡ some (record { number = k; word = w }))
+        go : {m : Match} → Comes m → {k w : ℕ} → m.rule ≡ Some (Computed k w) → (m ≡ match_computed ws) × (computed ws ≡ some (record { number = k; word = w }))
         go (from-book e q) f = absurd (let z : ◌≡◌ {A = ℕ} 0 1 = cc in omega arith)
         go (from-words _ q) f = (q, computed-is (computed ws) (sym computed-rule ∙ ap (λ y. y.rule) (sym q) ∙ f))
 
@@ -93,7 +91,7 @@ module _ (b : List ℕ) (sh : Shape) (acc : Accepted b sh) where
     listed-first : contraction_of b ws (match_listed s ws) ≡ first_match s.arities s.rules 0 ws
     listed-first = found.contraction ∙ ap (λ g. first_match g s.rules 0 ws) (sym (signature b sh acc))
 
-    redex-listed : (m : Match) {n rhs size : ℕ} → m.rule ≡ First n rhs size →
+    redex-listed : (m : Match) {n rhs size : ℕ} → m.rule ≡ Some (First n rhs size) →
         contraction_of b ws m ≡ some (record { number = n; reduct = instance (value ws (bindings_of m)) (take size (drop rhs b)) })
     unfolding contraction_of
     redex-listed m e = rw (e, contraction_of)
@@ -136,7 +134,7 @@ module _ (b : List ℕ) (sh : Shape) (acc : Accepted b sh) where
             let z = sym (first-high s (well b sh acc) ws h) ∙ sym listed-first ∙ ap (contraction_of b ws) (sym q) in
             absurd (let y : ◌≡◌ {A = ℕ} 0 1 = cc (redex-listed m e) in omega arith)
 
-    pub match-words : {f : FirstRule} → f ≡ computed_rule (computed ws) → literal ≤ get_or ws 0 0 →
+    pub match-words : {f : Found FirstRule} → f ≡ computed_rule (computed ws) → literal ≤ get_or ws 0 0 →
         record { rule = f; starts = no_bindings.starts; lengths = no_bindings.lengths } ≡ match_of s ws
     match-words e h =
         (λ i. record { rule = e i; starts = no_bindings.starts; lengths = no_bindings.lengths }) ∙ sym computed-unbound ∙ match-high h
@@ -167,11 +165,3 @@ module _ (b : List ℕ) where
   pub match-accepted : {x : System} {i : ℕ} → read b ≡ ok x i → (ws : List ℕ) → match_in b ws ≡ match_of x ws
   unfolding match_in
   match-accepted e ws = rw (e, match_in)
-
--- of a book that was scanned
-module _ (b : List ℕ) (s : Scan) (is : s ≡ scan_of (read b)) where
-  pub scan-refuses : (s.answer.number ≡ 0 → ⊥) → (ws : List ℕ) → no_match ≡ match_in b ws
-  scan-refuses bad ws = sym (match-refused b (scan-fault b s is bad).2 ws)
-
-  pub scan-matches : s.answer.number ≡ 0 → (ws : List ℕ) → match_of (system_of b) ws ≡ match_in b ws
-  scan-matches good ws = sym (match-accepted b (scan-accepted b s is good).accepted ws)

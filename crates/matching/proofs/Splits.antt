@@ -7,6 +7,7 @@ use mathlib.Core.Logic.{◌⊎◌, inl, inr}
 use mathlib.Core.Option.{Option, none, some}
 use mathlib.Core.List.{List, [], ◌∷◌, ◌++◌}
 use lib.ListN.{length, get_or, take, drop, length-append, take-append-drop}
+use Rattle.std.specs.Prelude.{Option as Found, Some}
 use Rattle.reader.specs.declared.Shape.{Shape}
 use Rattle.system.specs.Limits.{variable}
 use Rattle.system.specs.Signature.{Signature, Symbol}
@@ -20,6 +21,7 @@ use Rattle.system.proofs.Forests.{Wholes}
 use Rattle.reader.proofs.Located.{RuleAt, rule-encoded}
 use Rattle.layout.proofs.Books.{well, sections}
 use Rattle.matching.specs.declared.Match.{Match}
+use Rattle.matching.specs.declared.FirstRule.{FirstRule}
 use Rattle.matching.specs.declared.FirstRule.TheVariants.{First}
 use Rattle.matching.specs.Matching.{bind, contraction}
 use Rattle.matching.specs.Bindings.{Bindings, no_bindings, bindings, match_from, match_listed, match_of, value, bindings_of}
@@ -42,7 +44,7 @@ module _ (b ws : List ℕ) (g : Signature) where
     bound : bindings g ws (get_or rs index no_rule).lhs 0 no_bindings ≡ some a
     words : take size (drop rhs b) ≡ (get_or rs index no_rule).rhs
 
-  module _ (m : Match) {n rhs size : ℕ} (f : m.rule ≡ First n rhs size) where
+  module _ (m : Match) {n rhs size : ℕ} (f : m.rule ≡ Some (First n rhs size)) where
     listing : (rs : List Rule) (k at : ℕ) → drop at b ≡ encode_rules rs → m ≡ match_from g rs k at ws → Listing rs k n rhs size (bindings_of m)
     listing [] k at e q = absurd (let y = q ∙ from-nil g k at ws in let z : ◌≡◌ {A = ℕ} 0 1 = cc in omega arith)
     listing (r ∷ rs) k at e q = go (bindings g ws r.lhs 0 no_bindings) refl (listing rs (suc k) next stands.rests)
@@ -60,7 +62,7 @@ module _ (b ws : List ℕ) (g : Signature) where
             record { index = suc c.index; number = (let z = c.number in omega arith); inside = (let z = c.inside in omega arith); bound = c.bound; words = c.words }
         go (some x) y ih =
             let z = q ∙ from-here g r rs k at ws x y in
-            let i : First k (at + 1 + length r.lhs + 1) (length r.rhs) ≡ First n rhs size = ap (λ y. y.rule) (sym z) ∙ f in
+            let i : ◌≡◌ {A = Found FirstRule} (Some (First k (at + 1 + length r.lhs + 1) (length r.rhs))) (Some (First n rhs size)) = ap (λ y. y.rule) (sym z) ∙ f in
             let i₀ : k ≡ n = cc in
             let i₁ : at + 1 + length r.lhs + 1 ≡ rhs = cc in
             let i₂ : length r.rhs ≡ size = cc in
@@ -83,7 +85,7 @@ module _ (b : List ℕ) (sh : Shape) (acc : Accepted b sh) where
   abbrev s : System
   s = system_of b
 
-  module _ (d : List ℕ) {u : List ℕ} (whole : Whole s.arities u) (m : Match) (e : m ≡ match_of s (u ++ d)) {k rhs size : ℕ} (f : m.rule ≡ First k rhs size) where
+  module _ (d : List ℕ) {u : List ℕ} (whole : Whole s.arities u) (m : Match) (e : m ≡ match_of s (u ++ d)) {k rhs size : ℕ} (f : m.rule ≡ Some (First k rhs size)) where
     abbrev lhs : List ℕ
     lhs = (rule s k).lhs
 

@@ -1,27 +1,27 @@
 -- What the strategy test's answer tells: 0 exactly for a safe book, 14 at f exactly if f is the lowest-numbered symbol that fails.
 use Prim.Native.Nat.{ℕ, ◌<◌}
 use native.Mathlib.Omega.{arith}
-use mathlib.Core.Path.{◌≡◌, refl, sym, ap, ◌∙◌, subst}
+use mathlib.Core.Path.{◌≡◌, refl, ap, ◌∙◌, subst}
 use mathlib.Core.Logic.{inl, inr}
 use mathlib.Core.Bool.{true, false}
 use mathlib.Core.Option.{Option, none, some}
 use mathlib.Core.List.{List}
 use lib.ListN.{length}
 use Rattle.system.specs.declared.Answer.{Answer}
-use Rattle.system.specs.Numbers.{Fault, unsettled, number_of}
+use Rattle.system.specs.Numbers.{number_of}
+use Rattle.system.specs.declared.numbers.Fault.{Fault}
+use Rattle.system.specs.declared.numbers.Verdict.TheVariants.{Unsettled}
 use Rattle.system.specs.Signature.{Listed}
 use Rattle.system.specs.System.{System}
 use Rattle.system.specs.Terms.{WellFormed}
-use Rattle.reader.specs.declared.scan.Scan.{Scan}
 use Rattle.reader.specs.Parser.{Parsed, ok, fault, read}
 use Rattle.reader.specs.Answers.{answer_of}
-use Rattle.reader.specs.scan.Sections.{scan_of}
 use Rattle.reader.proofs.Accepts.{read-sound}
 use Rattle.system.proofs.FaultNumbers.{fault-range, fault-not-zero}
 use Rattle.system.proofs.BuiltIns.{range-builtin, refuted}
 use Rattle.system.proofs.Signatures.{symbol-lt, symbol-cases}
 use Rattle.reader.specs.Book.{system_of}
-use Rattle.layout.proofs.Accepting.{reads-system, scan-accepted}
+use Rattle.layout.proofs.Accepting.{reads-system}
 use Rattle.matching.specs.Safety.{Passes, Safe, FailsFirst, SafeBook, UnsafeBook, Tells}
 use Rattle.matching.specs.StrategyTest.{passes, first_unsafe, safety_answer, test_answer, PassedBook}
 use Rattle.system.proofs.FirstFailing.{none-all, all_none, some-lowest, lowest-some}
@@ -121,7 +121,7 @@ module _ (b : List ℕ) where
   safe-test h = test-accepted h.accepted ∙ ap safety_answer (safe-none (system_of b) (formed h.accepted) h.safe)
 
   -- 14: the book is accepted, and the place is the lowest-numbered symbol that fails; and every such book gets it
-  pub test-unsafe : (test_answer b).number ≡ number_of unsettled → UnsafeBook b (test_answer b).place
+  pub test-unsafe : (test_answer b).number ≡ number_of Unsettled → UnsafeBook b (test_answer b).place
   test-unsafe z = go ends z
     where
       go : {r : Answer} → Ends r → r.number ≡ 14 → UnsafeBook b r.place
@@ -144,9 +144,3 @@ module _ (b : List ℕ) where
     unsafe = λ f. (λ e. subst (UnsafeBook b) (ap (λ r. r.place) e) (test-unsafe (ap (λ r. r.number) e)), unsafe-test);
     listed = λ z. unsafe-listed (test-unsafe z);
   }
-
--- ---- of a book that was scanned
-
-module _ (b : List ℕ) (s : Scan) (is : s ≡ scan_of (read b)) where
-  pub scan-tested : s.answer.number ≡ 0 → {r : Answer} → r ≡ safety_answer (first_unsafe (system_of b)) → r ≡ test_answer b
-  scan-tested good e = e ∙ sym (test-accepted b (scan-accepted b s is good).accepted)

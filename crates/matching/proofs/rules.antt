@@ -2,4 +2,5 @@
 pub mod MatchSteps
 pub mod Binds
 pub mod Searches
+pub mod Finding
 pub mod Lists

@@ -1,6 +1,7 @@
 -- What matching answers: the first rule that matches, and where the terms stand that its variables stand for.
 use Rattle.std.specs.Prelude.{ℕ, zero, suc, ◌+◌, ◌-◌, List, [], ◌∷◌, Bool, cond, ◌&&◌, ◌||◌, length, get_or, take, drop, set, replicate}
 use Rattle.std.specs.Prelude.{ltb, leb, eqb}
+use Rattle.std.specs.Prelude.{Option as Found, Some, None}
 use Rattle.std.proofs.Math.Option.{Option, none, some}
 use Rattle.system.specs.Limits.{variable, variables}
 use Rattle.system.specs.Signature.{Signature, span}
@@ -9,7 +10,7 @@ use Rattle.reader.specs.Format.{encode_strategies}
 use Rattle.reader.specs.Parser.{ok, fault, read}
 use Rattle.matching.specs.declared.Match.{Match}
 use Rattle.matching.specs.declared.FirstRule.{FirstRule}
-use Rattle.matching.specs.declared.FirstRule.TheVariants.{Nothing, First, Computed}
+use Rattle.matching.specs.declared.FirstRule.TheVariants.{First, Computed}
 use Rattle.matching.specs.Matching.{same_words, Contraction, Computation, computed}
 
 -- for each variable the index of the first word of its stretch of the subterm, and the number of its words; 0 and 0 where it has none. Where
@@ -59,7 +60,7 @@ bindings g ws (l ∷ ls) q a =
 
 -- no rule matches
 abbrev pub no_match : Match
-no_match = record { rule = Nothing; starts = no_bindings.starts; lengths = no_bindings.lengths }
+no_match = record { rule = None; starts = no_bindings.starts; lengths = no_bindings.lengths }
 
 -- "The search tries rules in book order and gives up a rule at its first unequal word": the first of the rules that matches the front of
 -- ws. They are numbered from k on and stand in the book from the index `at` on, each as the two lengths and sides
@@ -67,7 +68,7 @@ unfoldable pub match_from : Signature → List Rule → ℕ → ℕ → List ℕ
 match_from g [] k at ws = no_match
 match_from g (r ∷ rs) k at ws =
     elim (bindings g ws r.lhs 0 no_bindings) [
-      | some a ↦ record { rule = First k (at + 1 + length r.lhs + 1) (length r.rhs); starts = a.starts; lengths = a.lengths }
+      | some a ↦ record { rule = Some (First k (at + 1 + length r.lhs + 1) (length r.rhs)); starts = a.starts; lengths = a.lengths }
       | none ↦ match_from g rs (suc k) (at + 1 + length r.lhs + 1 + length r.rhs) ws
     ]
 
@@ -76,16 +77,16 @@ unfoldable pub match_listed : System → List ℕ → Match
 match_listed s ws = match_from s.arities s.rules 0 (length s.arities + 3 + length (encode_strategies s.strategies)) ws
 
 -- the built-in rule: its number, and the word that it puts there
-abbrev pub computed_rule : Option Computation → FirstRule
-computed_rule none = Nothing
-computed_rule (some c) = Computed c.number c.word
+abbrev pub computed_rule : Option Computation → Found FirstRule
+computed_rule none = None
+computed_rule (some c) = Some (Computed c.number c.word)
 
 unfoldable pub match_computed : List ℕ → Match
 match_computed ws = record { rule = computed_rule (computed ws); starts = no_bindings.starts; lengths = no_bindings.lengths }
 
 -- the one match, or where it found nothing the other
 abbrev pub or_else : Match → Match → Match
-or_else m m' = elim m.rule [ Nothing ↦ m' | First k rhs size ↦ m | Computed k w ↦ m ]
+or_else m m' = elim m.rule [ None ↦ m' | Some r ↦ m ]
 
 -- "the lowest-numbered rule that fits here", at the front of ws
 unfoldable pub match_of : System → List ℕ → Match
@@ -102,7 +103,7 @@ bindings_of m = record { starts = m.starts; lengths = m.lengths }
 unfoldable pub contraction_of : List ℕ → List ℕ → Match → Option Contraction
 contraction_of book ws m =
     elim m.rule [
-      | Nothing ↦ none
-      | First k rhs size ↦ some (record { number = k; reduct = instance (value ws (bindings_of m)) (take size (drop rhs book)) })
-      | Computed k w ↦ some (record { number = k; reduct = w ∷ [] })
+      | None ↦ none
+      | Some (First k rhs size) ↦ some (record { number = k; reduct = instance (value ws (bindings_of m)) (take size (drop rhs book)) })
+      | Some (Computed k w) ↦ some (record { number = k; reduct = w ∷ [] })
     ]

@@ -1,7 +1,9 @@
 -- Safety: the condition of the strategy test (01: the order test), by which a system's strategies miss no rule.
 use Rattle.std.specs.Prelude.{ℕ, suc, ◌≤◌, ◌<◌, ◌≡◌, ◌⊎◌, ◌↔◌, List, ◌∷◌, ◌++◌, length, get_or}
 use Rattle.system.specs.declared.Answer.{Answer}
-use Rattle.system.specs.Numbers.{Fault, taken, unsettled, number_of}
+use Rattle.system.specs.Numbers.{number_of}
+use Rattle.system.specs.declared.numbers.Fault.{Fault}
+use Rattle.system.specs.declared.numbers.Verdict.TheVariants.{Taken, Unsettled}
 use Rattle.system.specs.Limits.{variable}
 use Rattle.system.specs.Signature.{Signature, Symbol, Listed, argument}
 use Rattle.system.specs.System.{System, Rule, strategy, head}
@@ -69,8 +71,8 @@ pub record Tells (b : List ℕ) (r : Answer) : Type 0 where
   -- "A book that the reader refuses gets the reader's answer."
   pub refused : (f : Fault) (i : ℕ) → read b ≡ fault f i → r ≡ answer_of (fault f i)
   -- "All pass: 0": exactly for an accepted book whose system is safe
-  pub safe : (r.number ≡ number_of taken) ↔ SafeBook b
+  pub safe : (r.number ≡ number_of Taken) ↔ SafeBook b
   -- 14 at f exactly if f fails and every lower symbol passes: "the lowest-numbered name that fails" (02, F-1)
-  pub unsafe : (f : ℕ) → (r ≡ record { number = number_of unsettled; place = f; steps = 0 }) ↔ UnsafeBook b f
+  pub unsafe : (f : ℕ) → (r ≡ record { number = number_of Unsettled; place = f; steps = 0 }) ↔ UnsafeBook b f
   -- a symbol that is told is listed: the built-in ones pass in every book (02, F-2)
-  pub listed : r.number ≡ number_of unsettled → Listed (system_of b).arities r.place
+  pub listed : r.number ≡ number_of Unsettled → Listed (system_of b).arities r.place

@@ -2,7 +2,8 @@
 use Rattle.std.specs.Prelude.{ℕ, zero, suc, ◌≡◌, List, [], ◌∷◌, Bool, true, false, not, ◌&&◌, ◌||◌, length, leb, eqb}
 use Rattle.std.proofs.Math.Option.{Option, none, some}
 use Rattle.system.specs.declared.Answer.{Answer}
-use Rattle.system.specs.Numbers.{taken, unsettled, number_of}
+use Rattle.system.specs.Numbers.{number_of}
+use Rattle.system.specs.declared.numbers.Verdict.TheVariants.{Taken, Unsettled}
 use Rattle.system.specs.Limits.{variable}
 use Rattle.system.specs.Signature.{Signature}
 use Rattle.system.specs.System.{System, Rule, strategy, head}
@@ -53,8 +54,8 @@ first_unsafe s = first_failing (passes s) 0 (length s.arities)
 
 -- "All pass: 0. Otherwise 14" (01); "Number 14's place becomes the lowest-numbered name that fails" (02, F-1)
 abbrev pub safety_answer : Option ℕ → Answer
-safety_answer none = record { number = number_of taken; place = 0; steps = 0 }
-safety_answer (some f) = record { number = number_of unsettled; place = f; steps = 0 }
+safety_answer none = record { number = number_of Taken; place = 0; steps = 0 }
+safety_answer (some f) = record { number = number_of Unsettled; place = f; steps = 0 }
 
 -- "A book that the reader refuses gets the reader's answer."
 unfoldable pub test_answer : List ℕ → Answer
@@ -62,4 +63,4 @@ test_answer book = elim (read book) [ fault f i ↦ answer_of (fault f i) | ok s
 
 -- "A book passed if the order test answers 0"
 abbrev pub PassedBook : List ℕ → Type 0
-PassedBook book = (test_answer book).number ≡ number_of taken
+PassedBook book = (test_answer book).number ≡ number_of Taken

@@ -11,17 +11,15 @@ ghost use Rattle.matching.specs.StrategyTest.{test_answer};
 use reader::scan::scan_book;
 use system::Answer;
 use system::limits::VARIABLES;
-use system::numbers::TAKEN;
 
 pub mod operators;
 pub mod rules;
 pub mod safety;
 
-// The first rule that matches. One that the book lists: its number, the index in the book of the first word of its right side, and how
+// A rule that matches. One that the book lists: its number, the index in the book of the first word of its right side, and how
 // many words that has. A built-in one: its number, and the word that it puts there.
 #[derive(Clone, Copy)]
 pub enum FirstRule {
-    Nothing,
     First {
         number: usize,
         rhs: usize,
@@ -33,10 +31,10 @@ pub enum FirstRule {
     },
 }
 
-// What was found, and for each variable where its stretch of the subterm starts and how many words it has; 0 and 0 of the others.
+// The first rule that matches, and for each variable where its stretch of the subterm starts and how many words it has; 0 and 0 of the others.
 #[derive(Clone, Copy)]
 pub struct Match {
-    pub rule: FirstRule,
+    pub rule: Option<FirstRule>,
     pub starts: [usize; VARIABLES],
     pub lengths: [usize; VARIABLES],
 }
@@ -47,15 +45,14 @@ pub fn first_match(book: &[u16], ws: &[u16]) -> Match
     ensures matched { result ≡ match_in book.now ws.now }
     ensures told { TellsMatch book.now ws.now result }
 {
-    let s = scan_book(book);
-    if s.answer.number != TAKEN {
-        return Match {
-            rule: FirstRule::Nothing,
+    match scan_book(book).outcome {
+        Ok(b) => rules::first_rule(&b, ws),
+        Err(_) => Match {
+            rule: None,
             starts: [0; VARIABLES],
             lengths: [0; VARIABLES],
-        };
+        },
     }
-    rules::first_rule(book, s.shape, ws)
 }
 
 // The strategy test: the reader's answer where it refuses the book, else 0 0 0 where every symbol passes, and otherwise 14 with the
@@ -64,6 +61,5 @@ pub fn test_strategies(book: &[u16]) -> Answer
     ensures tested { result ≡ test_answer book.now }
     ensures told { Tells book.now result }
 {
-    let s = scan_book(book);
-    safety::test(book, s)
+    safety::test(&scan_book(book))
 }

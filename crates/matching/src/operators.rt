@@ -11,33 +11,25 @@ use system::built_ins::{
 use system::words::wide;
 
 // The built-in rule that matches the subterm that starts with these three words. A word that is not there is no literal.
-pub fn computed(first: u16, m: u16, n: u16) -> FirstRule
+pub fn computed(first: u16, m: u16, n: u16) -> Option<FirstRule>
     ensures { result ≡ computed_rule (computed (first ∷ m ∷ n ∷ [])) }
 {
-    let f = wide(first);
     if !is_literal(m) {
-        return FirstRule::Nothing;
+        return None;
     }
-    if f == SQUARE {
-        return FirstRule::Computed {
+    match wide(first) {
+        SQUARE => Some(FirstRule::Computed {
             number: SQUARE_RULE,
             word: squared(m),
-        };
-    }
-    if !is_literal(n) {
-        return FirstRule::Nothing;
-    }
-    if f == MAXIMUM {
-        return FirstRule::Computed {
+        }),
+        MAXIMUM if is_literal(n) => Some(FirstRule::Computed {
             number: MAXIMUM_RULE,
             word: larger(m, n),
-        };
-    }
-    if f == MINIMUM {
-        return FirstRule::Computed {
+        }),
+        MINIMUM if is_literal(n) => Some(FirstRule::Computed {
             number: MINIMUM_RULE,
             word: smaller(m, n),
-        };
+        }),
+        _ => None,
     }
-    FirstRule::Nothing
 }

@@ -1,8 +1,8 @@
-// The inner interface for the layers above: matching against an accepted book whose shape is known.
+// The inner interface for the layers above: matching against a book.
 ghost use Rattle.std.specs.Prelude.{◌≡◌, ◌+◌, ◌≤◌, ◌<◌, length, get_or, take, drop};
 ghost use Rattle.system.specs.Limits.{variable, variables};
 ghost use Rattle.system.specs.Signature.{signature_of};
-ghost use Rattle.reader.specs.Book.{system_of, Accepted};
+ghost use Rattle.reader.specs.Book.{system_of};
 ghost use Rattle.matching.specs.declared.FirstRule.TheVariants.{First};
 ghost use Rattle.matching.specs.Matching.{same_words};
 ghost use Rattle.matching.specs.Bindings.{consumed, taken, with_binding, match_computed, match_of};
@@ -10,64 +10,39 @@ ghost use Rattle.matching.specs.rules.Searches.{stretches, Within};
 
 use crate::operators::computed;
 use crate::{FirstRule, Match};
-use layout::rules::{RuleSpan, rule_at};
-use reader::Shape;
+use layout::listed::{Rule, rules_of};
+use reader::book::Book;
 use system::built_ins::LITERAL;
 use system::limits::{VARIABLE, VARIABLES};
 use system::words::{span, wide};
 
-// No rule's number, and no word's.
-pub const UNNUMBERED: usize = 65536;
-
-// How many words at the front of ws a word of a left side takes; 0 where the words are unequal.
+// How many words at the front of ws a word of a left side takes; 0 where the words are unequal, as the definitions `consumed` and `taken` (specs)
+// say it, by which two searches are told.
 fn consumed(book: &[u16], l: u16, ws: &[u16]) -> usize
     ensures { (result ≡ consumed (signature_of book.now) l ws.now) × (result ≤ length ws.now) }
 {
-    if ws.len() == 0 {
+    let Some(&w) = ws.first() else {
         return 0;
-    }
+    };
     if VARIABLE <= wide(l) {
         return span(book, ws);
     }
-    if l != ws[0] {
-        return 0;
-    }
-    1
+    usize::from(l == w)
 }
 
-// Whether the words of one slice are those of the other. Slices of other lengths are told at once, and else the first unequal word tells.
-fn same_words(a: &[u16], b: &[u16]) -> bool
-    ensures { result ≡ same_words a.now b.now }
-{
-    if a.len() != b.len() {
-        return false;
-    }
-    let mut i = 0;
-    while i < a.len() {
-        if a[i] != b[i] {
-            return false;
-        }
-        i += 1;
-    }
-    true
-}
-
-// Whether the m words from p on are the n words from q on.
+// Whether the m words from p on are the n words from q on. Parts of other lengths are told at once, and else the first unequal word tells.
 fn same_parts(ws: &[u16], p: usize, m: usize, q: usize, n: usize) -> bool
     requires { (p + m ≤ length ws.now) × (q + n ≤ length ws.now) }
     ensures { result ≡ same_words (take m (drop p ws.now)) (take n (drop q ws.now)) }
 {
-    same_words(&ws[p..p + m], &ws[q..q + n])
+    ws[p..p + m] == ws[q..q + n]
 }
 
 // Word i of ws; 0, which is no literal, where it has no such word.
 fn word_of(ws: &[u16], i: usize) -> u16
     ensures { result ≡ get_or ws.now i 0 }
 {
-    if ws.len() <= i {
-        return 0;
-    }
-    ws[i]
+    ws.get(i).copied().unwrap_or(0)
 }
 
 // How many words of ws word l of a left side takes, from word q on; 0, and no binding, where the words are unequal. A variable that has no
@@ -110,13 +85,13 @@ fn bind(
 }
 
 // A listed rule: its number, and where its right side stands.
-fn listed(number: usize, r: RuleSpan) -> FirstRule
-    ensures { result ≡ First number r.rhs r.size }
+fn listed(number: usize, rule: Rule) -> FirstRule
+    ensures { result ≡ First number (rule.entry.at + 1 + length rule.entry.lhs.now + 1) (length rule.entry.rhs.now) }
 {
     FirstRule::First {
         number,
-        rhs: r.rhs,
-        size: r.size,
+        rhs: rule.at + 1 + rule.lhs.len() + 1,
+        size: rule.rhs.len(),
     }
 }
 
@@ -133,49 +108,38 @@ fn computed_match(ws: &[u16]) -> Match
 
 // The first rule that matches the subterm at the front of ws; what follows the subterm does not count. A listed left side starts below the
 // literals, a built-in one above them, so that one look at the first word tells which rules there may be. Most listed rules start with
-// another symbol: they are given up before the stretches are cleared.
-pub fn first_rule(book: &[u16], shape: Shape, ws: &[u16]) -> Match
-    requires { Accepted book.now shape }
-    ensures { result ≡ match_of (system_of book.now) ws.now }
+// another symbol: they are given up before the stretches are cleared. The two loops have their labels since 01 asks for this form (docs/FORMS.md).
+pub fn first_rule(book: &Book<'_>, ws: &[u16]) -> Match
+    ensures { result ≡ match_of (system_of book.now.words.now) ws.now }
 {
     if LITERAL <= wide(word_of(ws, 0)) {
         return computed_match(ws);
     }
-    let mut found = FirstRule::Nothing;
-    let mut starts = [0usize; VARIABLES];
-    let mut lengths = [0usize; VARIABLES];
-    let mut k = 0;
-    let mut at = shape.first_rule;
-    'rules: while k < shape.rules {
-        let this = k;
-        let r = rule_at(book, at);
-        let lhs = r.lhs;
-        let width = r.width;
-        at = r.next;
-        k += 1;
-        if consumed(book, book[lhs], ws) == 0 {
+    let mut found = Match {
+        rule: None,
+        starts: [0; VARIABLES],
+        lengths: [0; VARIABLES],
+    };
+    'rules: for (number, rule) in rules_of(book).enumerate() {
+        if consumed(book.words, rule.lhs[0], ws) == 0 {
             continue 'rules;
         }
-        let mut s = [0usize; VARIABLES];
-        let mut l = [0usize; VARIABLES];
-        let mut j = 0;
+        let mut starts = [0usize; VARIABLES];
+        let mut lengths = [0usize; VARIABLES];
         let mut q = 0;
-        'words: while j < width {
-            let n = bind(book, ws, &mut s, &mut l, book[lhs + j], q);
+        'words: for word in rule.lhs {
+            let n = bind(book.words, ws, &mut starts, &mut lengths, *word, q);
             if n == 0 {
                 continue 'rules;
             }
             q += n;
-            j += 1;
         }
-        found = listed(this, r);
-        starts = s;
-        lengths = l;
+        found = Match {
+            rule: Some(listed(number, rule)),
+            starts,
+            lengths,
+        };
         break 'rules;
     }
-    Match {
-        rule: found,
-        starts: starts,
-        lengths: lengths,
-    }
+    found
 }

@@ -1,8 +1,7 @@
--- The text that the programs print, byte by byte in ASCII, and how it stands in a lent slice. Assumes nothing.
-use Rattle.std.specs.Prelude.{ℕ, zero, suc, ◌+◌, ◌/◌, ◌%◌, ◌≤◌, ◌≡◌, cond, List, [], ◌∷◌, ◌++◌, length, ltb}
+-- The text that the programs print, byte by byte in ASCII. Assumes nothing.
+use Rattle.std.specs.Prelude.{ℕ, zero, suc, ◌+◌, ◌/◌, ◌%◌, cond, List, [], ◌∷◌, ◌++◌, ltb}
 use Prim.Native.Char.{code}
 use Prim.Native.String.{String, [] as empty, ◌∷◌ as ◌then◌}
-use Rattle.buffers.specs.Words.{over}
 use Rattle.system.specs.declared.Answer.{Answer}
 
 -- the bytes of a text
@@ -40,13 +39,6 @@ unfoldable pub word_lines : List ℕ → List ℕ
 word_lines [] = []
 word_lines (w ∷ ws) = line (decimal w) ++ word_lines ws
 
--- the text in a slice of so many bytes: none at all where that is below the least that has room for every text
+-- the text where there is room for so many bytes: none at all where that is below the least that has room for every text
 abbrev pub in_room : ℕ → ℕ → List ℕ → List ℕ
 in_room least room text = cond (ltb room least) [] text
-
--- after a call: the bytes stand in the text from index `at` on, with room for all of them, everything else is as it was, and `end` is
--- the index just behind them
-pub record Written (text : List ℕ) (at : ℕ) (bytes : List ℕ) (end : ℕ) (text' : List ℕ) : Type 0 where
-  pub ends : end ≡ at + length bytes
-  pub fits : end ≤ length text
-  pub becomes : text' ≡ over text at bytes

@@ -17,7 +17,7 @@ use Rattle.system.specs.Terms.{WellFormedRule, WellFormed}
 use Rattle.reader.specs.Format.{encode_list, encode_strategies, encode_rules, encode}
 use Rattle.reader.specs.declared.scan.sides.SideRole.{SideRole}
 use Rattle.reader.specs.declared.scan.sides.SideRole.TheVariants.{Left, Right}
-use Rattle.system.specs.Numbers.{range}
+use Rattle.system.specs.declared.numbers.Fault.TheVariants.{Range}
 use Rattle.reader.specs.Answers.{answer_of}
 use Rattle.reader.specs.Parser.{Parsed, ok, fault, times, each, number, Reading, read_words, read_strategy, read_side, read_rule, read_rules, read_end, read_system, read}
 use Rattle.system.proofs.Signatures.{symbol-lt, arity-listed}
@@ -61,7 +61,7 @@ module _ (ws : List ℕ) (g : Signature) where
   pub reads-side : (h : SideRole) (known : ℕ) → Reads ws (read_side ws g h known) (λ r. encode_list r.words) (TakenSide g h known)
   unfolding read_side encode_list
   reads-side h known =
-      reads-counted (λ r. length r.words) (λ n. read_words ws g h true n 1 known) (λ n. reads-words ws g h true n 1 known) range 1 side_words
+      reads-counted (λ r. length r.words) (λ n. read_words ws g h true n 1 known) (λ n. reads-words ws g h true n 1 known) Range 1 side_words
 
   module _ (below : length g ≤ variable) where
     pub reads-rule : Reads ws (read_rule ws g) encode_rule (Own g)
@@ -121,12 +121,12 @@ module _ (ws : List ℕ) (g : Signature) where
     unfolding read_end
     at-end i l = rw (le-ltb i (length ws) l, read_end)
 
-    counted-rules : {i n k j : ℕ} {rs : List Rule} → number ws range 0 max_rules i ≡ ok n k → times n (read_rule ws g) k ≡ ok rs j → length ws ≤ j → Rules ws g i j rs
+    counted-rules : {i n k j : ℕ} {rs : List Rule} → number ws Range 0 max_rules i ≡ ok n k → times n (read_rule ws g) k ≡ ok rs j → length ws ≤ j → Rules ws g i j rs
     counted-rules {n} {j} {rs} c t l =
         let h = (reads-rules n).good t in
-        let b = ((reads-number ws range 0 max_rules).good c).1 in
+        let b = ((reads-number ws Range 0 max_rules).good c).1 in
         let e = h.0 in
-        record { stand = rw e (between_join ((reads-number ws range 0 max_rules).sound c) ((reads-rules n).sound t)); few = omega arith; own = h.1; ends = l }
+        record { stand = rw e (between_join ((reads-number ws Range 0 max_rules).sound c) ((reads-rules n).sound t)); few = omega arith; own = h.1; ends = l }
 
     same-rules : {i k j : ℕ} {rs rs' : List Rule} → ok rs k ≡ ok rs' j → Rules ws g i k rs → Rules ws g i j rs'
     same-rules e h = rw (← ok-value e, ← ok-place e) h
@@ -134,7 +134,7 @@ module _ (ws : List ℕ) (g : Signature) where
     pub rules-read : (i : ℕ) {j : ℕ} {rs : List Rule} → read_rules ws g i ≡ ok rs j → Rules ws g i j rs
     unfolding read_rules
     rules-read i e =
-        let a = then_ok (number ws range 0 max_rules i) _ e in
+        let a = then_ok (number ws Range 0 max_rules i) _ e in
         let b = then_ok (times a.value (read_rule ws g) a.place) _ a.goes in
         let c = then_ok (read_end ws b.place) _ b.goes in
         let d = ends_at c.reads in
@@ -144,7 +144,7 @@ module _ (ws : List ℕ) (g : Signature) where
     unfolding read_rules
     read-rules i j rs h =
         let s = between_split (one (length rs)) (encode_rules rs) h.stand in
-        let c = (reads-number ws range 0 max_rules).complete s.0 (zero-le, h.few) in
+        let c = (reads-number ws Range 0 max_rules).complete s.0 (zero-le, h.few) in
         let t = (reads-rules (length rs)).complete s.1 (refl, h.own) in
         rw c (rw t (rw (at-end j h.ends)))
 
@@ -158,14 +158,14 @@ pub record ReadAs (ws : List ℕ) (j : ℕ) (s : System) : Type 0 where
 
 -- the arities and strategies by index, as the lists are read
 module _ (ws : List ℕ) where
-  joined : {n a b m c d j : ℕ} {g : Signature} {ess : List (List ℕ)} {rs : List Rule} → number ws range 1 max_symbols 0 ≡ ok n a → times n (number ws range 0 max_arity) a ≡ ok g b →
-      number ws range n n b ≡ ok m c → each (read_strategy ws) g c ≡ ok ess d → read_rules ws g d ≡ ok rs j → ReadAs ws j (record { arities = g; strategies = ess; rules = rs })
+  joined : {n a b m c d j : ℕ} {g : Signature} {ess : List (List ℕ)} {rs : List Rule} → number ws Range 1 max_symbols 0 ≡ ok n a → times n (number ws Range 0 max_arity) a ≡ ok g b →
+      number ws Range n n b ≡ ok m c → each (read_strategy ws) g c ≡ ok ess d → read_rules ws g d ≡ ok rs j → ReadAs ws j (record { arities = g; strategies = ess; rules = rs })
   unfolding encode encode_list
   joined {n} {a} {b} {m} {c} {d} {j} {g} {ess} {rs} count symbol_bound again strategy_count rules =
       let s : System = record { arities = g; strategies = ess; rules = rs } in
-      let bn = (reads-number ws range 1 max_symbols).good count in
-      let bg = (reads-numbers ws range 0 max_arity n).good symbol_bound in
-      let bm = (reads-number ws range n n).good again in
+      let bn = (reads-number ws Range 1 max_symbols).good count in
+      let bg = (reads-numbers ws Range 0 max_arity n).good symbol_bound in
+      let bm = (reads-number ws Range n n).good again in
       let bs = (reads-strategies ws g).good strategy_count in
       let lg : length g ≡ n = bg.0 in
       let ls : length ess ≡ length g = bs.0 in
@@ -184,8 +184,8 @@ module _ (ws : List ℕ) where
           well_formed_rules = λ k l. (rr.own k l).0;
           own_rules = λ k l. (rr.own k l).1;
         };
-        stands = rw (← lm, lg) (between_join ((reads-number ws range 1 max_symbols).sound count) (between_join ((reads-numbers ws range 0 max_arity n).sound symbol_bound)
-            (between_join ((reads-number ws range n n).sound again) (between_join ((reads-strategies ws g).sound strategy_count) rr.stand))));
+        stands = rw (← lm, lg) (between_join ((reads-number ws Range 1 max_symbols).sound count) (between_join ((reads-numbers ws Range 0 max_arity n).sound symbol_bound)
+            (between_join ((reads-number ws Range n n).sound again) (between_join ((reads-strategies ws g).sound strategy_count) rr.stand))));
         ends = rr.ends;
       }
 
@@ -195,9 +195,9 @@ module _ (ws : List ℕ) where
   pub system-read : {j : ℕ} {s : System} → read ws ≡ ok s j → ReadAs ws j s
   unfolding read read_system
   system-read e =
-      let a = then_ok (number ws range 1 max_symbols 0) _ e in
-      let b = then_ok (times a.value (number ws range 0 max_arity) a.place) _ a.goes in
-      let c = then_ok (number ws range a.value a.value b.place) _ b.goes in
+      let a = then_ok (number ws Range 1 max_symbols 0) _ e in
+      let b = then_ok (times a.value (number ws Range 0 max_arity) a.place) _ a.goes in
+      let c = then_ok (number ws Range a.value a.value b.place) _ b.goes in
       let d = then_ok (each (read_strategy ws) b.value c.place) _ c.goes in
       let r = then_ok (read_rules ws b.value d.place) _ d.goes in
       same-system r.goes (joined a.reads b.reads c.reads d.reads r.reads)
@@ -212,9 +212,9 @@ module _ (ws : List ℕ) where
       let e₂ = between_split g _ e₁.1 in
       let e₃ = between_split (one (length s.strategies)) _ e₂.1 in
       let e₄ = between_split (encode_strategies s.strategies) _ e₃.1 in
-      let a = (reads-number ws range 1 max_symbols).complete e₁.0 (w.some_symbols, symbol_bound) in
-      let b = (reads-numbers ws range 0 max_arity (length g)).complete e₂.0 (refl, λ k l. (zero-le, rw (arity-listed g k l) at (w.arity_bound k))) in
-      let c = (reads-number ws range (length g) (length g)).complete e₃.0 (let o = w.strategy_count in omega arith) in
+      let a = (reads-number ws Range 1 max_symbols).complete e₁.0 (w.some_symbols, symbol_bound) in
+      let b = (reads-numbers ws Range 0 max_arity (length g)).complete e₂.0 (refl, λ k l. (zero-le, rw (arity-listed g k l) at (w.arity_bound k))) in
+      let c = (reads-number ws Range (length g) (length g)).complete e₃.0 (let o = w.strategy_count in omega arith) in
       let d = (reads-strategies ws g).complete e₄.0 (w.strategy_count, every-strategy s w) in
       let r = read-rules ws g (omega arith) _ j s.rules (record { stand = e₄.1; few = w.rule_bound; own = λ k l. (w.well_formed_rules k l, w.own_rules k l); ends = h.ends }) in
       rw a (rw b (rw c (rw d (rw r))))

@@ -9,7 +9,7 @@ use lib.Seq.{take-append_seam, drop-cons}
 use Rattle.system.specs.Signature.{Signature}
 use Rattle.system.specs.System.{System, Rule, no_rule}
 use Rattle.reader.specs.Format.{encode_list, encode_strategies, encode_rules, encode}
-use Rattle.system.specs.Numbers.{range}
+use Rattle.system.specs.declared.numbers.Fault.TheVariants.{Range}
 use Rattle.reader.specs.Parser.{ok, times, each, number, read_strategy, read}
 use Rattle.system.specs.Signature.{signature_of}
 use Rattle.reader.proofs.Parsed.{drop_head, drop-front}
@@ -27,12 +27,12 @@ pub read-signature : (ws : List ℕ) {s : System} {i : ℕ} → read ws ≡ ok s
 read-signature ws {s} e = sym (signature-encode s) ∙ ap signature_of (sym (read-sound ws e).1)
 
 -- the same while the book is still being read, after its first section
-pub numbers-signature : (ws : List ℕ) (n : ℕ) {g : Signature} {j : ℕ} → times n (number ws range 0 8) 1 ≡ ok g j → get_or ws 0 0 ≡ n →
+pub numbers-signature : (ws : List ℕ) (n : ℕ) {g : Signature} {j : ℕ} → times n (number ws Range 0 8) 1 ≡ ok g j → get_or ws 0 0 ≡ n →
     (g ≡ signature_of ws) × (j ≡ n + 1) × (length g ≡ n)
 unfolding signature_of
 numbers-signature ws n {g} {j} e c =
-    let b = (reads-numbers ws range 0 8 n).sound e in
-    let l : length g ≡ n = ((reads-numbers ws range 0 8 n).good e).0 in
+    let b = (reads-numbers ws Range 0 8 n).sound e in
+    let l : length g ≡ n = ((reads-numbers ws Range 0 8 n).good e).0 in
     let q = b.ends in
     let t : take (length g) (g ++ drop j ws) ≡ g = take-append_seam g (drop j ws) in
     (sym (rw (c, b.words, ← l) t), omega arith, l)

@@ -6,7 +6,7 @@ use mathlib.Core.Path.{◌≡◌, refl, sym, ap, ◌∙◌}
 use mathlib.Core.List.{List, [], ◌∷◌, ◌++◌, append_assoc}
 use lib.ListN.{length, get_or, drop, length-append, drop_of_length-le}
 use lib.Seq.{drop-cons, drop-drop, drop-append_seam}
-use Rattle.system.specs.Numbers.{Fault}
+use Rattle.system.specs.declared.numbers.Fault.{Fault}
 use Rattle.reader.specs.Parser.{Parsed, ok, fault, and_then}
 
 -- ---- going on after a parser

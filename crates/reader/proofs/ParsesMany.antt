@@ -5,7 +5,7 @@ use native.Mathlib.Nat.{not-suc-le-zero, le_of_suc-le-suc}
 use mathlib.Core.Path.{◌≡◌, refl, sym, ap, ◌∙◌}
 use mathlib.Core.List.{List, [], ◌∷◌, ◌++◌}
 use lib.ListN.{length, get_or}
-use Rattle.system.specs.Numbers.{Fault}
+use Rattle.system.specs.declared.numbers.Fault.{Fault}
 use Rattle.reader.specs.Parser.{ok, fault, Parser, ◌>>=◌, and_then, times, each, number}
 use Rattle.reader.proofs.Parsed.{Between, then_ok, between-end, between_join, between_none, between_split, fault-then, ok-then, ok-place, ok-value}
 use Rattle.reader.proofs.Parses.{Reads, one, reads-number}

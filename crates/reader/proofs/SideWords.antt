@@ -12,7 +12,8 @@ use Rattle.reader.specs.declared.scan.sides.SideRole.{SideRole}
 use Rattle.reader.specs.declared.scan.sides.SideRole.TheVariants.{Left, Right}
 use Rattle.system.specs.Limits.{variable, variables}
 use Rattle.system.specs.Signature.{Signature, Symbol, Listed, is_symbol}
-use Rattle.system.specs.Numbers.{Fault, unknown, unbalanced, variable_head, unbound, built_in_head}
+use Rattle.system.specs.declared.numbers.Fault.{Fault}
+use Rattle.system.specs.declared.numbers.Fault.TheVariants.{Unknown, Unbalanced, VariableHead, Unbound, BuiltInHead}
 use Rattle.reader.specs.Parser.{variable_fault, symbol_fault, side_fault, learn}
 use Rattle.system.proofs.BuiltIns.{BuiltInWord}
 use Rattle.system.proofs.Signatures.{symbol-cases}
@@ -20,7 +21,7 @@ use Rattle.system.proofs.Signatures.{symbol-cases}
 -- ---- a variable
 
 module _ (role : SideRole) (first : Bool) (known k : ℕ) where
-  pub variable-head : role ≡ Left → first ≡ true → variable_fault role first known k ≡ some variable_head
+  pub variable-head : role ≡ Left → first ≡ true → variable_fault role first known k ≡ some VariableHead
   unfolding variable_fault
   variable-head p q = rw (p, q)
 
@@ -28,7 +29,7 @@ module _ (role : SideRole) (first : Bool) (known k : ℕ) where
   unfolding variable_fault
   variable-next p q h = rw (p, q, le-leb k known h)
 
-  pub variable-skips : role ≡ Left → first ≡ false → known < k → variable_fault role first known k ≡ some unbound
+  pub variable-skips : role ≡ Left → first ≡ false → known < k → variable_fault role first known k ≡ some Unbound
   unfolding variable_fault
   variable-skips p q h = rw (p, q, lt-leb k known h)
 
@@ -36,7 +37,7 @@ module _ (role : SideRole) (first : Bool) (known k : ℕ) where
   unfolding variable_fault
   variable-known p h = rw (p, lt-ltb k known h)
 
-  pub variable-unbound : role ≡ Right → known ≤ k → variable_fault role first known k ≡ some unbound
+  pub variable-unbound : role ≡ Right → known ≤ k → variable_fault role first known k ≡ some Unbound
   unfolding variable_fault
   variable-unbound p h = rw (p, le-ltb k known h)
 
@@ -80,14 +81,14 @@ module _ (g : Signature) (role : SideRole) (first : Bool) (w : ℕ) where
   unfolding symbol_fault
   symbol-right e = rw e
 
-  pub symbol-head : role ≡ Left → first ≡ true → length g ≤ w → symbol_fault g role first w ≡ some built_in_head
+  pub symbol-head : role ≡ Left → first ≡ true → length g ≤ w → symbol_fault g role first w ≡ some BuiltInHead
   unfolding symbol_fault
   symbol-head p q h = rw (p, q, le-ltb w (length g) h)
 
 -- ---- a word
 
 module _ (g : Signature) (role : SideRole) (first : Bool) (due known w : ℕ) where
-  pub side-complete : due ≡ 0 → side_fault g role first due known w ≡ some unbalanced
+  pub side-complete : due ≡ 0 → side_fault g role first due known w ≡ some Unbalanced
   unfolding side_fault
   side-complete e = rw e
 
@@ -100,19 +101,19 @@ module _ (g : Signature) (role : SideRole) (first : Bool) (due known w : ℕ) wh
         go zero h = absurd (omega arith)
         go (suc d) h = rw (e, side_fault)
 
-    pub side-low : is_symbol g w ≡ false → w < variable → side_fault g role first due known w ≡ some unknown
+    pub side-low : is_symbol g w ≡ false → w < variable → side_fault g role first due known w ≡ some Unknown
     unfolding side_fault
     side-low e l = go due open-due
       where
-        go : (d : ℕ) → 0 < d → side_fault g role first d known w ≡ some unknown
+        go : (d : ℕ) → 0 < d → side_fault g role first d known w ≡ some Unknown
         go zero h = absurd (omega arith)
         go (suc d) h = rw (e, side_fault) (rw (lt-leb variable w l))
 
-    pub side-high : is_symbol g w ≡ false → variable + variables ≤ w → side_fault g role first due known w ≡ some unknown
+    pub side-high : is_symbol g w ≡ false → variable + variables ≤ w → side_fault g role first due known w ≡ some Unknown
     unfolding side_fault
     side-high e l = go due open-due
       where
-        go : (d : ℕ) → 0 < d → side_fault g role first d known w ≡ some unknown
+        go : (d : ℕ) → 0 < d → side_fault g role first d known w ≡ some Unknown
         go zero h = absurd (omega arith)
         go (suc d) h = rw (e, side_fault) (rw (le-leb variable w (omega arith), le-ltb w (variable + variables) l))
 

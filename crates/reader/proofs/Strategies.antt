@@ -10,7 +10,7 @@ use Rattle.system.specs.Signature.{Signature, arity}
 use Rattle.system.specs.System.{System, strategy}
 use Rattle.system.specs.Terms.{Member, WellFormed}
 use Rattle.reader.specs.Format.{encode_list, encode_strategies}
-use Rattle.system.specs.Numbers.{range, entry}
+use Rattle.system.specs.declared.numbers.Fault.TheVariants.{Range, Entry}
 use Rattle.reader.specs.Parser.{times, each, number, read_strategy}
 use Rattle.system.proofs.BuiltIns.{builtin-narrow, builtin-strategy}
 use Rattle.system.proofs.Signatures.{arity-listed, arity-unlisted}
@@ -30,7 +30,7 @@ module _ (ws : List ℕ) where
       reads-iff
       (λ es h. (h.1, member-index (λ e. e ≤ a) es (λ k l. (h.2 k l).1)))
       (λ es h. (zero-le, h.0, λ k l. (zero-le, h.1 (get_or es k 0) (member-get_or es k l))))
-      (reads-counted length (λ n. times n (number ws entry 0 a)) (λ n. reads-numbers ws entry 0 a n) range 0 max_entries)
+      (reads-counted length (λ n. times n (number ws Entry 0 a)) (λ n. reads-numbers ws Entry 0 a n) Range 0 max_entries)
 
   pub reads-strategies : (g : Signature) →
       Reads ws (each (read_strategy ws) g) encode_strategies (λ ess. (length ess ≡ length g) × Pairwise 0 [] Strategy g ess)

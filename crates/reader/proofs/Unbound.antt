@@ -9,7 +9,7 @@ use mathlib.Core.Bool.{false}
 use mathlib.Core.Option.{some}
 use mathlib.Core.List.{List}
 use Rattle.reader.specs.declared.scan.sides.SideRole.TheVariants.{Left}
-use Rattle.system.specs.Numbers.{unbound}
+use Rattle.system.specs.declared.numbers.Fault.TheVariants.{Unbound}
 use Rattle.system.specs.Terms.{different, Numbered, end, symbol, next, again, InOrder}
 use Rattle.reader.specs.Parser.{variable_fault, learn_all}
 use Rattle.system.proofs.Numbering.{numbered-different, numbered-exactly}
@@ -27,7 +27,7 @@ pub learns-different : (a : List ℕ) → InOrder a → learn_all 0 a ≡ differ
 learns-different a h = let n = (numbered-exactly a).1 h in learns n.1.1 ∙ sym (numbered-different n.1.1 n.1.0)
 
 -- behind the words a of a left side, 7 is for a variable above that count
-pub unbound-exactly : (a : List ℕ) (k : ℕ) → InOrder a → (variable_fault Left false (learn_all 0 a) k ≡ some unbound) ↔ (different a < k)
+pub unbound-exactly : (a : List ℕ) (k : ℕ) → InOrder a → (variable_fault Left false (learn_all 0 a) k ≡ some Unbound) ↔ (different a < k)
 unbound-exactly a k h =
     let d = learns-different a h in (
       λ e. elim (dec_lt (different a) k) [

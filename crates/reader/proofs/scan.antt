@@ -1,2 +1,4 @@
--- The scan of a book, from its sections.
+-- The shape of a book, from its sections.
 pub mod Scans
+-- What a scan tells, by its outcome.
+pub mod Outcomes

@@ -8,7 +8,8 @@ use Rattle.reader.specs.declared.Shape.{Shape}
 use Rattle.system.specs.Signature.{Signature, arity, argument, subterm, signature_of}
 use Rattle.system.specs.System.{System, head}
 use Rattle.reader.specs.Format.{encode_strategies}
-use Rattle.system.specs.Numbers.{taken, broken, number_of, fault_number}
+use Rattle.system.specs.Numbers.{number_of, fault_number}
+use Rattle.system.specs.declared.numbers.Verdict.TheVariants.{Taken, Broken}
 use Rattle.reader.specs.Parser.{Parsed, ok, fault, read}
 use Rattle.system.specs.TermCheck.{term_fault}
 
@@ -16,7 +17,7 @@ use Rattle.system.specs.TermCheck.{term_fault}
 
 -- "For 1 to 8" (and 15) "the place is the index of the word being read"; "On 0 the reader's place is the book's length", the index reached
 abbrev pub answer_of : Parsed System → Answer
-answer_of (ok s i) = record { number = number_of taken; place = i; steps = 0 }
+answer_of (ok s i) = record { number = number_of Taken; place = i; steps = 0 }
 answer_of (fault f i) = record { number = fault_number f; place = i; steps = 0 }
 
 -- how many symbols and rules an accepted book has, and at which index its first strategy and its first rule start
@@ -32,8 +33,8 @@ shape_of (fault f i) = record { symbols = 0; strategies = 0; rules = 0; first_ru
 -- ---- checking a term: 9 and the place, or 0 and the term's length
 
 abbrev pub whole_answer : List ℕ → Option ℕ → Answer
-whole_answer t none = record { number = number_of taken; place = length t; steps = 0 }
-whole_answer t (some i) = record { number = number_of broken; place = i; steps = 0 }
+whole_answer t none = record { number = number_of Taken; place = length t; steps = 0 }
+whole_answer t (some i) = record { number = number_of Broken; place = i; steps = 0 }
 
 -- the book first
 unfoldable pub term_answer : List ℕ → List ℕ → Answer

@@ -7,7 +7,8 @@ use Rattle.system.specs.Signature.{Signature, is_symbol, arity}
 use Rattle.system.specs.System.{System, Rule}
 use Rattle.reader.specs.declared.scan.sides.SideRole.{SideRole}
 use Rattle.reader.specs.declared.scan.sides.SideRole.TheVariants.{Left, Right}
-use Rattle.system.specs.Numbers.{Fault, missing, range, entry, unknown, unbalanced, variable_head, unbound, trailing, built_in_head}
+use Rattle.system.specs.declared.numbers.Fault.{Fault}
+use Rattle.system.specs.declared.numbers.Fault.TheVariants.{Missing, Range, Entry, Unknown, Unbalanced, VariableHead, Unbound, Trailing, BuiltInHead}
 
 pub data Parsed (A : Type 0) : Type 0 where
   ok : A → ℕ → Parsed A
@@ -55,13 +56,13 @@ pub record Reading : Type 0 where
 -- a placeholder above the count of different ones before it"; "A right side uses only placeholders of its left side". Variable k, at the
 -- first word or later, where `known` are known
 unfoldable pub variable_fault : SideRole → Bool → ℕ → ℕ → Option Fault
-variable_fault Left true known k = some variable_head
-variable_fault Left false known k = cond (leb k known) none (some unbound)
-variable_fault Right first known k = cond (ltb k known) none (some unbound)
+variable_fault Left true known k = some VariableHead
+variable_fault Left false known k = cond (leb k known) none (some Unbound)
+variable_fault Right first known k = cond (ltb k known) none (some Unbound)
 
 -- a symbol, at the first word or later. 02, F-2: 15 "where a left side starts with a level or either of these words, checked where 6 is"
 unfoldable pub symbol_fault : Signature → SideRole → Bool → ℕ → Option Fault
-symbol_fault g Left true w = cond (ltb w (length g)) none (some built_in_head)
+symbol_fault g Left true w = cond (ltb w (length g)) none (some BuiltInHead)
 symbol_fault g Left false w = none
 symbol_fault g Right first w = none
 
@@ -69,10 +70,10 @@ symbol_fault g Right first w = none
 unfoldable pub side_fault : Signature → SideRole → Bool → ℕ → ℕ → ℕ → Option Fault
 side_fault g h first due known w =
     elim due [
-      | zero ↦ some unbalanced
+      | zero ↦ some Unbalanced
       | suc _ ↦ elim (is_symbol g w) [
         | true ↦ symbol_fault g h first w
-        | false ↦ elim (leb variable w && ltb w (variable + variables)) [ true ↦ variable_fault h first known (w - variable) | false ↦ some unknown ]
+        | false ↦ elim (leb variable w && ltb w (variable + variables)) [ true ↦ variable_fault h first known (w - variable) | false ↦ some Unknown ]
       ]
     ]
 
@@ -91,7 +92,7 @@ module _ (ws : List ℕ) where
   unfoldable pub word : (ℕ → Option Fault) → Parser ℕ
   word check i =
       elim (ltb i (length ws)) [
-        | false ↦ fault missing i
+        | false ↦ fault Missing i
         | true ↦ elim (check (get_or ws i 0)) [ none ↦ ok (get_or ws i 0) (suc i) | some f ↦ fault f i ]
       ]
 
@@ -102,13 +103,13 @@ module _ (ws : List ℕ) where
   -- a length 0 to 16 and that many entries, each 0 up to the arity
   unfoldable pub read_strategy : ℕ → Parser (List ℕ)
   read_strategy a = do
-    n ← number range 0 max_entries
-    times n (number entry 0 a)
+    n ← number Range 0 max_entries
+    times n (number Entry 0 a)
 
   -- n words more of a side, where `due` subterms are still to come and `known` variables are known
   unfoldable pub read_words : Signature → SideRole → Bool → ℕ → ℕ → ℕ → Parser Reading
   read_words g h first zero zero known = pure (record { words = []; known = known })
-  read_words g h first zero (suc due) known = fault unbalanced
+  read_words g h first zero (suc due) known = fault Unbalanced
   read_words g h first (suc n) due known = do
     w ← word (side_fault g h first due known)
     r ← read_words g h false n (due - 1 + arity g w) (learn h known w)
@@ -117,7 +118,7 @@ module _ (ws : List ℕ) where
   -- a length 1 to 64 and that many words, which are one term
   unfoldable pub read_side : Signature → SideRole → ℕ → Parser Reading
   read_side g h known = do
-    n ← number range 1 side_words
+    n ← number Range 1 side_words
     read_words g h true n 1 known
 
   unfoldable pub read_rule : Signature → Parser Rule
@@ -128,21 +129,21 @@ module _ (ws : List ℕ) where
 
   -- nothing is left
   unfoldable pub read_end : Parser (Unit {0})
-  read_end i = elim (ltb i (length ws)) [ true ↦ fault trailing i | false ↦ ok tt i ]
+  read_end i = elim (ltb i (length ws)) [ true ↦ fault Trailing i | false ↦ ok tt i ]
 
   -- a count 0 to 128, that many rules, and nothing after them
   unfoldable pub read_rules : Signature → Parser (List Rule)
   read_rules g = do
-    n ← number range 0 max_rules
+    n ← number Range 0 max_rules
     rules ← times n (read_rule g)
     _ ← read_end
     pure rules
 
   unfoldable pub read_system : Parser System
   read_system = do
-    n ← number range 1 max_symbols
-    arities ← times n (number range 0 max_arity)
-    _ ← number range n n
+    n ← number Range 1 max_symbols
+    arities ← times n (number Range 0 max_arity)
+    _ ← number Range n n
     strategies ← each read_strategy arities
     rules ← read_rules arities
     pure (record { arities = arities; strategies = strategies; rules = rules })

@@ -1,58 +1,35 @@
 // The reader: one pass over the book, from left to right, that ends at the first fault.
-ghost use Rattle.std.specs.Prelude.{◌≡◌};
-ghost use Rattle.reader.specs.Parser.{read};
-ghost use Rattle.reader.specs.scan.Sections.{scan_of};
+ghost use Rattle.std.specs.Prelude.{◌≡◌, MatchResult};
+ghost use Rattle.std.proofs.Props.{props};
+ghost use Rattle.reader.specs.Parser.{read, fault};
 
 mod numbers;
 mod sections;
 mod sides;
 
-use crate::Shape;
-use crate::scan::sections::read_sections;
-use system::Answer;
-use system::numbers::TAKEN;
-use system::words::{symbols, wide};
+use crate::Refusal;
+use crate::book::Book;
+use crate::scan::sections::{read_sections, shape_at};
 
-// A book that was read once, for all that is asked of it: the reader's answer and the book's shape.
+// Words that were read once, for all that is asked of them: the book that they are, or its first fault with the index of the word that was being
+// read.
 #[derive(Clone, Copy)]
-pub struct Scan {
-    pub answer: Answer,
-    pub shape: Shape,
+pub struct Scan<'a> {
+    pub words: &'a [u16],
+    pub outcome: Result<Book<'a>, Refusal>,
+    ghost scanned: { MatchResult outcome (λ b. b.words.now ≡ words.now) (λ r. read words.now ≡ fault r.fault r.place) } by { Prim.hlevel props },
 }
 
 // The whole book, in one pass: the inner interface for all operations that take one.
-pub fn scan_book(book: &[u16]) -> Scan
-    ensures { result ≡ scan_of (read book.now) }
+pub fn scan_book(words: &[u16]) -> Scan<'_>
+    ensures { result.words ≡ words.entry }
 {
-    let s = read_sections(book);
-    let answer = Answer {
-        number: s.number,
-        place: s.place,
-        steps: 0,
+    let outcome = match read_sections(words) {
+        Ok(s) => Ok(Book {
+            words,
+            shape: shape_at(words, s.rules),
+        }),
+        Err(r) => Err(r),
     };
-    if s.number != TAKEN {
-        return Scan {
-            answer,
-            shape: Shape {
-                symbols: 0,
-                strategies: 0,
-                rules: 0,
-                first_rule: 0,
-            },
-        };
-    }
-    let symbols = symbols(book);
-    let strategies = symbols + 2;
-    let at = s.rules;
-    let rules = wide(book[at]);
-    let first_rule = at + 1;
-    Scan {
-        answer,
-        shape: Shape {
-            symbols,
-            strategies,
-            rules,
-            first_rule,
-        },
-    }
+    Scan { words, outcome }
 }

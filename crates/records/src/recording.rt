@@ -1,9 +1,9 @@
 // The limits that a caller sets, and the record of the steps in words that the caller lends (02, F-3).
-ghost use Rattle.std.specs.Prelude.{◌≡◌, true, ◌+◌, ◌*◌, ◌≤◌, ◌<◌, length};
+ghost use Rattle.std.specs.Prelude.{◌≡◌, true, ◌+◌, ◌*◌, ◌≤◌, ◌<◌, length, IfNone};
 ghost use Rattle.system.specs.Limits.{max_word, max_steps};
 ghost use Rattle.records.specs.recording.Kept.{limits_of, met, paired};
 
-use system::numbers::{FULL, SPENT, TAKEN};
+use system::numbers::Limit;
 
 // The most steps, and whether a record is lent. Its room is as many words as it has.
 #[derive(Clone, Copy)]
@@ -12,21 +12,19 @@ pub struct Bounds {
     pub recorded: bool,
 }
 
-// The limit that one more step meets after k steps, where the record has so many words: 11, then 16; 0 where none is met, and then the
-// steps can be counted on.
-pub fn limit_met(bounds: Bounds, words: usize, k: u32) -> u32
-    ensures number { result ≡ met (limits_of bounds words) k }
-    ensures counted { result ≡ 0 → k < max_steps }
+// The limit that one more step meets after k steps, where the record has so many words: 11, then 16. Where none is met, the steps can be
+// counted on.
+pub fn limit_met(bounds: Bounds, words: usize, k: u32) -> Option<Limit>
+    ensures limit { result ≡ met (limits_of bounds words) k }
+    ensures counted { IfNone result (k < max_steps) }
 {
     if bounds.limit <= k {
-        return SPENT;
+        return Some(Limit::Spent);
     }
-    if bounds.recorded {
-        if words < 2 * (k as usize) + 2 {
-            return FULL;
-        }
+    if bounds.recorded && words < 2 * (k as usize) + 2 {
+        return Some(Limit::Full);
     }
-    TAKEN
+    None
 }
 
 // Writes the pair of a step behind those of k others, where a record is lent.

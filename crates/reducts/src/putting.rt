@@ -26,7 +26,8 @@ pub struct Subterm {
     pub width: usize,
 }
 
-// What a rewrite came to: whether the term would have more than 4,096 words, and then it stands as it did; where the gap is now.
+// What a rewrite came to: whether the term would have more than 4,096 words, and then it stands as it did; where the gap is now. That is told in
+// both cases, so no Option and no Result would say more than the flag.
 #[derive(Clone, Copy)]
 pub struct Reduced {
     pub long: bool,
@@ -48,19 +49,20 @@ fn put_crowded(
         area.new result (instance (filling (term_in area.old gap) u (stretches_in bindings.now)) side.now) }
 {
     let base = COUNTS + u.level;
-    let end = u.width;
     let later = u.at + (gap.back - gap.front);
-    let back = gap.back;
-    move_words(area, u.at, base, end);
-    let words = Source { base, end, later };
-    write_words(side, area, back, bindings, words);
-    move_words(area, TERM_WORDS + u.at, base, end);
-    let lengths = Source {
+    let words = Source {
         base,
-        end,
-        later: TERM_WORDS + later,
+        end: u.width,
+        later,
     };
-    write_lengths(book, side, area, back, bindings, lengths)
+    let lengths = Source {
+        later: TERM_WORDS + later,
+        ..words
+    };
+    move_words(area, u.at, base, u.width);
+    write_words(side, area, gap.back, bindings, words);
+    move_words(area, TERM_WORDS + u.at, base, u.width);
+    write_lengths(book, side, area, gap.back, bindings, lengths)
 }
 
 // Puts a word without arguments in the place of the words of u: the gap is brought behind them, and the first is written over.
@@ -69,17 +71,15 @@ pub fn put_word(area: &mut [u16], gap: Gap, u: Subterm, w: u16) -> Reduced
     ensures { (g : Signature) (c : Stretches) → Puttable g (w ∷ []) area.old gap u c → arity g w ≡ 0 →
         Put g (w ∷ []) area.old gap u c result area.new }
 {
-    let at = u.at;
-    let g = move_gap(area, gap, at + u.width);
-    area[at] = w;
-    area[TERM_WORDS + at] = 1;
-    let left = Gap {
-        front: at + 1,
-        back: g.back,
-    };
+    let g = move_gap(area, gap, u.at + u.width);
+    area[u.at] = w;
+    area[TERM_WORDS + u.at] = 1;
     Reduced {
         long: false,
-        gap: left,
+        gap: Gap {
+            front: u.at + 1,
+            ..g
+        },
     }
 }
 
@@ -97,10 +97,7 @@ fn goes_before(gap: Gap, u: Subterm, k: usize) -> bool
     requires { Lies gap × (u.at + u.width ≤ term_words) }
     ensures { result ≡ true → k ≤ gap.back - gap.front }
 {
-    if gap.back - gap.front < k {
-        return false;
-    }
-    8 * gap.front <= 8 * u.at + u.width
+    k <= gap.back - gap.front && 8 * gap.front <= 8 * u.at + u.width
 }
 
 // Where the gap is brought: to the first word of u, or behind the last.
@@ -108,10 +105,7 @@ fn edge(u: Subterm, before: bool) -> usize
     requires { u.at + u.width ≤ term_words }
     ensures { result ≡ edge u before }
 {
-    if before {
-        return u.at;
-    }
-    u.at + u.width
+    if before { u.at } else { u.at + u.width }
 }
 
 // Where a reduct of k words is written, the gap being at that edge of u, so that what follows the words of u stays where it is: before the gap, with
@@ -120,17 +114,15 @@ fn place_for(gap: Gap, u: Subterm, k: usize, before: bool) -> Place
     requires { Lies gap × (u.at + u.width ≤ term_words) × (k ≤ gap.back - gap.front) }
     ensures { result ≡ place_for gap u k before }
 {
-    let front = u.at;
-    let back = gap.back;
     if before {
         let open = Gap {
-            front: front + k,
-            back: back + u.width,
+            front: u.at + k,
+            back: gap.back + u.width,
         };
         let source = Source {
-            base: back,
+            base: gap.back,
             end: u.width,
-            later: back,
+            later: gap.back,
         };
         return Place {
             gap: open,
@@ -138,17 +130,19 @@ fn place_for(gap: Gap, u: Subterm, k: usize, before: bool) -> Place
             left: open,
         };
     }
-    let source = Source {
-        base: front,
-        end: u.width,
-        later: front + (back - gap.front),
-    };
     Place {
-        gap: Gap { front: back, back },
-        source,
+        gap: Gap {
+            front: gap.back,
+            back: gap.back,
+        },
+        source: Source {
+            base: u.at,
+            end: u.width,
+            later: u.at + (gap.back - gap.front),
+        },
         left: Gap {
-            front,
-            back: back - k,
+            front: u.at,
+            back: gap.back - k,
         },
     }
 }
@@ -167,27 +161,23 @@ pub fn put_reduct(
     ensures { Put (signature_of book.now) side.now area.old gap u (stretches_in bindings.now) result
         area.new }
 {
-    let front = u.at;
     let k = reduct_length(side, bindings);
     let before = goes_before(gap, u, k);
     let g = move_gap(area, gap, edge(u, before));
-    if g.back < front + k {
+    if g.back < u.at + k {
         return Reduced { long: true, gap: g };
     }
     if k <= g.back - g.front {
         let place = place_for(g, u, k, before);
-        let open = place.gap;
-        let source = place.source;
-        let left = place.left;
-        write_reduct(book, side, area, open, bindings, source);
+        write_reduct(book, side, area, place.gap, bindings, place.source);
         return Reduced {
             long: false,
-            gap: left,
+            gap: place.left,
         };
     }
     let back = put_crowded(book, side, area, g, u, bindings);
     Reduced {
         long: false,
-        gap: Gap { front, back },
+        gap: Gap { front: u.at, back },
     }
 }

@@ -2,7 +2,9 @@
 use Rattle.std.specs.Prelude.{ℕ, ◌≤◌, ◌≡◌, List, [], ◌∷◌, length}
 use Rattle.buffers.specs.Words.{over, zeros}
 use Rattle.system.specs.declared.Answer.{Answer}
-use Rattle.system.specs.Numbers.{taken, stopping, overlong, untrue, number_of}
+use Rattle.system.specs.Numbers.{number_of}
+use Rattle.system.specs.declared.numbers.Limit.TheVariants.{Overlong}
+use Rattle.system.specs.declared.numbers.Verdict.TheVariants.{Taken, Stopping, Untrue}
 use Rattle.system.specs.Limits.{area_words, term_words}
 use Rattle.reader.specs.Answers.{term_answer}
 use Rattle.system.specs.System.{System}
@@ -22,12 +24,12 @@ as_answer a = record { number = a.number; place = a.place; steps = a.steps }
 -- is how many steps are completed; 17 and 12 "leave the buffers as 11 does"
 abbrev pub replay_of : List ℕ → List ℕ → Replay → Expansion
 replay_of out work (followed r) =
-    answer_and_buffers (record { number = number_of taken; place = length r.term; steps = steps r }) (over out 0 r.term)
+    answer_and_buffers (record { number = number_of Taken; place = length r.term; steps = steps r }) (over out 0 r.term)
     (over work 0 (zeros area_words))
 replay_of out work (mistold h) =
-    answer_and_buffers (record { number = number_of untrue; place = length h; steps = length h }) out (over work 0 (zeros area_words))
+    answer_and_buffers (record { number = number_of Untrue; place = length h; steps = length h }) out (over work 0 (zeros area_words))
 replay_of out work (exceeded h) =
-    answer_and_buffers (record { number = number_of (stopping overlong); place = 0; steps = length h }) out (over work 0 (zeros area_words))
+    answer_and_buffers (record { number = number_of (Stopping Overlong); place = 0; steps = length h }) out (over work 0 (zeros area_words))
 
 -- "It checks 10, book and cue first"
 abbrev pub replaying : List ℕ → List ℕ → List ℕ → List ℕ → List ℕ → Expansion
@@ -55,6 +57,6 @@ pub data NoStep (s : System) (t : List ℕ) (h : Trace) (words : List ℕ) : Typ
 -- leads on from there at that position by that rule
 abbrev pub IsMistold : List ℕ → List ℕ → List ℕ → Expansion → Type 0
 IsMistold book term words x =
-    x.numbers.number ≡ number_of untrue →
+    x.numbers.number ≡ number_of Untrue →
     (h : Trace) × (t : List ℕ) × Path (system_of book) term_words term h t × (x.numbers.place ≡ length h) × (x.numbers.steps ≡ length h)
     × NoStep (system_of book) t h words

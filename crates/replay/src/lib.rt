@@ -5,11 +5,15 @@
 ghost use Rattle.std.specs.Prelude.{◌≡◌};
 ghost use Rattle.evaluation.specs.Expansion.{answer_and_buffers};
 ghost use Rattle.replay.specs.Replaying.{as_answer, replaying, AcceptsExactly, IsMistold};
+ghost use Rattle.replay.specs.retrace.Retraces.{halt_answer};
 
 pub mod retrace;
 pub mod scanned;
 
+use crate::retrace::{Halt, Halted};
 use reader::scan::scan_book;
+use system::Answer;
+use system::numbers::{Limit, Verdict};
 
 // Three numbers, as those of an answer; but a record may have more pairs than 32 bits tell.
 #[derive(Clone, Copy)]
@@ -17,6 +21,36 @@ pub struct Replayed {
     pub number: u32,
     pub place: usize,
     pub steps: usize,
+}
+
+// The same three numbers: an answer's, where its checks refuse a replay.
+impl From<Answer> for Replayed {
+    ghost from_gives = { λ a r. as_answer r ≡ a };
+
+    fn from(a: Answer) -> Replayed {
+        Replayed {
+            number: a.number,
+            place: a.place,
+            steps: a.steps as usize,
+        }
+    }
+}
+
+// The place of 17 is the pair's number: as many as the steps before it. 12 has none.
+impl From<Halted> for Replayed {
+    ghost from_gives = { λ h r. as_answer r ≡ halt_answer h };
+
+    fn from(h: Halted) -> Replayed {
+        let (verdict, place) = match h.why {
+            Halt::Untrue => (Verdict::Untrue, h.steps),
+            Halt::Overlong => (Limit::Overlong.into(), 0),
+        };
+        Replayed {
+            number: verdict.into(),
+            place,
+            steps: h.steps,
+        }
+    }
 }
 
 // Follows a record over a book from a term on.
@@ -39,6 +73,5 @@ pub fn replay(
     ensures mistold { IsMistold book.now term.now «record».now
         (answer_and_buffers (as_answer result) out.new work.new) }
 {
-    let s = scan_book(book);
-    scanned::replay_scanned(book, s, term, record, out, work)
+    scanned::replay_scanned(&scan_book(book), term, record, out, work)
 }

@@ -9,7 +9,7 @@ use Rattle.system.specs.Signature.{argument}
 use Rattle.system.specs.System.{System, strategy}
 use Rattle.matching.specs.Matching.{Contraction, contraction}
 use Rattle.rewriting.specs.Evaluation.{Limits, Config, steps, Outcome, finished, stopped, and_then, follow, at_root, evaluate}
-use Rattle.system.specs.Numbers.{spent, nested}
+use Rattle.system.specs.declared.numbers.Limit.TheVariants.{Spent, Nested}
 use Rattle.rewriting.proofs.Walks.{never, after-finished, rewrite-finished, rewrite-same, follow-end, follow-pass, follow-fire, follow-open}
 
 module _ (s : System) (limits : Limits) where
@@ -34,12 +34,12 @@ module _ (s : System) (limits : Limits) where
 
   at_root-mono : (inner : ℕ → Config → Outcome) → Mono inner → (left : ℕ) → Mono (at_root s limits inner left)
   unfolding at_root
-  at_root-mono inner hi zero p r = follow-mono inner (λ p r. stopped spent r.trace) hi (λ p r r' e. never spent r.trace r' e) _ p r
+  at_root-mono inner hi zero p r = follow-mono inner (λ p r. stopped Spent r.trace) hi (λ p r r' e. never Spent r.trace r' e) _ p r
   at_root-mono inner hi (suc left) p r = follow-mono inner (at_root s limits inner left) hi (at_root-mono inner hi left) _ p r
 
   pub evaluate-mono : (l : ℕ) → Mono (evaluate s limits l)
   unfolding evaluate
-  evaluate-mono zero p r r' e = never nested r.trace r' e
+  evaluate-mono zero p r r' e = never Nested r.trace r' e
   evaluate-mono (suc l) p r r' e = at_root-mono (evaluate s limits l) (evaluate-mono l) limits.steps p r r' e
 
   -- two ways to start anew that agree on later runs within the limit

@@ -15,7 +15,7 @@ use Rattle.system.specs.Terms.{Whole, Member, first, later, WellFormed}
 use Rattle.matching.specs.Matching.{contraction}
 use Rattle.rewriting.specs.Evaluation.{Limits, Config, steps, Outcome, finished, stopped, and_then, follow, at_root, evaluate}
 use Rattle.rewriting.specs.Trace.{Trace}
-use Rattle.system.specs.Numbers.{spent}
+use Rattle.system.specs.declared.numbers.Limit.TheVariants.{Spent}
 use Rattle.system.proofs.Members.{member-nil}
 use Rattle.system.proofs.Forests.{focus-here, Node, node-whole, as-node}
 use Rattle.system.proofs.Places.{at-word, at-argument}
@@ -77,7 +77,7 @@ module _ (s : System) where
     at_root-start : (inner : ℕ → Config → Outcome) (left p : ℕ) (r : Config) →
         (again : ℕ → Config → Outcome) × (at_root s limits inner left p r ≡ follow s limits inner again (strategy s (get_or r.term p 0)) p r)
     unfolding at_root
-    at_root-start inner zero p r = (λ p' r'. stopped spent r'.trace, refl)
+    at_root-start inner zero p r = (λ p' r'. stopped Spent r'.trace, refl)
     at_root-start inner (suc left) p r = (at_root s limits inner left, refl)
 
     abbrev Rests : ℕ → Type 0

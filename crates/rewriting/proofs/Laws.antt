@@ -10,7 +10,7 @@ use Rattle.system.specs.Signature.{argument, replace}
 use Rattle.system.specs.System.{System, strategy}
 use Rattle.matching.specs.Matching.{Contraction, contraction}
 use Rattle.rewriting.specs.Evaluation.{Limits, Config, stepped, Outcome, finished, stopped, and_then, rewrite, follow, evaluate}
-use Rattle.system.specs.Numbers.{nested}
+use Rattle.system.specs.declared.numbers.Limit.TheVariants.{Nested}
 use Rattle.rewriting.specs.Machine.{others, last, strategy_at, down, position}
 use Rattle.system.proofs.Places.{replace-word, replace-argument}
 use Rattle.rewriting.proofs.Walks.{rewrite-same, after-rewrite, follow-pass, follow-fire, follow-open}
@@ -55,7 +55,7 @@ module _ (s : System) where
 -- what is left to do from a state: at the innermost level, then at each level around it
 unfoldable pub resume : System → Limits → ℕ → List ℕ → ℕ → Config → Outcome
 resume s limits l [] p r = finished r
-resume s limits zero (c ∷ cs) p r = stopped nested r.trace
+resume s limits zero (c ∷ cs) p r = stopped Nested r.trace
 resume s limits (suc l) (c ∷ cs) p r =
     and_then (resume s limits l cs (down s r.term p c) r)
     (λ r'. follow s limits (evaluate s limits l) (evaluate s limits (suc l)) (drop c (strategy_at s r.term p)) p r')
@@ -78,7 +78,7 @@ module _ (s : System) (limits : Limits) where
   unfolding resume
   resume-end l p r = refl
 
-  pub resume-deep : (c : ℕ) (cs : List ℕ) (p : ℕ) (r : Config) → resume s limits zero (c ∷ cs) p r ≡ stopped nested r.trace
+  pub resume-deep : (c : ℕ) (cs : List ℕ) (p : ℕ) (r : Config) → resume s limits zero (c ∷ cs) p r ≡ stopped Nested r.trace
   unfolding resume
   resume-deep c cs p r = refl
 

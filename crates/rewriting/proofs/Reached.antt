@@ -11,7 +11,7 @@ use Rattle.system.specs.System.{System}
 use Rattle.system.specs.Terms.{WellFormed}
 use Rattle.matching.specs.Matching.{Contraction, contraction}
 use Rattle.rewriting.specs.Evaluation.{Limits, Config, finished, stopped, and_then, rewrite}
-use Rattle.system.specs.Numbers.{nested}
+use Rattle.system.specs.declared.numbers.Limit.TheVariants.{Nested}
 use Rattle.rewriting.specs.Machine.{strategy_at, down, position, Next, final, deep, ready, around, scan, enter, advance}
 use Rattle.matching.proofs.Firsts.{contraction-empty}
 use Rattle.rewriting.proofs.Walks.{follow-end}
@@ -42,7 +42,7 @@ module _ (s : System) where
     -- what is left to do from the state xs, told by where the machine comes to
     abbrev pub Reached : ℕ → List ℕ → ℕ → Next → Type 0
     Reached l xs p final = resume s limits l xs p r ≡ finished r
-    Reached l xs p deep = resume s limits l xs p r ≡ stopped nested r.trace
+    Reached l xs p deep = resume s limits l xs p r ≡ stopped Nested r.trace
     Reached l xs p (ready cs c x) = (contraction s (drop (position s t cs p) t) ≡ some x) ×
         (resume s limits l xs p r ≡ rewrite s limits (position s t cs p) r x (λ r'. resume s limits l (cs ++ 0 ∷ []) p r'))
 

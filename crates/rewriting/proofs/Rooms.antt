@@ -9,7 +9,7 @@ use mathlib.Core.List.{List, [], ◌∷◌}
 use lib.ListN.{length, get_or, drop}
 use borrow.Author.Tests.{le-leb, lt-leb}
 use Rattle.system.specs.Limits.{term_words, levels}
-use Rattle.system.specs.Numbers.{spent, overlong, nested, full}
+use Rattle.system.specs.declared.numbers.Limit.TheVariants.{Spent, Overlong, Nested, Full}
 use Rattle.system.specs.Signature.{argument}
 use Rattle.system.specs.System.{System, strategy}
 use Rattle.matching.specs.Matching.{Contraction, contraction}
@@ -20,7 +20,7 @@ use Rattle.rewriting.proofs.Walks.{follow-end, follow-pass, follow-fire, follow-
 -- an outcome with n words of room, beside the one with no record: the same, or 16 where a step within the limit found no room
 pub data Cut (limit n : ℕ) : Outcome → Outcome → Type 0 where
   same : (o : Outcome) → Cut limit n o o
-  fills : (h : Trace) (o : Outcome) → length h < limit → n < 2 * length h + 2 → Cut limit n (stopped full h) o
+  fills : (h : Trace) (o : Outcome) → length h < limit → n < 2 * length h + 2 → Cut limit n (stopped Full h) o
 
 module _ (s : System) (limit n : ℕ) where
   abbrev roomy : Limits
@@ -51,7 +51,7 @@ module _ (s : System) (limit n : ℕ) where
 
   rewrite-cut : (p : ℕ) (r : Config) (x : Contraction) (on on' : Config → Outcome) → Cuts on on' → Cut limit n (rewrite s roomy p r x on) (rewrite s free p r x on')
   rewrite-cut p r x on on' c = elim (dec_le limit (steps r)) [
-    | yes h ↦ rw (rewrite-spent s roomy p r x h on, rewrite-spent s free p r x h on') (same (stopped spent r.trace))
+    | yes h ↦ rw (rewrite-spent s roomy p r x h on, rewrite-spent s free p r x h on') (same (stopped Spent r.trace))
     | no h ↦
         let l : steps r < limit = omega arith in
         elim (dec_le (2 * steps r + 2) n) [
@@ -59,7 +59,7 @@ module _ (s : System) (limit n : ℕ) where
           | yes m ↦ elim (dec_le (length (stepped s p r x).term) term_words) [
             | no k ↦
                 rw (rewrite-long s roomy p r x l (has_room_lem (steps r) m) (omega arith) on, rewrite-long s free p r x l (free-room (steps r)) (omega arith) on')
-                (same (stopped overlong r.trace))
+                (same (stopped Overlong r.trace))
             | yes k ↦ rw (rewrite-goes s roomy p r x l (has_room_lem (steps r) m) k on, rewrite-goes s free p r x l (free-room (steps r)) k on') (c (stepped s p r x))
           ]
         ]
@@ -81,13 +81,13 @@ module _ (s : System) (limit n : ℕ) where
   at_root-cut : (inner inner' : ℕ → Config → Outcome) → ((p : ℕ) → Cuts (inner p) (inner' p)) → (left p : ℕ) → Cuts (at_root s roomy inner left p) (at_root s free inner' left p)
   unfolding at_root
   at_root-cut inner inner' hi zero p r =
-      follow-cut inner inner' (λ p r. stopped spent r.trace) (λ p r. stopped spent r.trace) hi (λ p r. same (stopped spent r.trace)) (strategy s (get_or r.term p 0)) p r
+      follow-cut inner inner' (λ p r. stopped Spent r.trace) (λ p r. stopped Spent r.trace) hi (λ p r. same (stopped Spent r.trace)) (strategy s (get_or r.term p 0)) p r
   at_root-cut inner inner' hi (suc left) p r =
       follow-cut inner inner' (at_root s roomy inner left) (at_root s free inner' left) hi (at_root-cut inner inner' hi left) (strategy s (get_or r.term p 0)) p r
 
   evaluate-cut : (levels p : ℕ) → Cuts (evaluate s roomy levels p) (evaluate s free levels p)
   unfolding evaluate
-  evaluate-cut zero p r = same (stopped nested r.trace)
+  evaluate-cut zero p r = same (stopped Nested r.trace)
   evaluate-cut (suc left) p r = at_root-cut (evaluate s roomy left) (evaluate s free left) (evaluate-cut left) limit p r
 
   -- the form with a record answers what the plain one does, or 16

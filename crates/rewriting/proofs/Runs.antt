@@ -10,7 +10,8 @@ use lib.ListN.{length}
 use lib.Dec.{leb, ltb}
 use borrow.Author.Tests.{lt-ltb, le-ltb, le-leb, lt-leb}
 use Rattle.system.specs.Limits.{levels, term_words}
-use Rattle.system.specs.Numbers.{Limit, spent, overlong, full}
+use Rattle.system.specs.declared.numbers.Limit.{Limit}
+use Rattle.system.specs.declared.numbers.Limit.TheVariants.{Spent, Overlong, Full}
 use Rattle.system.specs.System.{System}
 use Rattle.system.specs.Terms.{WellFormed}
 use Rattle.matching.specs.Matching.{Contraction}
@@ -24,9 +25,9 @@ use Rattle.rewriting.proofs.Reached.{Reached, reached}
 module _ (s : System) (limits : Limits) (q : ℕ) (x : Contraction) (r : Config) where
   -- a limit that stops the step at q: 11, 16, 12
   pub data Bars : Limit → Type 0 where
-    by_steps : limits.steps ≤ steps r → Bars spent
-    by_room : steps r < limits.steps → has_room limits.room (steps r) ≡ false → Bars full
-    by_length : steps r < limits.steps → has_room limits.room (steps r) ≡ true → term_words < length (stepped s q r x).term → Bars overlong
+    by_steps : limits.steps ≤ steps r → Bars Spent
+    by_room : steps r < limits.steps → has_room limits.room (steps r) ≡ false → Bars Full
+    by_length : steps r < limits.steps → has_room limits.room (steps r) ≡ true → term_words < length (stepped s q r x).term → Bars Overlong
 
   -- none does
   abbrev pub Free : Type 0
@@ -36,11 +37,11 @@ module _ (s : System) (limits : Limits) where
   -- ---- the tests before a step
 
   module _ (outer : List ℕ) (c : ℕ) (x : Contraction) (r : Config) where
-    pub before-spent : limits.steps ≤ steps r → (on : Came) → before s limits outer c x r on ≡ barred spent outer c x r
+    pub before-spent : limits.steps ≤ steps r → (on : Came) → before s limits outer c x r on ≡ barred Spent outer c x r
     unfolding before
     before-spent h on = rw (le-ltb (steps r) limits.steps h, before)
 
-    pub before-full : steps r < limits.steps → has_room limits.room (steps r) ≡ false → (on : Came) → before s limits outer c x r on ≡ barred full outer c x r
+    pub before-full : steps r < limits.steps → has_room limits.room (steps r) ≡ false → (on : Came) → before s limits outer c x r on ≡ barred Full outer c x r
     unfolding before
     before-full h f on = rw (lt-ltb (steps r) limits.steps h, before) (rw f)
 
@@ -49,7 +50,7 @@ module _ (s : System) (limits : Limits) where
     before-free h f on = rw (lt-ltb (steps r) limits.steps h, before) (rw f)
 
     module _ (q : ℕ) where
-      pub fitting-long : term_words < length (stepped s q r x).term → (on : Came) → fitting s limits q outer c x r on ≡ barred overlong outer c x r
+      pub fitting-long : term_words < length (stepped s q r x).term → (on : Came) → fitting s limits q outer c x r on ≡ barred Overlong outer c x r
       unfolding fitting
       fitting-long m on = rw (lt-leb _ term_words m, fitting)
 
@@ -62,8 +63,8 @@ module _ (s : System) (limits : Limits) where
     unfolding before
     before-onward p n on = go (ltb (steps r) limits.steps) (has_room limits.room (steps r))
       where
-        go : (a b : Bool) → onward s limits p n (elim a [ false ↦ barred spent outer c x r | true ↦ elim b [ false ↦ barred full outer c x r | true ↦ on ] ])
-            ≡ elim a [ false ↦ barred spent outer c x r | true ↦ elim b [ false ↦ barred full outer c x r | true ↦ onward s limits p n on ] ]
+        go : (a b : Bool) → onward s limits p n (elim a [ false ↦ barred Spent outer c x r | true ↦ elim b [ false ↦ barred Full outer c x r | true ↦ on ] ])
+            ≡ elim a [ false ↦ barred Spent outer c x r | true ↦ elim b [ false ↦ barred Full outer c x r | true ↦ onward s limits p n on ] ]
         go false b = refl
         go true false = refl
         go true true = refl
@@ -72,7 +73,7 @@ module _ (s : System) (limits : Limits) where
     unfolding fitting
     fitting-onward q p n on = go (leb (length (stepped s q r x).term) term_words)
       where
-        go : (a : Bool) → onward s limits p n (elim a [ false ↦ barred overlong outer c x r | true ↦ on ]) ≡ elim a [ false ↦ barred overlong outer c x r | true ↦ onward s limits p n on ]
+        go : (a : Bool) → onward s limits p n (elim a [ false ↦ barred Overlong outer c x r | true ↦ on ]) ≡ elim a [ false ↦ barred Overlong outer c x r | true ↦ onward s limits p n on ]
         go false = refl
         go true = refl
 
@@ -83,8 +84,8 @@ module _ (s : System) (limits : Limits) where
     abbrev test : Bool → Bool → Bool → Came → Came
     test a b d on =
         elim a [
-          | false ↦ barred spent outer c x r
-          | true ↦ elim b [ false ↦ barred full outer c x r | true ↦ elim d [ false ↦ barred overlong outer c x r | true ↦ on ] ]
+          | false ↦ barred Spent outer c x r
+          | true ↦ elim b [ false ↦ barred Full outer c x r | true ↦ elim d [ false ↦ barred Overlong outer c x r | true ↦ on ] ]
         ]
 
     pub tests-twice : (q : ℕ) (on : Came) → tests q (tests q on) ≡ tests q on
@@ -105,18 +106,18 @@ module _ (s : System) (limits : Limits) where
     pub tests-cases : (P : Came → Type 0) (q : ℕ) (on : Came) → ((l : Limit) → Bars s limits q x r l → P (barred l outer c x r)) →
         (Free s limits q x r → P on) → P (tests q on)
     tests-cases P q on stops goes = elim (dec_lt (steps r) limits.steps) [
-      | no l ↦ let n : limits.steps ≤ steps r = omega arith in subst P (sym (before-spent n (fitting s limits q outer c x r on))) (stops spent (by_steps n))
+      | no l ↦ let n : limits.steps ≤ steps r = omega arith in subst P (sym (before-spent n (fitting s limits q outer c x r on))) (stops Spent (by_steps n))
       | yes l ↦ roomy l (has_room limits.room (steps r)) refl
     ]
       where
         fits : steps r < limits.steps → has_room limits.room (steps r) ≡ true → P (fitting s limits q outer c x r on)
         fits l f = elim (dec_le (length (stepped s q r x).term) term_words) [
-          | no m ↦ let n : term_words < length (stepped s q r x).term = omega arith in subst P (sym (fitting-long q n on)) (stops overlong (by_length l f n))
+          | no m ↦ let n : term_words < length (stepped s q r x).term = omega arith in subst P (sym (fitting-long q n on)) (stops Overlong (by_length l f n))
           | yes n ↦ subst P (sym (fitting-goes q n on)) (goes (l, f, n))
         ]
 
         roomy : steps r < limits.steps → (b : Bool) → has_room limits.room (steps r) ≡ b → P (tests q on)
-        roomy l false f = subst P (sym (before-full l f (fitting s limits q outer c x r on))) (stops full (by_room l f))
+        roomy l false f = subst P (sym (before-full l f (fitting s limits q outer c x r on))) (stops Full (by_room l f))
         roomy l true f = subst P (sym (before-free l f (fitting s limits q outer c x r on))) (fits l f)
 
   -- ---- the clauses

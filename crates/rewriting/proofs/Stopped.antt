@@ -7,7 +7,8 @@ use mathlib.Core.Option.{Option, none, some}
 use mathlib.Core.List.{List, [], ◌∷◌, ◌++◌}
 use lib.ListN.{length, get_or, drop, length-append}
 use Rattle.system.specs.Limits.{term_words, levels}
-use Rattle.system.specs.Numbers.{Limit, nested}
+use Rattle.system.specs.declared.numbers.Limit.{Limit}
+use Rattle.system.specs.declared.numbers.Limit.TheVariants.{Nested}
 use Rattle.system.specs.Signature.{argument}
 use Rattle.system.specs.System.{System, Rule}
 use Rattle.system.specs.Rules.{RuleOf}
@@ -101,12 +102,12 @@ module _ (s : System) (t : List ℕ) where
 
 -- so 13 is told of an active position of level 64
 sinks-below : (s : System) (wf : WellFormed s) {t : List ℕ} → Whole s.arities t → (limits : Limits) (h : Trace) {l p : ℕ} (a : Active s t p) → Sinks s t l p →
-    level_of a + l ≡ suc levels → Halts s limits t h nested
+    level_of a + l ≡ suc levels → Halts s limits t h Nested
 unfolding level_of
 sinks-below s wf w limits h a (bottom o) e = too_deep a (omega arith) (o (none-there s wf w a))
 sinks-below s wf w limits h a (further i st d) e = sinks-below s wf w limits h (below i a st) d (omega arith)
 
-sinks-halts : (s : System) (wf : WellFormed s) {t : List ℕ} → Whole s.arities t → (limits : Limits) (h : Trace) → Sinks s t levels 0 → Halts s limits t h nested
+sinks-halts : (s : System) (wf : WellFormed s) {t : List ℕ} → Whole s.arities t → (limits : Limits) (h : Trace) → Sinks s t levels 0 → Halts s limits t h Nested
 unfolding level_of
 sinks-halts s wf w limits h d = sinks-below s wf w limits h root d refl
 

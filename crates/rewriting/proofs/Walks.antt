@@ -9,7 +9,8 @@ use lib.ListN.{length, get_or, set, take, drop}
 use native.Mathlib.Decide.{dec_lt, dec_le}
 use borrow.Author.Tests.{lt-ltb, le-ltb, le-leb, lt-leb, leb-true}
 use Rattle.system.specs.Limits.{term_words}
-use Rattle.system.specs.Numbers.{Limit, spent, overlong, nested, full}
+use Rattle.system.specs.declared.numbers.Limit.{Limit}
+use Rattle.system.specs.declared.numbers.Limit.TheVariants.{Spent, Overlong, Nested, Full}
 use Rattle.system.specs.Signature.{Signature, Symbol, arity, argument}
 use Rattle.system.specs.System.{System, strategy, head}
 use Rattle.system.specs.Terms.{Whole, Member, first, later, WellFormed}
@@ -75,16 +76,16 @@ module _ (s : System) where
   module _ (limits : Limits) where
     -- the limits of a rewrite
     module _ (p : ℕ) (r : Config) (x : Contraction) where
-      pub rewrite-spent : limits.steps ≤ steps r → (on : Config → Outcome) → rewrite s limits p r x on ≡ stopped spent r.trace
+      pub rewrite-spent : limits.steps ≤ steps r → (on : Config → Outcome) → rewrite s limits p r x on ≡ stopped Spent r.trace
       unfolding rewrite
       rewrite-spent h on = rw (le-ltb (steps r) limits.steps h, rewrite)
 
-      pub rewrite-full : steps r < limits.steps → has_room limits.room (steps r) ≡ false → (on : Config → Outcome) → rewrite s limits p r x on ≡ stopped full r.trace
+      pub rewrite-full : steps r < limits.steps → has_room limits.room (steps r) ≡ false → (on : Config → Outcome) → rewrite s limits p r x on ≡ stopped Full r.trace
       unfolding rewrite
       rewrite-full h f on = rw (lt-ltb (steps r) limits.steps h, rewrite) (rw f)
 
       module _ (h : steps r < limits.steps) (f : has_room limits.room (steps r) ≡ true) where
-        pub rewrite-long : term_words < length (stepped s p r x).term → (on : Config → Outcome) → rewrite s limits p r x on ≡ stopped overlong r.trace
+        pub rewrite-long : term_words < length (stepped s p r x).term → (on : Config → Outcome) → rewrite s limits p r x on ≡ stopped Overlong r.trace
         unfolding rewrite
         rewrite-long m on = rw (lt-ltb (steps r) limits.steps h, rewrite) (rw f (rw (lt-leb _ term_words m)))
 
@@ -100,14 +101,14 @@ module _ (s : System) where
 
       pub rewritten : RewriteCase
       rewritten = elim (dec_lt (steps r) limits.steps) [
-        | no h ↦ halts spent (rewrite-spent (omega arith))
+        | no h ↦ halts Spent (rewrite-spent (omega arith))
         | yes h ↦ room h (has_room limits.room (steps r)) refl
       ]
         where
           room : steps r < limits.steps → (b : Bool) → has_room limits.room (steps r) ≡ b → RewriteCase
-          room h false f = halts full (rewrite-full h f)
+          room h false f = halts Full (rewrite-full h f)
           room h true f = elim (dec_le (length (stepped s p r x).term) term_words) [
-            | no m ↦ halts overlong (rewrite-long h f (omega arith))
+            | no m ↦ halts Overlong (rewrite-long h f (omega arith))
             | yes m ↦ goes h f m (rewrite-goes h f m)
           ]
 
@@ -253,11 +254,11 @@ module _ (s : System) where
 
       at_root-local : (l : ℕ) (inner : ℕ → Config → Outcome) → Locally l inner → (left : ℕ) → Locally (suc l) (at_root s limits inner left)
       unfolding at_root
-      at_root-local l inner hi zero = start-local l inner (λ p r. stopped spent r.trace) hi (λ a b u n r h e. never spent n r e)
+      at_root-local l inner hi zero = start-local l inner (λ p r. stopped Spent r.trace) hi (λ a b u n r h e. never Spent n r e)
       at_root-local l inner hi (suc left) = start-local l inner (at_root s limits inner left) hi (at_root-local l inner hi left)
 
       -- evaluating at a position is a walk on the subterm there, and changes nothing else
       pub evaluate-local : (levels : ℕ) → Locally levels (evaluate s limits levels)
       unfolding evaluate
-      evaluate-local zero a b u n r h e = never nested n r e
+      evaluate-local zero a b u n r h e = never Nested n r e
       evaluate-local (suc l) a b u n r h e = at_root-local l (evaluate s limits l) (evaluate-local l) limits.steps a b u n r h e

@@ -1,7 +1,8 @@
 -- The evaluation of a term by local strategies, with its limits (01: "Evaluation") and the trace of its steps (02, F-3).
 use Rattle.std.specs.Prelude.{ℕ, zero, suc, ◌+◌, ◌*◌, List, [], ◌∷◌, Bool, true, false, length, get_or, drop, leb, ltb}
 use Rattle.std.proofs.Math.Option.{Option, none, some}
-pub use Rattle.system.specs.Numbers.{Limit, spent, overlong, nested, full, limit_number}
+use Rattle.system.specs.declared.numbers.Limit.{Limit}
+use Rattle.system.specs.declared.numbers.Limit.TheVariants.{Spent, Overlong, Nested, Full}
 use Rattle.system.specs.Signature.{argument, replace}
 use Rattle.system.specs.System.{System, strategy}
 use Rattle.matching.specs.Matching.{Contraction, contraction}
@@ -60,11 +61,11 @@ module _ (s : System) (limits : Limits) where
   unfoldable pub rewrite : ℕ → Config → Contraction → (Config → Outcome) → Outcome
   rewrite p r x on =
       elim (ltb (steps r) limits.steps) [
-        | false ↦ stopped spent r.trace
+        | false ↦ stopped Spent r.trace
         | true ↦ elim (has_room limits.room (steps r)) [
-          | false ↦ stopped full r.trace
+          | false ↦ stopped Full r.trace
           | true ↦ elim (leb (length (stepped s p r x).term) term_words) [
-            | false ↦ stopped overlong r.trace
+            | false ↦ stopped Overlong r.trace
             | true ↦ on (stepped s p r x)
           ]
         ]
@@ -85,12 +86,12 @@ module _ (s : System) (limits : Limits) where
   -- "follow its name's order from the first entry", at one level, with at most `left` steps at p itself. (Where none is left, one more
   -- would pass the limit: no outcome depends on `left` from the limit on.)
   unfoldable pub at_root : (ℕ → Config → Outcome) → ℕ → ℕ → Config → Outcome
-  at_root inner zero p r = follow inner (λ p' r'. stopped spent r'.trace) (strategy s (get_or r.term p 0)) p r
+  at_root inner zero p r = follow inner (λ p' r'. stopped Spent r'.trace) (strategy s (get_or r.term p 0)) p r
   at_root inner (suc left) p r = follow inner (at_root inner left) (strategy s (get_or r.term p 0)) p r
 
   -- evaluate the subterm at p, with so many levels left, its own among them; "from level 64 this is 13, whatever the argument"
   unfoldable pub evaluate : ℕ → ℕ → Config → Outcome
-  evaluate zero p r = stopped nested r.trace
+  evaluate zero p r = stopped Nested r.trace
   evaluate (suc left) p r = at_root (evaluate left) limits.steps p r
 
 -- "The whole cue starts at level 1", and there are 64

@@ -2,7 +2,8 @@
 -- counts all steps since the evaluation began.)
 use Rattle.std.specs.Prelude.{ℕ, zero, suc, ◌-◌, ◌≡◌, true, false, List, [], ◌∷◌, ◌++◌, length, leb, ltb}
 use Rattle.system.specs.Limits.{levels, term_words}
-use Rattle.system.specs.Numbers.{Limit, spent, overlong, nested, full}
+use Rattle.system.specs.declared.numbers.Limit.{Limit}
+use Rattle.system.specs.declared.numbers.Limit.TheVariants.{Spent, Overlong, Nested, Full}
 use Rattle.system.specs.Signature.{Signature}
 use Rattle.system.specs.System.{System}
 use Rattle.system.specs.Terms.{Whole}
@@ -29,22 +30,22 @@ config_of (waits outer c x r) = r
 -- as an outcome: what is handed back
 abbrev pub outcome_of : Came → Outcome
 outcome_of (ended r) = finished r
-outcome_of (sunk r) = stopped nested r.trace
+outcome_of (sunk r) = stopped Nested r.trace
 outcome_of (barred l outer c x r) = stopped l r.trace
-outcome_of (waits outer c x r) = stopped spent r.trace
+outcome_of (waits outer c x r) = stopped Spent r.trace
 
 module _ (s : System) (limits : Limits) where
   -- 11 and 16 before a step, and then on
   unfoldable pub before : List ℕ → ℕ → Contraction → Config → Came → Came
   before outer c x r on =
       elim (ltb (steps r) limits.steps) [
-        | false ↦ barred spent outer c x r
-        | true ↦ elim (has_room limits.room (steps r)) [ false ↦ barred full outer c x r | true ↦ on ]
+        | false ↦ barred Spent outer c x r
+        | true ↦ elim (has_room limits.room (steps r)) [ false ↦ barred Full outer c x r | true ↦ on ]
       ]
 
   -- and 12, by the length of the whole term that the step would leave
   unfoldable pub fitting : ℕ → List ℕ → ℕ → Contraction → Config → Came → Came
-  fitting q outer c x r on = elim (leb (length (stepped s q r x).term) term_words) [ false ↦ barred overlong outer c x r | true ↦ on ]
+  fitting q outer c x r on = elim (leb (length (stepped s q r x).term) term_words) [ false ↦ barred Overlong outer c x r | true ↦ on ]
 
   -- from where the machine came to without a rewrite
   unfoldable pub come : ℕ → ℕ → Next → Config → Came

@@ -3,7 +3,8 @@
 use Rattle.std.specs.Prelude.{ℕ, suc, ◌*◌, ◌≤◌, ◌<◌, ◌≡◌, true, false, List, ◌∷◌, length, get_or}
 use Rattle.std.proofs.Math.Option.{some}
 use Rattle.system.specs.Limits.{term_words, levels}
-use Rattle.system.specs.Numbers.{Limit, spent, overlong, nested, full}
+use Rattle.system.specs.declared.numbers.Limit.{Limit}
+use Rattle.system.specs.declared.numbers.Limit.TheVariants.{Spent, Overlong, Nested, Full}
 use Rattle.system.specs.System.{System, Rule, strategy}
 use Rattle.system.specs.Rules.{RuleOf}
 use Rattle.system.specs.Terms.{Whole}
@@ -27,14 +28,14 @@ pub data Opens (s : System) (t : List ℕ) (p : ℕ) : List ℕ → ℕ → Type
 -- which limit is met at the term t, after the steps of the trace h, and why
 pub data Halts (s : System) (limits : Limits) (t : List ℕ) (h : Trace) : Limit → Type 0 where
   -- 11, "one more step would pass the allowance": a rule matches at an active position, and as many steps are taken as the limit allows
-  no_steps : {t' : List ℕ} → Step s t t' → length h ≡ limits.steps → Halts s limits t h spent
+  no_steps : {t' : List ℕ} → Step s t t' → length h ≡ limits.steps → Halts s limits t h Spent
   -- 16, "when a step finds fewer than two words left in the record, between 11 and 12"
-  no_room : {t' : List ℕ} → Step s t t' → length h < limits.steps → has_room limits.room (length h) ≡ false → Halts s limits t h full
+  no_room : {t' : List ℕ} → Step s t t' → length h < limits.steps → has_room limits.room (length h) ≡ false → Halts s limits t h Full
   -- 12, "the step would leave the whole cue above 4,096 words"
   too_long : {t' : List ℕ} → Step s t t' → length h < limits.steps → has_room limits.room (length h) ≡ true → term_words < length t' →
-      Halts s limits t h overlong
+      Halts s limits t h Overlong
   -- 13, "an argument would be opened from level 64": at an active position of that level the strategy has an argument next
-  too_deep : {p i : ℕ} (a : Active s t p) → level_of a ≡ levels → Opens s t p (strategy s (get_or t p 0)) i → Halts s limits t h nested
+  too_deep : {p i : ℕ} (a : Active s t p) → level_of a ≡ levels → Opens s t p (strategy s (get_or t p 0)) i → Halts s limits t h Nested
 
 -- an evaluation of t₀ that limit l stopped after the steps of the trace h. "No cue past 4,096 words": none in that list has more; the step limit
 -- allows these steps, and a record has room for their pairs

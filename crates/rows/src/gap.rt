@@ -29,9 +29,10 @@ pub fn slot(gap: Gap, i: usize) -> usize
     ensures { (result ≡ slot_of gap i) × (result < term_words) }
 {
     if i < gap.front {
-        return i;
+        i
+    } else {
+        i + (gap.back - gap.front)
     }
-    i + (gap.back - gap.front)
 }
 
 // Word i of the term.
@@ -67,14 +68,12 @@ fn move_on(area: &mut [u16], gap: Gap, to: usize) -> Gap
     requires { Gapped area.old gap × (gap.front ≤ to) × (to ≤ words_in gap) }
     ensures { Moved area.old gap to result area.new }
 {
-    let front = gap.front;
-    let back = gap.back;
-    let n = to - front;
-    move_words(area, back, front, n);
-    move_words(area, TERM_WORDS + back, TERM_WORDS + front, n);
+    let n = to - gap.front;
+    move_words(area, gap.back, gap.front, n);
+    move_words(area, TERM_WORDS + gap.back, TERM_WORDS + gap.front, n);
     Gap {
         front: to,
-        back: back + n,
+        back: gap.back + n,
     }
 }
 
@@ -84,7 +83,8 @@ pub fn move_gap(area: &mut [u16], gap: Gap, to: usize) -> Gap
     ensures { Moved area.old gap to result area.new }
 {
     if to < gap.front {
-        return move_back(area, gap, to);
+        move_back(area, gap, to)
+    } else {
+        move_on(area, gap, to)
     }
-    move_on(area, gap, to)
 }

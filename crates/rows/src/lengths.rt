@@ -7,14 +7,14 @@ ghost use Rattle.system.specs.Signature.{Signature, span};
 ghost use Rattle.system.specs.Signature.{signature_of};
 ghost use Rattle.rows.specs.declared.gap.Gap.{Gap};
 ghost use Rattle.rows.specs.Rows.{counts_at, term_in, Gapped};
-ghost use Rattle.rows.specs.gap.Gaps.{words_in, behind, even};
+ghost use Rattle.rows.specs.gap.Gaps.{words_in, behind};
 ghost use Rattle.rows.specs.Measured.{Measured};
 ghost use Rattle.rows.specs.lengths.Later.{MeasuredFrom, Onward};
 ghost use Rattle.rows.specs.lengths.Lengthened.{Lengthened};
 ghost use Rattle.rows.specs.lengths.Written.{Written, Copyable, Laid};
 
 use crate::gap::{Gap, length_at, words};
-use buffers::{copy_in, move_words};
+use buffers::move_words;
 use system::limits::TERM_WORDS;
 use system::words::arity;
 
@@ -29,13 +29,11 @@ pub fn hop(area: &[u16], gap: Gap, from: usize, k: usize) -> usize
 {
     let n = words(gap);
     let mut at = from;
-    let mut due = k;
-    while 0 < due {
+    for _ in (0..k).rev() {
         if n <= at {
-            return at;
+            break;
         }
         at += length_at(area, gap, at);
-        due -= 1;
     }
     at
 }
@@ -64,26 +62,6 @@ pub fn push_length(book: &[u16], area: &mut [u16], back: usize) -> usize
     at
 }
 
-// Puts the n words from `from` on, which stand behind both rows, at the end of the first, the last first.
-fn push_all(book: &[u16], area: &mut [u16], from: usize, n: usize) -> usize
-    requires { (n ≤ term_words) × (counts_at ≤ from) × (from + n ≤ length area.old) }
-    ensures { Written (signature_of book.now) area.old (even term_words) term_words area.new result
-        (part from n area.old) }
-{
-    let gap = Gap {
-        front: TERM_WORDS,
-        back: TERM_WORDS,
-    };
-    let mut at = TERM_WORDS;
-    let mut i = n;
-    while 0 < i {
-        i -= 1;
-        let w = area[from + i];
-        at = push(book, area, gap, at, w);
-    }
-    at
-}
-
 // Copies n words of the first row, and the lengths beside them, before those from `to` on.
 pub fn copy(area: &mut [u16], to: usize, from: usize, n: usize) -> usize
     requires { (counts_at ≤ length area.old) × (to ≤ term_words) × (n ≤ to) × (from + n ≤ term_words) }
@@ -101,6 +79,13 @@ pub fn lay(book: &[u16], area: &mut [u16], term: &[u16]) -> usize
     requires { (length term.now ≤ term_words) × (counts_at + term_words ≤ length area.old) }
     ensures { Laid (signature_of book.now) term.now (length area.old) area.new (behind result) }
 {
-    copy_in(area, COUNTS, term);
-    push_all(book, area, COUNTS, term.len())
+    let gap = Gap {
+        front: TERM_WORDS,
+        back: TERM_WORDS,
+    };
+    let mut at = TERM_WORDS;
+    for w in term.iter().rev() {
+        at = push(book, area, gap, at, *w);
+    }
+    at
 }

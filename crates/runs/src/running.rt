@@ -1,22 +1,19 @@
 // A run of the machine from a state: advancing and rewriting in turn, at most so many steps, each told in the record.
-ghost use Rattle.std.specs.Prelude.{◌≡◌};
 ghost use Rattle.reader.specs.Book.{system_of};
 ghost use Rattle.runs.specs.running.Reaches.{Startable, Continues};
 
+use layout::index::Index;
 use machine::advance::{State, Stop, advance};
-use reader::Shape;
 use records::recording::{Bounds, limit_met, put_pair};
 use steps::sizes::size_after;
 use steps::steps::{Based, step};
 use system::limits::TERM_WORDS;
-use system::numbers::{NESTED, OVERLONG, TAKEN};
-use system::words::wide;
+use system::numbers::Limit;
 
-// Where a run starts, and how far it goes: the shape of the book, the limits, the state (the frame's first word is the base), how many symbols are
+// Where a run starts, and how far it goes: the limits, the state (the frame's first word is the base), how many symbols are
 // on the way to the base (at the end of the third row), the steps taken so far, and how many more at most.
 #[derive(Clone, Copy)]
 pub struct From {
-    pub shape: Shape,
     pub bounds: Bounds,
     pub state: State,
     pub way: usize,
@@ -24,79 +21,66 @@ pub struct From {
     pub most: u32,
 }
 
-// Where it came to: 0 at the end; 13; 11, 16 or 12 just before a step that would be stopped; or, with `waits`, just before a step that would not be,
-// and 0. And the state there, and the steps taken since the evaluation began.
+// How it ended: at the end; just before a step that no limit would stop; or at a limit, 13, or 11, 16 or 12 just before the step that it stops.
 #[derive(Clone, Copy)]
-pub struct Reached {
-    pub number: u32,
-    pub waits: bool,
-    pub state: State,
-    pub steps: u32,
+pub enum End {
+    Final,
+    Waiting,
+    Stopped(Limit),
 }
 
-fn came(number: u32, waits: bool, state: State, steps: u32) -> Reached
-    ensures { result ≡ record { number = number; waits = waits; state = state; steps = steps } }
-{
-    Reached {
-        number,
-        waits,
-        state,
-        steps,
-    }
+// Where it came to: how it ended, the state there, and the steps taken since the evaluation began.
+#[derive(Clone, Copy)]
+pub struct Reached {
+    pub end: End,
+    pub state: State,
+    pub steps: u32,
 }
 
 // Runs the machine in the subterm at the base, and writes the pair of each step behind those before it. Where no step is left to take, 12 is tested
 // by the length that the next one would leave, without the rewrite.
 pub fn run_at(
-    book: &[u16],
-    index: &[u16],
+    index: &Index<'_>,
     area: &mut [u16],
     frame: &mut [u16],
     record: &mut [u16],
     from: From,
 ) -> Reached
-    requires { Startable book.now index.now area.old frame.old from }
-    ensures { Continues (system_of book.now) from area.old frame.old «record».old
+    requires { Startable index.now.book.words.now area.old frame.old from }
+    ensures { Continues (system_of index.now.book.words.now) from area.old frame.old «record».old
         result area.new frame.new «record».new }
 {
     let way = from.way;
-    let mut gap = from.state.gap;
-    let mut level = from.state.level;
+    let State { mut gap, mut level } = from.state;
     let mut steps = from.steps;
-    loop {
-        let start = State { gap, level };
-        let a = advance(book, from.shape, index, area, frame, start);
+    let end = loop {
+        let a = advance(index, area, frame, State { gap, level });
         level = a.level;
-        let state = State { gap, level };
-        let stop = a.stop;
-        match stop {
-            Stop::Final => {
-                return came(TAKEN, false, state, steps);
-            }
-            Stop::Deep => {
-                return came(NESTED, false, state, steps);
-            }
-            Stop::Ready => {
-                let met = limit_met(from.bounds, record.len(), steps);
-                if met != TAKEN {
-                    return came(met, false, state, steps);
-                }
-                let here = Based { state, way };
-                if from.most <= steps - from.steps {
-                    if TERM_WORDS < size_after(book, index, area, frame, here, a.redex) {
-                        return came(OVERLONG, false, state, steps);
-                    }
-                    return came(TAKEN, true, state, steps);
-                }
-                let at = wide(frame[level]);
-                let r = step(book, index, area, frame, here, a.redex);
-                gap = r.gap;
-                if r.long {
-                    return came(OVERLONG, false, State { gap, level }, steps);
-                }
-                put_pair(record, from.bounds, steps, at, a.redex.number);
-                steps += 1;
-            }
+        let redex = match a.stop {
+            Stop::Final => break End::Final,
+            Stop::Deep => break End::Stopped(Limit::Nested),
+            Stop::Ready(redex) => redex,
+        };
+        if let Some(limit) = limit_met(from.bounds, record.len(), steps) {
+            break End::Stopped(limit);
         }
-    }
+        let state = State { gap, level };
+        let here = Based { state, way };
+        if from.most <= steps - from.steps {
+            if TERM_WORDS < size_after(index, area, frame, here, redex) {
+                break End::Stopped(Limit::Overlong);
+            }
+            break End::Waiting;
+        }
+        let at = usize::from(frame[level]);
+        let r = step(index, area, frame, here, redex);
+        gap = r.gap;
+        if r.long {
+            break End::Stopped(Limit::Overlong);
+        }
+        put_pair(record, from.bounds, steps, at, redex.number());
+        steps += 1;
+    };
+    let state = State { gap, level };
+    Reached { end, state, steps }
 }

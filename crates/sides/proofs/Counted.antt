@@ -13,15 +13,15 @@ use Rattle.matching.specs.rules.Searches.{reduct_length}
 use Rattle.matching.proofs.Matched.{instance-nil, instance-symbol, instance-variable}
 
 module _ (lengths : List ℕ) where
-  count_none : reduct_length lengths [] ≡ 0
+  pub count_none : reduct_length lengths [] ≡ 0
   unfolding reduct_length
   count_none = refl
 
-  count-symbol : (w : ℕ) (ls : List ℕ) → w < variable → reduct_length lengths (w ∷ ls) ≡ 1 + reduct_length lengths ls
+  pub count-symbol : (w : ℕ) (ls : List ℕ) → w < variable → reduct_length lengths (w ∷ ls) ≡ 1 + reduct_length lengths ls
   unfolding reduct_length
   count-symbol w ls h = rw (lt-ltb w variable h)
 
-  count-variable : (w : ℕ) (ls : List ℕ) → variable ≤ w → reduct_length lengths (w ∷ ls) ≡ get_or lengths (w - variable) 0 + reduct_length lengths ls
+  pub count-variable : (w : ℕ) (ls : List ℕ) → variable ≤ w → reduct_length lengths (w ∷ ls) ≡ get_or lengths (w - variable) 0 + reduct_length lengths ls
   unfolding reduct_length
   count-variable w ls h = rw (le-ltb w variable h)
 

@@ -1,7 +1,5 @@
 -- Where a stretch stands, and that it stays while words are written
 pub mod Places
 pub mod Kept
--- What is left of a side that is written from its end to its front
-pub mod Lefts
--- A reduct, written so
+-- A reduct, written from its end to its front
 pub mod Turns

@@ -1,1 +1,2 @@
 pub mod Reduct
+pub mod Both

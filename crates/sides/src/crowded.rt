@@ -9,12 +9,52 @@ ghost use Rattle.matching.specs.rules.Searches.{reduct_length};
 ghost use Rattle.sides.specs.sides.Sides.{stretches_in};
 ghost use Rattle.sides.specs.writing.Reduct.{reduct};
 ghost use Rattle.sides.specs.crowded.Passes.{Passable, Lengthable};
+ghost use Rattle.sides.specs.crowded.Rows.{Wording, Lengthening};
 
-use crate::writing::{Source, stretch_at};
+use crate::passes::{Pass, write};
+use crate::writing::Source;
 use buffers::move_words;
 use rows::lengths::push_length;
-use system::limits::{TERM_WORDS, VARIABLE, VARIABLES};
-use system::words::wide;
+use system::limits::TERM_WORDS;
+
+// The words, and no lengths.
+struct Words;
+
+impl Pass for Words {
+    ghost stands = { λ _ t rest ws to. Wording t rest ws to };
+
+    fn symbol(&self, area: &mut [u16], to: usize, w: u16) -> usize {
+        let at = to - 1;
+        area[at] = w;
+        at
+    }
+
+    fn stretch(&self, area: &mut [u16], to: usize, from: usize, n: usize) -> usize {
+        let at = to - n;
+        move_words(area, from, at, n);
+        at
+    }
+}
+
+// The lengths beside words that stand there: a symbol's is told by those of its arguments, those of a stretch are copied.
+#[derive(Clone, Copy)]
+struct Lengths<'a> {
+    book: &'a [u16],
+}
+
+impl Pass for Lengths<'_> {
+    ghost stands = { λ p t rest ws to. Lengthening (signature_of p.book.now) t rest ws to };
+
+    fn symbol(&self, area: &mut [u16], to: usize, _: u16) -> usize {
+        push_length(self.book, area, to)
+    }
+
+    fn stretch(&self, area: &mut [u16], to: usize, from: usize, n: usize) -> usize {
+        let at = to - n;
+        move_words(area, from, TERM_WORDS + at, n);
+        at
+    }
+}
 
 // The first pass: writes the words of the reduct before those from `back` on, and no lengths.
 pub fn write_words(side: &[u16], area: &mut [u16], back: usize, bindings: &[u16], source: Source)
@@ -22,26 +62,10 @@ pub fn write_words(side: &[u16], area: &mut [u16], back: usize, bindings: &[u16]
     ensures { area.new ≡ over area.old (back - reduct_length (drop variables bindings.now) side.now)
         (reduct side.now (stretches_in bindings.now) source area.old) }
 {
-    let mut to = back;
-    let mut j = side.len();
-    while 0 < j {
-        j -= 1;
-        let w = side[j];
-        let v = wide(w);
-        if v < VARIABLE {
-            to -= 1;
-            area[to] = w;
-        } else {
-            let from = stretch_at(source, wide(bindings[v - VARIABLE]));
-            let n = wide(bindings[VARIABLES + (v - VARIABLE)]);
-            to -= n;
-            move_words(area, from, to, n);
-        }
-    }
+    write(&Words, side, area, back, bindings, source);
 }
 
-// The second pass: puts their lengths beside the words that the first has written, from the end to the front: a symbol's is told by those of its
-// arguments, those of a stretch are copied.
+// The second pass: puts their lengths beside the words that the first has written, from the end to the front.
 pub fn write_lengths(
     book: &[u16],
     side: &[u16],
@@ -54,19 +78,5 @@ pub fn write_lengths(
     ensures { (result + reduct_length (drop variables bindings.now) side.now ≡ back)
         × Lengthened (signature_of book.now) area.old back area.new result }
 {
-    let mut to = back;
-    let mut j = side.len();
-    while 0 < j {
-        j -= 1;
-        let v = wide(side[j]);
-        if v < VARIABLE {
-            to = push_length(book, area, to);
-        } else {
-            let from = stretch_at(source, wide(bindings[v - VARIABLE]));
-            let n = wide(bindings[VARIABLES + (v - VARIABLE)]);
-            to -= n;
-            move_words(area, from, TERM_WORDS + to, n);
-        }
-    }
-    to
+    write(&Lengths { book }, side, area, back, bindings, source)
 }

@@ -3,5 +3,6 @@
 #![tactic(auto)]
 
 pub mod crowded;
+pub(crate) mod passes;
 pub mod sides;
 pub mod writing;

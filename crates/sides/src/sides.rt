@@ -15,15 +15,13 @@ pub fn reduct_length(side: &[u16], bindings: &[u16]) -> usize
     ensures { result ≡ reduct_length (drop variables bindings.now) side.now }
 {
     let mut total = 0;
-    let mut j = 0;
-    while j < side.len() {
-        let w = wide(side[j]);
-        j += 1;
-        if w < VARIABLE {
-            total += 1;
+    for w in side {
+        let v = wide(*w);
+        total += if v < VARIABLE {
+            1
         } else {
-            total += wide(bindings[VARIABLES + (w - VARIABLE)]);
-        }
+            wide(bindings[VARIABLES + (v - VARIABLE)])
+        };
     }
     total
 }
@@ -33,15 +31,9 @@ pub fn shared_end(lhs: &[u16], rhs: &[u16]) -> usize
     ensures { (result ≤ length lhs.now) × (result ≤ length rhs.now)
         × (drop (length lhs.now - result) lhs.now ≡ drop (length rhs.now - result) rhs.now) }
 {
-    let mut j = 0;
-    while j < lhs.len() {
-        if rhs.len() <= j {
-            return j;
-        }
-        if lhs[lhs.len() - 1 - j] != rhs[rhs.len() - 1 - j] {
-            return j;
-        }
-        j += 1;
-    }
-    j
+    lhs.iter()
+        .rev()
+        .zip(rhs.iter().rev())
+        .take_while(|(l, r)| l == r)
+        .count()
 }

@@ -5,11 +5,11 @@ ghost use Rattle.system.specs.Signature.{signature_of};
 ghost use Rattle.rows.specs.lengths.Written.{Written};
 ghost use Rattle.sides.specs.sides.Sides.{stretches_in};
 ghost use Rattle.sides.specs.writing.Reduct.{stretch_at, Writable, reduct};
+ghost use Rattle.sides.specs.writing.Both.{Writing};
 
+use crate::passes::{Pass, write};
 use rows::gap::Gap;
 use rows::lengths::{copy, push};
-use system::limits::{VARIABLE, VARIABLES};
-use system::words::wide;
 
 // Where the words of the redex stand in the area, or their lengths: those before word `end` from `base` on; that of word i from there on at `later`
 // and i.
@@ -26,9 +26,29 @@ pub fn stretch_at(source: Source, i: usize) -> usize
     ensures { result ≡ stretch_at source i }
 {
     if i < source.end {
-        return source.base + i;
+        source.base + i
+    } else {
+        source.later + i
     }
-    source.later + i
+}
+
+// The words, and beside each its length.
+#[derive(Clone, Copy)]
+struct Both<'a> {
+    book: &'a [u16],
+    gap: Gap,
+}
+
+impl Pass for Both<'_> {
+    ghost stands = { λ p t rest ws to. Writing (signature_of p.book.now) p.gap t rest ws to };
+
+    fn symbol(&self, area: &mut [u16], to: usize, w: u16) -> usize {
+        push(self.book, area, self.gap, to, w)
+    }
+
+    fn stretch(&self, area: &mut [u16], to: usize, from: usize, n: usize) -> usize {
+        copy(area, to, from, n)
+    }
 }
 
 // Writes the reduct right before the gap: the words of the side, each variable filled with its stretch. That of variable v starts at the word of
@@ -45,19 +65,5 @@ pub fn write_reduct(
     ensures { Written (signature_of book.now) area.old gap gap.front area.new result
         (reduct side.now (stretches_in bindings.now) source area.old) }
 {
-    let mut to = gap.front;
-    let mut j = side.len();
-    while 0 < j {
-        j -= 1;
-        let w = side[j];
-        let v = wide(w);
-        if v < VARIABLE {
-            to = push(book, area, gap, to, w);
-        } else {
-            let from = stretch_at(source, wide(bindings[v - VARIABLE]));
-            let n = wide(bindings[VARIABLES + (v - VARIABLE)]);
-            to = copy(area, to, from, n);
-        }
-    }
-    to
+    write(&Both { book, gap }, side, area, gap.front, bindings, source)
 }

@@ -9,7 +9,8 @@ use mathlib.Core.List.{List}
 use lib.ListN.{length}
 use Rattle.system.specs.declared.Answer.{Answer}
 use Rattle.system.specs.Limits.{variable}
-use Rattle.system.specs.Numbers.{Fault, broken, ill_rule}
+use Rattle.system.specs.declared.numbers.Fault.{Fault}
+use Rattle.system.specs.declared.numbers.Verdict.TheVariants.{Broken, IllRule}
 use Rattle.system.specs.Signature.{Signature}
 use Rattle.system.specs.System.{System, Rule, rule}
 use Rattle.system.specs.Rules.{RuleOf, listed, built_in}
@@ -101,8 +102,8 @@ module _ (b t : List ℕ) (ks : Sorts) where
   data Ends : Answer → Type 0 where
     refused : (f : Fault) (i : ℕ) → Ends (answer_of (fault f i))
     other : MissortedBook b ks → Ends missorted_answer
-    failed : (k : ℕ) → IllBook b ks k → Ends (answer_with ill_rule k)
-    broke : (i : ℕ) → SortedBook b ks → term_fault (system_of b).arities 1 t 0 ≡ some i → Ends (answer_with broken i)
+    failed : (k : ℕ) → IllBook b ks k → Ends (answer_with IllRule k)
+    broke : (i : ℕ) → SortedBook b ks → term_fault (system_of b).arities 1 t 0 ≡ some i → Ends (answer_with Broken i)
     unsorted : SortedBook b ks → IllTerm b t ks → Ends (sorted_answer false)
     passed : SortedBook b ks → WellSortedTerm b t ks → Ends (sorted_answer true)
 
@@ -164,7 +165,7 @@ module _ (b t : List ℕ) (ks : Sorts) where
   book-missorted h =
       sorts-missorted h.accepted (refuted (lists ks (system_of b).arities) (λ e. h.missorted (lists-sound ks (system_of b).arities e)))
 
-  pub ill-book : (k : ℕ) → sorts_answer b t ks ≡ answer_with ill_rule k → IllBook b ks k
+  pub ill-book : (k : ℕ) → sorts_answer b t ks ≡ answer_with IllRule k → IllBook b ks k
   ill-book k e = subst (IllBook b ks) (ap (λ r. r.place) e) (go ends (ap (λ r. r.number) e))
     where
       go : {r : Answer} → Ends r → r.number ≡ 21 → IllBook b ks r.place
@@ -179,7 +180,7 @@ module _ (b t : List ℕ) (ks : Sorts) where
     listed-test : sorts_answer b t ks ≡ rule_test (system_of b) ks t (first_ill ks (system_of b))
     listed-test = sorts-listed a (lists-complete ks (system_of b).arities fit)
 
-  pub book-ill : (k : ℕ) → IllBook b ks k → sorts_answer b t ks ≡ answer_with ill_rule k
+  pub book-ill : (k : ℕ) → IllBook b ks k → sorts_answer b t ks ≡ answer_with IllRule k
   book-ill k h =
       listed-test h.accepted h.lists ∙ ap (rule_test (system_of b) ks t) (ill-some ks (system_of b) (wf h.accepted) h.lists h.first)
 
@@ -188,7 +189,7 @@ module _ (b t : List ℕ) (ks : Sorts) where
   book-sorted h =
       listed-test h.accepted h.lists ∙ ap (rule_test (system_of b) ks t) (sorted_none ks (system_of b) (wf h.accepted) h.lists h.rules)
 
-  term-broken : (i : ℕ) → term_fault (system_of b).arities 1 t 0 ≡ some i → term_test (system_of b).arities ks t ≡ answer_with broken i
+  term-broken : (i : ℕ) → term_fault (system_of b).arities 1 t 0 ≡ some i → term_test (system_of b).arities ks t ≡ answer_with Broken i
   unfolding term_test
   term-broken i q = rw (q, term_test)
 
@@ -196,7 +197,7 @@ module _ (b t : List ℕ) (ks : Sorts) where
   unfolding term_test
   term-whole q = rw (q, term_test)
 
-  pub broken-term : (i : ℕ) → sorts_answer b t ks ≡ answer_with broken i → SortedBook b ks × (term_fault (system_of b).arities 1 t 0 ≡ some i)
+  pub broken-term : (i : ℕ) → sorts_answer b t ks ≡ answer_with Broken i → SortedBook b ks × (term_fault (system_of b).arities 1 t 0 ≡ some i)
   broken-term i e =
       subst (λ p. SortedBook b ks × (term_fault (system_of b).arities 1 t 0 ≡ some p)) (ap (λ r. r.place) e) (go ends (ap (λ r. r.number) e))
     where

@@ -3,7 +3,8 @@ use Rattle.std.specs.Prelude.{ℕ, ◌≤◌, ◌≡◌, ◌↔◌, true, false,
 use Rattle.std.proofs.Math.Option.{some}
 use Rattle.system.specs.declared.Answer.{Answer}
 use Rattle.system.specs.Limits.{term_words}
-use Rattle.system.specs.Numbers.{Fault, broken, ill_rule}
+use Rattle.system.specs.declared.numbers.Fault.{Fault}
+use Rattle.system.specs.declared.numbers.Verdict.TheVariants.{Broken, IllRule}
 use Rattle.system.specs.System.{head}
 use Rattle.system.specs.Terms.{Whole}
 use Rattle.system.specs.TermCheck.{term_fault}
@@ -48,9 +49,9 @@ pub record TellsSorts (b t : List ℕ) (ks : Sorts) (r : Answer) : Type 0 where
   -- 20 exactly for an accepted book and what is not a list of sorts for it
   pub missorted : (r ≡ missorted_answer) ↔ MissortedBook b ks
   -- 21 at k exactly if k is "the lowest rule that fails"
-  pub ill : (k : ℕ) → (r ≡ answer_with ill_rule k) ↔ IllBook b ks k
+  pub ill : (k : ℕ) → (r ≡ answer_with IllRule k) ↔ IllBook b ks k
   -- 9 at i exactly if all rules pass and the term is broken there
-  pub breaks : (i : ℕ) → (r ≡ answer_with broken i) ↔ (SortedBook b ks × (term_fault (system_of b).arities 1 t 0 ≡ some i))
+  pub breaks : (i : ℕ) → (r ≡ answer_with Broken i) ↔ (SortedBook b ks × (term_fault (system_of b).arities 1 t 0 ≡ some i))
   -- 22 exactly if all rules pass and the term is whole, but not well-sorted
   pub ill_sorted : (r ≡ sorted_answer false) ↔ (SortedBook b ks × IllTerm b t ks)
   -- 0 exactly if all rules pass and the term is whole and well-sorted

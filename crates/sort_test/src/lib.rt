@@ -18,6 +18,5 @@ pub fn test_kinds(book: &[u16], term: &[u16], kinds: &[u16]) -> Answer
     ensures tested { result ≡ sorts_answer book.now term.now kinds.now }
     ensures told { TellsSorts book.now term.now kinds.now result }
 {
-    let s = scan_book(book);
-    testing::test(book, s, term, kinds)
+    testing::test(&scan_book(book), term, kinds)
 }

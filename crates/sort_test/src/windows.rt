@@ -9,7 +9,7 @@ ghost use Rattle.system.specs.Signature.{signature_of};
 ghost use Rattle.sorts.specs.Sorts.{offset, result_sort};
 ghost use Rattle.sorts.specs.SortCheck.{sorted_term};
 ghost use Rattle.sorts.specs.sides.Ran.{Narrow};
-ghost use Rattle.sort_test.specs.windows.Windows.{window_words, within, windowed, Placed, Put};
+ghost use Rattle.sort_test.specs.windows.Windows.{within, windowed, Placed, Put};
 
 use sorts::sides::{listed, offset};
 use system::words::arity;
@@ -19,31 +19,25 @@ const WINDOW: usize = 256;
 
 // Puts a sort at a height, if that is in the window, which starts at height low.
 fn place(window: &mut [u16; WINDOW], low: usize, at: usize, e: u16)
-    requires { length window.old ≡ window_words }
     ensures { Placed low at e window.old window.new }
 {
-    if at < low {
-        return;
+    if low <= at && at - low < WINDOW {
+        window[at - low] = e;
     }
-    if WINDOW <= at - low {
-        return;
-    }
-    window[at - low] = e;
 }
 
 // Puts the n numbers of the list from k on, the sorts of the arguments to come, on the height h: the first one highest.
 fn put(kinds: &[u16], window: &mut [u16; WINDOW], low: usize, h: usize, k: usize, n: usize)
-    requires { (length window.old ≡ window_words) × (low ≤ term_words) × (h ≤ term_words) × (k ≤ 65535) × (n ≤ 65535) }
+    requires { (low ≤ term_words) × (h ≤ term_words) × (k ≤ 65535) × (n ≤ 65535) }
     ensures { Put kinds.now low h k n window.old window.new }
 {
-    let mut j = 0;
-    while j < n {
+    for j in 0..n {
         place(window, low, h + (n - 1 - j), listed(kinds, k + j));
-        j += 1;
     }
 }
 
 // A word at height h: whether its sort is that of its place, if that is in the window; then the sorts of its arguments are put there.
+#[tactic(auto, using(sorts::proofs::sides::Marking::offset_narrow))]
 fn visit(
     book: &[u16],
     kinds: &[u16],
@@ -52,24 +46,19 @@ fn visit(
     h: usize,
     w: u16,
 ) -> bool
-    requires { (length window.old ≡ window_words) × (low ≤ term_words) × (h ≤ term_words) × Narrow (signature_of book.now) }
+    requires { (low ≤ term_words) × (h ≤ term_words) × Narrow (signature_of book.now) }
     ensures compared { result ≡ (not (within low h) || eqb (result_sort (signature_of book.now) kinds.now w)
         (get_or window.old (h - low) 0)) }
     ensures put { result ≡ true → Put kinds.now low h (offset (signature_of book.now) w + 1)
         (arity (signature_of book.now) w) window.old window.new }
 {
     let a = arity(book, w);
-    if low + WINDOW <= h {
-        return true;
-    }
-    if h + a < low {
+    if low + WINDOW <= h || h + a < low {
         return true;
     }
     let o = offset(book, w);
-    if low <= h {
-        if listed(kinds, o) != window[h - low] {
-            return false;
-        }
+    if low <= h && listed(kinds, o) != window[h - low] {
+        return false;
     }
     put(kinds, window, low, h, o + 1, a);
     true
@@ -84,15 +73,12 @@ fn pass(book: &[u16], kinds: &[u16], term: &[u16], low: usize) -> bool
     let mut window = [0u16; WINDOW];
     window[0] = listed(kinds, offset(book, term[0]));
     let mut due = 1;
-    let mut p = 0;
-    while p < term.len() {
-        let w = term[p];
+    for w in term {
         due -= 1;
-        if !visit(book, kinds, &mut window, low, due, w) {
+        if !visit(book, kinds, &mut window, low, due, *w) {
             return false;
         }
-        due += arity(book, w);
-        p += 1;
+        due += arity(book, *w);
     }
     true
 }
@@ -102,12 +88,10 @@ pub fn sorted(book: &[u16], kinds: &[u16], term: &[u16]) -> bool
     requires { Whole (signature_of book.now) term.now × (length term.now ≤ term_words) × Narrow (signature_of book.now) }
     ensures { result ≡ sorted_term (signature_of book.now) kinds.now term.now }
 {
-    let mut low = 0;
-    while low < term.len() {
+    for low in (0..term.len()).step_by(WINDOW) {
         if !pass(book, kinds, term, low) {
             return false;
         }
-        low += WINDOW;
     }
     true
 }

@@ -1,40 +1,34 @@
 // The sorts of a side, by recursion over its words.
-ghost use Rattle.std.specs.Prelude.{◌≡◌, ◌⊎◌, List, ℕ, ◌+◌, ◌*◌, ◌≤◌, ◌<◌, length, get_or, drop};
-ghost use Rattle.system.specs.Limits.{variables, side_words};
+ghost use Rattle.std.specs.Prelude.{◌≡◌, List, ℕ, ◌+◌, ◌*◌, ◌≤◌, ◌<◌, length, get_or, drop, IfSome};
+ghost use Rattle.system.specs.Limits.{side_words};
 ghost use Rattle.system.specs.Signature.{Signature};
 ghost use Rattle.system.specs.Signature.{signature_of};
 ghost use Rattle.sorts.specs.Sorts.{offset, numbers_from};
 ghost use Rattle.sorts.specs.SortCheck.{note, check, sorted_rule};
-ghost use Rattle.sorts.specs.sides.Ran.{Ran, Noted, SideChecked, Marked, Narrow, most_entries};
+ghost use Rattle.sorts.specs.sides.Ran.{Ran, Noted, SideChecked, MarkOf, Marked, Narrow, most_entries};
 
 use system::limits::{SIDE_WORDS, VARIABLE, VARIABLES};
 use system::words::{arity, symbols, wide};
 
-// The sort of a variable of which none is known.
+// The sort of a variable of which none is known. No Option: to `note` in specs/ a sort 64 of a list that nobody checked is unknown too.
 const UNSET: u16 = 64;
 
-// Two numbers for each word of a side: where its numbers start in the list of sorts, and its arity; of a variable its number and a mark; where
-// there is no word another mark.
-const MARKS: usize = 2 * SIDE_WORDS;
-
-const IS_VARIABLE: u16 = 32768;
-
-const NO_WORD: u16 = 65535;
+// What a word of a side is to the recursion: a symbol, with where its numbers start in the list of sorts and how many arguments it takes; a variable,
+// by its number; or no word, behind the side.
+#[derive(Clone, Copy)]
+enum Mark {
+    Symbol { start: u16, arguments: u16 },
+    Variable(u16),
+    Nothing,
+}
 
 // Where the numbers of w start in the list of sorts.
 pub fn offset(book: &[u16], w: u16) -> usize
     ensures { (result ≡ offset (signature_of book.now) w) × (result ≤ 65535 * 65536) }
 {
-    let s = symbols(book);
-    let n = wide(w);
     let mut o = 0;
-    let mut j = 0;
-    while j < n {
-        if s <= j {
-            return o;
-        }
-        o = o + 1 + arity(book, j as u16);
-        j += 1;
+    for j in 0..wide(w).min(symbols(book)) {
+        o += 1 + arity(book, j as u16);
     }
     o
 }
@@ -43,65 +37,50 @@ pub fn offset(book: &[u16], w: u16) -> usize
 pub fn listed(kinds: &[u16], i: usize) -> u16
     ensures { result ≡ get_or kinds.now i 0 }
 {
-    if i < kinds.len() {
-        return kinds[i];
-    }
-    0
+    kinds.get(i).copied().unwrap_or(0)
 }
 
 // Notes the sort e of variable v, or compares it with the one that was noted.
 fn note(vars: &mut [u16; VARIABLES], v: usize, e: u16) -> bool
-    requires { length vars.old ≡ variables }
-    ensures noted { Noted (note vars.old v e) result vars.new }
-    ensures sized { length vars.new ≡ variables }
+    ensures { Noted (note vars.old v e) result vars.new }
 {
     if VARIABLES <= v {
         return true;
     }
-    let known = vars[v];
-    if known == UNSET {
+    if vars[v] == UNSET {
         vars[v] = e;
-        return true;
     }
-    known == e
+    vars[v] == e
 }
 
-// The marks of a side: once for its words, so that the recursion over them needs neither book nor side, and a call of it little stack.
-fn mark(book: &[u16], side: &[u16]) -> [u16; MARKS]
-    requires { Narrow (signature_of book.now) × (length side.now ≤ side_words) }
-    ensures { Marked (signature_of book.now) side.now result }
+// The mark of a word.
+#[tactic(auto, using(crate::proofs::sides::Marking::offset_narrow))]
+fn mark_of(book: &[u16], w: u16) -> Mark
+    requires { Narrow (signature_of book.now) }
+    ensures { MarkOf (signature_of book.now) w result }
 {
-    let mut marks = [NO_WORD; MARKS];
-    let mut j = 0;
-    while j < side.len() {
-        let w = side[j];
-        let mut x = w % IS_VARIABLE;
-        let mut a = IS_VARIABLE;
-        if wide(w) < VARIABLE {
-            x = offset(book, w) as u16;
-            a = arity(book, w) as u16;
-        }
-        marks[2 * j] = x;
-        marks[2 * j + 1] = a;
-        j += 1;
+    match wide(w).checked_sub(VARIABLE) {
+        Some(v) => Mark::Variable(v as u16),
+        None => Mark::Symbol {
+            start: offset(book, w) as u16,
+            arguments: arity(book, w) as u16,
+        },
     }
-    marks
 }
 
 // Checks n terms, one behind the other from word `at` of a side on, by the n numbers of the list from k on: each term has the sort of its place,
-// and so has each argument in it. The index behind them; 0 where one fails. Terms that stand behind a term wait for it in a call of its own, but
+// and so has each argument in it. The index behind them; none where one fails. Terms that stand behind a term wait for it in a call of its own, but
 // the arguments of the last one don't: each call that waits has a term behind the one that it waits for, so that at most 32 are open in 64 words.
 fn check(
     kinds: &[u16],
-    marks: &[u16; MARKS],
+    marks: &[Mark; SIDE_WORDS],
     vars: &mut [u16; VARIABLES],
     at: usize,
     k: usize,
     n: usize,
-) -> usize
-    requires { (at ≤ side_words) × (0 < at + n) × (k + n ≤ most_entries) × (length vars.old ≡ variables) }
-    ensures sized { length vars.new ≡ variables }
-    ensures grows { (result ≡ 0) ⊎ ((at ≤ result) × (result ≤ side_words)) }
+) -> Option<usize>
+    requires { (at ≤ side_words) × (k + n ≤ most_entries) }
+    ensures grows { IfSome result (λ r. (at ≤ r) × (r ≤ side_words)) }
     ensures ran { (g : Signature) (ws : List ℕ) → Marked g ws marks.now → at ≤ length ws →
         Ran (check g kinds.now (drop at ws) (numbers_from kinds.now k n) vars.old) ws at result vars.new }
 {
@@ -109,42 +88,35 @@ fn check(
     let mut i = k;
     let mut due = n;
     while 0 < due {
-        if SIDE_WORDS <= p {
-            return 0;
-        }
-        let x = wide(marks[2 * p]);
-        let a = marks[2 * p + 1];
-        if a == NO_WORD {
-            return 0;
-        }
         let e = listed(kinds, i);
-        if a == IS_VARIABLE {
-            if !note(vars, x, e) {
-                return 0;
-            }
-            p += 1;
-            i += 1;
-            due -= 1;
-        } else {
-            if listed(kinds, x) != e {
-                return 0;
-            }
-            if due == 1 {
-                p += 1;
-                i = x + 1;
-                due = wide(a);
-            } else {
-                let next = check(kinds, marks, vars, p + 1, x + 1, wide(a));
-                if next == 0 {
-                    return 0;
+        match *marks.get(p)? {
+            Mark::Variable(v) => {
+                if !note(vars, wide(v), e) {
+                    return None;
                 }
-                p = next;
+                p += 1;
                 i += 1;
                 due -= 1;
             }
+            Mark::Symbol { start, arguments } => {
+                let x = wide(start);
+                if listed(kinds, x) != e {
+                    return None;
+                }
+                if due == 1 {
+                    p += 1;
+                    i = x + 1;
+                    due = wide(arguments);
+                } else {
+                    p = check(kinds, marks, vars, p + 1, x + 1, wide(arguments))?;
+                    i += 1;
+                    due -= 1;
+                }
+            }
+            Mark::Nothing => return None,
         }
     }
-    p
+    Some(p)
 }
 
 // Whether a side has the sort at index k of the list, by the sorts that are noted of the variables; notes those of others.
@@ -155,16 +127,19 @@ fn has_sort(
     vars: &mut [u16; VARIABLES],
     k: usize,
 ) -> bool
-    requires { Narrow (signature_of book.now) × (length side.now ≤ side_words) × (k + 1 ≤ most_entries) × (length vars.old ≡ variables) }
-    ensures sized { length vars.new ≡ variables }
-    ensures checked { SideChecked (check (signature_of book.now) kinds.now side.now
+    requires { Narrow (signature_of book.now) × (length side.now ≤ side_words) × (k + 1 ≤ most_entries) }
+    ensures { SideChecked (check (signature_of book.now) kinds.now side.now
         (numbers_from kinds.now k 1) vars.old) result vars.new }
 {
-    let marks = mark(book, side);
-    0 < check(kinds, &marks, vars, 0, k, 1)
+    let mut marks = [Mark::Nothing; SIDE_WORDS];
+    for (j, w) in side.iter().enumerate() {
+        marks[j] = mark_of(book, *w);
+    }
+    check(kinds, &marks, vars, 0, k, 1).is_some()
 }
 
 // Whether the rule with these sides passes.
+#[tactic(auto, using(crate::proofs::sides::Marking::offset_narrow))]
 pub fn passes(book: &[u16], kinds: &[u16], lhs: &[u16], rhs: &[u16]) -> bool
     requires { Narrow (signature_of book.now) × (0 < length lhs.now) × (length lhs.now ≤ side_words) × (length rhs.now ≤ side_words) }
     ensures { result ≡ sorted_rule (signature_of book.now) kinds.now
@@ -172,8 +147,5 @@ pub fn passes(book: &[u16], kinds: &[u16], lhs: &[u16], rhs: &[u16]) -> bool
 {
     let k = offset(book, lhs[0]);
     let mut vars = [UNSET; VARIABLES];
-    if !has_sort(book, kinds, lhs, &mut vars, k) {
-        return false;
-    }
-    has_sort(book, kinds, rhs, &mut vars, k)
+    has_sort(book, kinds, lhs, &mut vars, k) && has_sort(book, kinds, rhs, &mut vars, k)
 }

@@ -6,42 +6,31 @@ ghost use Rattle.matching.specs.Matching.{Contraction, contraction};
 ghost use Rattle.steps.specs.steps.Stepped.{subterm_here, Steppable, stepped};
 
 use crate::steps::Based;
-use layout::index::RULE_STARTS;
-use layout::rules::rule_at;
-use machine::advance::FRAME;
+use layout::index::Index;
+use machine::advance::{FRAME, State};
 use redexes::search::Redex;
 use rows::gap::{length_at, words};
 use sides::sides::reduct_length;
-use system::limits::{LEVELS, MAX_RULES};
-use system::words::wide;
+use system::limits::LEVELS;
 
 // The words of the term, less those of the subterm of the innermost level, and those of the reduct: of a listed rule its right side's with the
 // variables' terms in their places, of a built-in one the word that it puts there.
-pub fn size_after(
-    book: &[u16],
-    index: &[u16],
-    area: &[u16],
-    frame: &[u16],
-    from: Based,
-    m: Redex,
-) -> usize
-    requires { Steppable book.now index.now area.now frame.now from.state from.way m }
+pub fn size_after(index: &Index<'_>, area: &[u16], frame: &[u16], from: Based, m: Redex) -> usize
+    requires { Steppable index.now.book.words.now area.now frame.now from.state from.way m }
     ensures { (x : Contraction) →
-        contraction (system_of book.now) (subterm_here area.now frame.now from.state) ≡ some x →
-        result ≡ length (stepped (system_of book.now) area.now frame.now from.state x) }
+        contraction (system_of index.now.book.words.now) (subterm_here area.now frame.now from.state) ≡ some x →
+        result ≡ length (stepped (system_of index.now.book.words.now) area.now frame.now from.state x) }
 {
-    let gap = from.state.gap;
-    let level = from.state.level;
-    let at = wide(frame[level]);
+    let State { gap, level } = from.state;
+    let at = usize::from(frame[level]);
     let width = length_at(area, gap, at);
     let rest = words(gap) - width;
-    if MAX_RULES <= m.number {
-        return rest + 1;
+    match m {
+        Redex::BuiltIn { .. } => rest + 1,
+        Redex::Listed { number } => {
+            let rule = index.rule(number);
+            let size = reduct_length(rule.rhs, &frame[LEVELS..FRAME]);
+            rest + size
+        }
     }
-    let r = rule_at(book, wide(index[RULE_STARTS + m.number]));
-    let rhs = r.rhs;
-    let side = r.size;
-    let end = rhs + side;
-    let size = reduct_length(&book[rhs..end], &frame[LEVELS..FRAME]);
-    rest + size
 }

@@ -3,18 +3,20 @@ use Prim.Native.Nat.{◌≤◌, ◌<◌}
 use native.Mathlib.Omega.{arith}
 use mathlib.Core.Path.{◌≡◌, refl}
 use mathlib.Core.Logic.{◌⊎◌, inl, inr}
-use Rattle.system.specs.Numbers.{Fault, missing, range, entry, unknown, unbalanced, variable_head, unbound, trailing, built_in_head, fault_number}
+use Rattle.system.specs.Numbers.{fault_number}
+use Rattle.system.specs.declared.numbers.Fault.{Fault}
+use Rattle.system.specs.declared.numbers.Fault.TheVariants.{Missing, Range, Entry, Unknown, Unbalanced, VariableHead, Unbound, Trailing, BuiltInHead}
 
 pub fault-range : (f : Fault) → ((1 ≤ fault_number f) × (fault_number f ≤ 8)) ⊎ (fault_number f ≡ 15)
-fault-range missing = inl (omega arith, omega arith)
-fault-range range = inl (omega arith, omega arith)
-fault-range entry = inl (omega arith, omega arith)
-fault-range unknown = inl (omega arith, omega arith)
-fault-range unbalanced = inl (omega arith, omega arith)
-fault-range variable_head = inl (omega arith, omega arith)
-fault-range unbound = inl (omega arith, omega arith)
-fault-range trailing = inl (omega arith, omega arith)
-fault-range built_in_head = inr refl
+fault-range Missing = inl (omega arith, omega arith)
+fault-range Range = inl (omega arith, omega arith)
+fault-range Entry = inl (omega arith, omega arith)
+fault-range Unknown = inl (omega arith, omega arith)
+fault-range Unbalanced = inl (omega arith, omega arith)
+fault-range VariableHead = inl (omega arith, omega arith)
+fault-range Unbound = inl (omega arith, omega arith)
+fault-range Trailing = inl (omega arith, omega arith)
+fault-range BuiltInHead = inr refl
 
 pub number-positive : (f : Fault) → 0 < fault_number f
 number-positive f = elim (fault-range f) [ inl r ↦ r.0 | inr e ↦ (omega arith) ]

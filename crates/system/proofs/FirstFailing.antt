@@ -1,21 +1,12 @@
--- The lowest of a stretch of numbers that fails a test: which number that is, and the search for it, number by number.
-use Prim.Native.Nat.{ℕ, zero, suc, ◌+◌, ◌-◌, ◌≤◌, ◌<◌}
+-- The lowest of a stretch of numbers that fails a test: which number that is.
+use Prim.Native.Nat.{ℕ, zero, suc, ◌+◌, ◌≤◌, ◌<◌}
 use native.Mathlib.Omega.{arith}
-use native.Mathlib.Numerals.{add-one}
-use native.Mathlib.Nat.{sub-zero}
 use native.Mathlib.Decide.{ℕ_discrete}
-use mathlib.Core.Path.{◌≡◌, refl, sym, ap, ◌∙◌}
-use mathlib.Core.Bool.{Bool, true, false, cond}
+use mathlib.Core.Path.{◌≡◌, refl, ap}
+use mathlib.Core.Bool.{Bool, true, false}
 use mathlib.Core.Option.{Option, none, some}
-use lib.Dec.{ltb}
-use borrow.Author.Tests.{lt-ltb, le-ltb}
 use Rattle.system.specs.FirstFailing.{first_failing}
 use Rattle.system.proofs.BuiltIns.{clash}
-
--- what was found, or else `first` where it is below n
-abbrev pub or_first : ℕ → ℕ → Option ℕ → Option ℕ
-or_first n first (some f) = some f
-or_first n first none = cond (ltb first n) (some first) none
 
 module _ (test : ℕ → Bool) where
   first-nil : (k : ℕ) → first_failing test k 0 ≡ none
@@ -101,33 +92,3 @@ module _ (test : ℕ → Bool) where
           where
             apart : (g < f → ⊥) → (f < g → ⊥) → (g ≡ f → ⊥) → ⊥
             apart a b d = omega arith
-
-  -- ---- the search
-
-  -- what is found where the numbers from f on and before `first` are still to be looked at, and `first`, if it is below n, fails
-  abbrev pub sought : ℕ → ℕ → ℕ → Option ℕ
-  sought n f first = or_first n first (first_failing test f (first - f))
-
-  pub sought-starts : (n : ℕ) → sought n 0 n ≡ first_failing test 0 n
-  sought-starts n = ap (λ m. or_first n n (first_failing test 0 m)) (sub-zero n) ∙ go (first_failing test 0 n)
-    where
-      go : (o : Option ℕ) → or_first n n o ≡ o
-      go (some f) = refl
-      go none = rw (le-ltb n n (omega arith))
-
-  pub sought-ends : (n f first : ℕ) → first ≤ f → sought n f first ≡ cond (ltb first n) (some first) none
-  sought-ends n f first h = let z : first - f ≡ 0 = omega arith in ap (or_first n first) (ap (first_failing test f) z ∙ first-nil f)
-
-  module _ (n f first : ℕ) (more : f < first) where
-    left : first - f ≡ suc (first - (f + 1))
-    left = omega arith
-
-    pub sought-passes : test f ≡ true → sought n (f + 1) first ≡ sought n f first
-    sought-passes e =
-        let passed = first_passes f (first - (f + 1)) e in
-        ap (or_first n first) (ap (λ k. first_failing test k (first - (f + 1))) (add-one f) ∙ sym passed ∙ ap (first_failing test f) (sym left))
-
-    pub sought-fails : first ≤ n → test f ≡ false → sought n (f + 1) f ≡ sought n f first
-    sought-fails h e =
-        let found : first_failing test f (first - f) ≡ some f = ap (first_failing test f) left ∙ first-fails f (first - (f + 1)) e in
-        sought-ends n (f + 1) f (omega arith) ∙ rw (lt-ltb f n (omega arith)) (sym (ap (or_first n first) found))

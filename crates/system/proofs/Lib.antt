@@ -13,5 +13,6 @@ pub mod Spans
 -- The check of a term
 pub mod TermChecks
 pub mod FaultNumbers
+pub mod Taken
 -- The lowest number that fails a test
 pub mod FirstFailing

@@ -23,61 +23,46 @@ pub const MINIMUM_RULE: usize = 129;
 
 pub const SQUARE_RULE: usize = 130;
 
+#[tactic(auto, unfolding(crate::specs::BuiltIns::is_literal))]
 pub fn is_literal(w: u16) -> bool
     ensures { result ≡ is_literal w }
 {
-    let x = w as usize;
-    if x < LITERAL {
-        return false;
-    }
-    x < MAXIMUM
+    (LITERAL..MAXIMUM).contains(&usize::from(w))
 }
 
 // Whether w is a literal or an operator.
+#[tactic(auto, unfolding(crate::specs::BuiltIns::is_built_in))]
 pub fn is_built_in(w: u16) -> bool
     ensures { result ≡ is_built_in w }
 {
-    let x = w as usize;
-    if x < LITERAL {
-        return false;
-    }
-    x <= LAST_BUILT_IN
+    (LITERAL..=LAST_BUILT_IN).contains(&usize::from(w))
 }
 
 // How many arguments w takes.
+#[tactic(auto, unfolding(crate::specs::BuiltIns::built_in_arity, crate::specs::BuiltIns::is_binary, crate::specs::BuiltIns::is_unary))]
 pub fn built_in_arity(w: u16) -> usize
     ensures { (result ≡ built_in_arity w) × (result ≤ 2) }
 {
-    let x = w as usize;
-    if x == MAXIMUM {
-        return 2;
+    match usize::from(w) {
+        MAXIMUM | MINIMUM => 2,
+        SQUARE => 1,
+        _ => 0,
     }
-    if x == MINIMUM {
-        return 2;
-    }
-    if x == SQUARE {
-        return 1;
-    }
-    0
 }
 
 // The larger and the smaller of two words.
+#[tactic(auto, unfolding(crate::specs::BuiltIns::larger))]
 pub fn larger(m: u16, n: u16) -> u16
     ensures { result ≡ larger m n }
 {
-    if m < n {
-        return n;
-    }
-    m
+    m.max(n)
 }
 
+#[tactic(auto, unfolding(crate::specs::BuiltIns::smaller))]
 pub fn smaller(m: u16, n: u16) -> u16
     ensures { result ≡ smaller m n }
 {
-    if n < m {
-        return n;
-    }
-    m
+    m.min(n)
 }
 
 // The word of the level that the curve makes of the literal w.
@@ -85,6 +70,6 @@ pub fn squared(w: u16) -> u16
     requires { is_literal w ≡ true }
     ensures { result ≡ literal + square_law (w - literal) }
 {
-    let level = (w as usize - LITERAL) as u8;
-    (LITERAL + square_law(level) as usize) as u16
+    let level = (usize::from(w) - LITERAL) as u8;
+    (LITERAL + usize::from(square_law(level))) as u16
 }

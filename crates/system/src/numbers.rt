@@ -1,56 +1,117 @@
-// "The table of numbers", as specs/Numbers.antt names them.
-
-// Accepted.
-pub const TAKEN: u32 = 0;
+// "The table of numbers": what each answer's first number says, and that number. A number more is a variant and a line of `number_of`, in
+// specs/Numbers.antt, and of `From` here.
+ghost use Rattle.std.specs.Prelude.{◌≡◌};
+ghost use Rattle.system.specs.declared.numbers.Verdict.TheVariants.{Faulty, Stopping};
+ghost use Rattle.system.specs.Numbers.{number_of};
 
 // What is wrong with a book.
-pub const MISSING: u32 = 1;
+#[derive(Clone, Copy, PartialEq, Eq, Debug)]
+pub enum Fault {
+    // "a word the book needs is missing"
+    Missing,
+    // "a count or length outside its range"
+    Range,
+    // "an order entry above the argument count"
+    Entry,
+    // "a side's word is neither name nor placeholder"
+    Unknown,
+    // "a side is complete too early, or not at its last word"
+    Unbalanced,
+    // "a left side starts with a placeholder"
+    VariableHead,
+    // "a left placeholder is not the next one, or a right one is not in the left"; 02, F-7: "in a left side is now for a placeholder above the
+    // count of different ones before it"
+    Unbound,
+    // "words after the last rule"
+    Trailing,
+    // 02, F-2: "a left side starts with a level or either of these words"
+    BuiltInHead,
+}
 
-pub const RANGE: u32 = 2;
+// Which limit stops an evaluation.
+#[derive(Clone, Copy, PartialEq, Eq, Debug)]
+pub enum Limit {
+    // "one more step would pass the allowance" (the step limit)
+    Spent,
+    // "the step would leave the whole cue above 4,096 words"
+    Overlong,
+    // "an argument would be opened from level 64"
+    Nested,
+    // 02, F-3: "a step finds fewer than two words left in the record"
+    Full,
+}
 
-pub const ENTRY: u32 = 3;
+// What an answer's number says.
+#[derive(Clone, Copy, PartialEq, Eq, Debug)]
+pub enum Verdict {
+    // "accepted"
+    Taken,
+    Faulty(Fault),
+    // "the cue is not whole"
+    Broken,
+    // "answer buffer below 4,096 words, or work buffer below" 12,288 (02, F-5)
+    Cramped,
+    Stopping(Limit),
+    // "the order test failed"
+    Unsettled,
+    // 02, F-3: "the first pair that is wrong or half"
+    Untrue,
+    // 02, F-6: "the list's length is not S or a weight is out of range"
+    Misweighed,
+    // 02, F-6: a "rule that doesn't fall"
+    Rising,
+    // 02, F-8: "a list of wrong length or a kind above 63"
+    Missorted,
+    // 02, F-8: a rule that does not pass, as both its sides are not "well-kinded with equal kind", or a placeholder has two
+    IllRule,
+    // 02, F-8: "a cue that isn't well-kinded"
+    IllTerm,
+}
 
-pub const UNKNOWN: u32 = 4;
+impl From<Fault> for Verdict {
+    ghost from_gives = { λ f v. v ≡ Faulty f };
 
-pub const UNBALANCED: u32 = 5;
+    fn from(f: Fault) -> Verdict {
+        Verdict::Faulty(f)
+    }
+}
 
-pub const VARIABLE_HEAD: u32 = 6;
+impl From<Limit> for Verdict {
+    ghost from_gives = { λ l v. v ≡ Stopping l };
 
-pub const UNBOUND: u32 = 7;
+    fn from(l: Limit) -> Verdict {
+        Verdict::Stopping(l)
+    }
+}
 
-pub const TRAILING: u32 = 8;
+impl From<Verdict> for u32 {
+    ghost from_gives = { λ v n. n ≡ number_of v };
 
-// What is wrong with a term, and with lent buffers.
-pub const BROKEN: u32 = 9;
-
-pub const CRAMPED: u32 = 10;
-
-// Which limit stopped an evaluation.
-pub const SPENT: u32 = 11;
-
-pub const OVERLONG: u32 = 12;
-
-pub const NESTED: u32 = 13;
-
-// The strategy test failed.
-pub const UNSETTLED: u32 = 14;
-
-// What else is wrong with a book (02, F-2).
-pub const BUILT_IN_HEAD: u32 = 15;
-
-// What else stops an evaluation, its record is full; and a record is not of steps (02, F-3).
-pub const FULL: u32 = 16;
-
-pub const UNTRUE: u32 = 17;
-
-// The test by weights (02, F-6): what was lent is not a list of weights for the book, or a rule does not fall.
-pub const MISWEIGHED: u32 = 18;
-
-pub const RISING: u32 = 19;
-
-// The sort test (02, F-8): what was lent is not a list of sorts for the book, a rule is not well-sorted, or the term is not.
-pub const MISSORTED: u32 = 20;
-
-pub const ILL_RULE: u32 = 21;
-
-pub const ILL_TERM: u32 = 22;
+    fn from(v: Verdict) -> u32 {
+        match v {
+            Verdict::Taken => 0,
+            Verdict::Faulty(Fault::Missing) => 1,
+            Verdict::Faulty(Fault::Range) => 2,
+            Verdict::Faulty(Fault::Entry) => 3,
+            Verdict::Faulty(Fault::Unknown) => 4,
+            Verdict::Faulty(Fault::Unbalanced) => 5,
+            Verdict::Faulty(Fault::VariableHead) => 6,
+            Verdict::Faulty(Fault::Unbound) => 7,
+            Verdict::Faulty(Fault::Trailing) => 8,
+            Verdict::Broken => 9,
+            Verdict::Cramped => 10,
+            Verdict::Stopping(Limit::Spent) => 11,
+            Verdict::Stopping(Limit::Overlong) => 12,
+            Verdict::Stopping(Limit::Nested) => 13,
+            Verdict::Unsettled => 14,
+            Verdict::Faulty(Fault::BuiltInHead) => 15,
+            Verdict::Stopping(Limit::Full) => 16,
+            Verdict::Untrue => 17,
+            Verdict::Misweighed => 18,
+            Verdict::Rising => 19,
+            Verdict::Missorted => 20,
+            Verdict::IllRule => 21,
+            Verdict::IllTerm => 22,
+        }
+    }
+}

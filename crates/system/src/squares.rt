@@ -22,5 +22,5 @@ const SQUARES: [u8; 256] = [
 pub fn square_law(n: u8) -> u8
     ensures { result ≡ square_law n }
 {
-    SQUARES[n as usize]
+    SQUARES[usize::from(n)]
 }

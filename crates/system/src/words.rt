@@ -9,32 +9,24 @@ use crate::built_ins::{built_in_arity, is_built_in};
 pub fn wide(x: u16) -> usize
     ensures { (result ≡ x) × (result ≤ max_word) }
 {
-    x as usize
+    usize::from(x)
 }
 
 // How many symbols the book lists: as many as its first word says, if that many words are there.
 pub fn symbols(book: &[u16]) -> usize
     ensures { result ≡ length (signature_of book.now) }
 {
-    if book.len() == 0 {
-        return 0;
+    match book.split_first() {
+        Some((n, rest)) => wide(*n).min(rest.len()),
+        None => 0,
     }
-    let n = wide(book[0]);
-    let room = book.len() - 1;
-    if n <= room {
-        return n;
-    }
-    room
 }
 
 // Whether w is a symbol, listed or built in.
 pub fn is_symbol(book: &[u16], w: u16) -> bool
     ensures { result ≡ is_symbol (signature_of book.now) w }
 {
-    if wide(w) < symbols(book) {
-        return true;
-    }
-    is_built_in(w)
+    wide(w) < symbols(book) || is_built_in(w)
 }
 
 // How many arguments w takes.
@@ -53,18 +45,16 @@ pub fn spans(book: &[u16], ws: &[u16], k: usize) -> usize
     ensures { (result ≡ span (signature_of book.now) ws.now k) × (result ≤ length ws.now) }
 {
     let mut due = k;
-    let mut i = 0;
-    while i < ws.len() {
+    for (i, w) in ws.iter().enumerate() {
         if due == 0 {
             return i;
         }
         if ws.len() - i <= due {
             return ws.len();
         }
-        due = due - 1 + arity(book, ws[i]);
-        i += 1;
+        due = due - 1 + arity(book, *w);
     }
-    i
+    ws.len()
 }
 
 // How many words the subterm at the front of ws takes.

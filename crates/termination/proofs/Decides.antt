@@ -1,39 +1,20 @@
 -- Whether a rule falls, by computing: the test of its variables, one after the other, and of its weights.
 use Prim.Native.Nat.{ℕ, zero, suc, ◌+◌, ◌≤◌, ◌<◌}
-use native.Mathlib.Numerals.{add-one}
 use native.Mathlib.Omega.{arith}
 use native.Mathlib.Decide.{ℕ_discrete}
-use mathlib.Core.Path.{◌≡◌, refl, ap, ◌∙◌}
-use mathlib.Core.Bool.{Bool, true, false, and-false}
-use borrow.Author.Tests.{ltb-true, lt-ltb, le-ltb, leb-true, le-leb}
+use mathlib.Core.Path.{◌≡◌, refl}
+use mathlib.Core.Bool.{Bool, true}
+use borrow.Author.Tests.{ltb-true, lt-ltb, leb-true, le-leb}
 use Rattle.system.specs.Limits.{variable, variables}
 use Rattle.system.specs.System.{Rule}
 use Rattle.system.proofs.BuiltIns.{both}
-use Rattle.termination.specs.Weights.{Weights, weight, Falls}
+use Rattle.termination.specs.Weights.{Weights, Falls}
 use Rattle.system.specs.Terms.{occurs}
 use Rattle.termination.specs.WeightTest.{keeps_at, below, falls}
 
 -- ---- a test of the numbers below n
 
 module _ (test : ℕ → Bool) where
-  -- there is none below 0; one more
-  pub below_none : below test 0 ≡ true
-  unfolding below
-  below_none = refl
-
-  pub below_next : (n : ℕ) → below test n ≡ true → test n ≡ true → below test (n + 1) ≡ true
-  unfolding below
-  below_next n h t = ap (below test) (add-one n) ∙ rw (h, t) refl
-
-  -- where one fails, so does every n above it
-  pub below_fails : (k n : ℕ) → k < n → test k ≡ false → below test n ≡ false
-  unfolding below
-  below_fails k zero h t = absurd (omega arith)
-  below_fails k (suc n) h t = elim (ℕ_discrete k n) [
-    | yes e ↦ rw (rw e at t) (and-false (below test n))
-    | no d ↦ rw (below_fails k n (omega arith) t)
-  ]
-
   -- it passes exactly if all do
   pub below_all : (n : ℕ) → below test n ≡ true → (v : ℕ) → v < n → test v ≡ true
   unfolding below
@@ -61,14 +42,6 @@ module _ (r : Rule) (v : ℕ) where
   keeps-variable h = le-leb (occurs (variable + v) r.rhs) (occurs (variable + v) r.lhs) h
 
 module _ (m : Weights) (r : Rule) where
-  pub falls-heavy : weight m r.lhs ≤ weight m r.rhs → falls m r ≡ false
-  unfolding falls
-  falls-heavy h = rw (le-ltb (weight m r.rhs) (weight m r.lhs) h)
-
-  pub falls-light : weight m r.rhs < weight m r.lhs → falls m r ≡ below (keeps_at r) variables
-  unfolding falls
-  falls-light h = rw (lt-ltb (weight m r.rhs) (weight m r.lhs) h)
-
   pub falls-sound : falls m r ≡ true → Falls m r
   unfolding falls keeps_at
   falls-sound e =
@@ -76,4 +49,5 @@ module _ (m : Weights) (r : Rule) where
       record { lighter = ltb-true _ _ c.0; kept = λ v l. leb-true _ _ (below_all (keeps_at r) variables c.1 v l) }
 
   pub falls-complete : Falls m r → falls m r ≡ true
-  falls-complete f = falls-light f.lighter ∙ all-below (keeps_at r) variables (λ v l. keeps-variable r v (f.kept v l))
+  unfolding falls
+  falls-complete f = rw (lt-ltb _ _ f.lighter, all-below (keeps_at r) variables (λ v l. keeps-variable r v (f.kept v l)))

@@ -6,7 +6,8 @@ use mathlib.Core.Path.{◌≡◌}
 use mathlib.Core.List.{List}
 use lib.ListN.{length}
 use Rattle.system.specs.Limits.{term_words}
-use Rattle.system.specs.Numbers.{Limit, spent}
+use Rattle.system.specs.declared.numbers.Limit.{Limit}
+use Rattle.system.specs.declared.numbers.Limit.TheVariants.{Spent}
 use Rattle.system.specs.System.{System, instance}
 use Rattle.system.specs.Terms.{Whole, WellFormed}
 use Rattle.rewriting.specs.Trace.{Trace}
@@ -44,11 +45,11 @@ module _ (s : System) (wf : WellFormed s) (m : Weights) (falling : Falling m s) 
     stopped-falls n k e = let z = steps-fall h (path-steps s (stopped-path s wf limits t n k h l e).path) in omega arith
 
     -- "an allowance of the first cue's weight is never answered with 11"
-    pub never-spent : weight m t ≤ limits.steps → (k : Trace) → evaluation s limits t ≡ stopped spent k → ⊥
-    never-spent b k e = go (stopped-path s wf limits t spent k h l e)
+    pub never-spent : weight m t ≤ limits.steps → (k : Trace) → evaluation s limits t ≡ stopped Spent k → ⊥
+    never-spent b k e = go (stopped-path s wf limits t Spent k h l e)
       where
-        go : Stopped s limits t spent k → ⊥
+        go : Stopped s limits t Spent k → ⊥
         go c = by c.why
           where
-            by : Halts s limits c.last k spent → ⊥
+            by : Halts s limits c.last k Spent → ⊥
             by (no_steps d q) = let z = steps-fall h (path-steps s c.path) in let z' = step_falls c.whole d in omega arith

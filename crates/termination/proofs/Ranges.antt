@@ -1,15 +1,14 @@
 -- Weights in range: the check of them, weight by weight, and what words then weigh at most. A term's weight fits 32 bits: 4,096 words of at most 1,000.
-use Prim.Native.Nat.{ℕ, zero, suc, ◌+◌, ◌*◌, ◌≤◌, ◌<◌}
-use native.Mathlib.Numerals.{add-one}
+use Prim.Native.Nat.{ℕ, zero, suc, ◌*◌, ◌≤◌, ◌<◌}
 use native.Mathlib.Omega.{arith}
 use native.Mathlib.Decide.{dec_lt}
-use mathlib.Core.Path.{◌≡◌, refl, sym, ap, ◌∙◌}
+use mathlib.Core.Path.{◌≡◌, refl, ap, ◌∙◌}
 use mathlib.Core.Bool.{Bool, true, false, cond, ◌&&◌}
 use mathlib.Core.List.{List, [], ◌∷◌}
-use lib.ListN.{length, get_or, drop, get_or-eq_default}
-use lib.Seq.{drop-cons}
+use lib.ListN.{length, get_or, get_or-eq_default}
 use lib.Dec.{leb}
-use borrow.Author.Tests.{le-leb, lt-leb, leb-true, eqb-true, eq-eqb}
+use Rattle.std.specs.List.{list_all}
+use borrow.Author.Tests.{le-leb, leb-true, eqb-true, eq-eqb}
 use Rattle.system.specs.Limits.{side_words, term_words, max_weight}
 use Rattle.system.specs.BuiltIns.{literal, is_literal, is_built_in}
 use Rattle.system.specs.System.{System}
@@ -28,27 +27,11 @@ range_cons : (w : ℕ) (ws : List ℕ) → 1 ≤ w → w ≤ max_weight → in_r
 unfolding in_range
 range_cons w ws l h = rw (le-leb 1 w l, le-leb w max_weight h)
 
-range-zero : (w : ℕ) (ws : List ℕ) → w ≡ 0 → in_range (w ∷ ws) ≡ false
+-- as the library's test of a list
+pub in_range_all : (m : Weights) → list_all (λ w. leb 1 w && leb w max_weight) m ≡ in_range m
 unfolding in_range
-range-zero w ws e = rw (lt-leb 1 w (omega arith))
-
-range-over : (w : ℕ) (ws : List ℕ) → max_weight < w → in_range (w ∷ ws) ≡ false
-unfolding in_range
-range-over w ws h = rw (le-leb 1 w (omega arith), lt-leb w max_weight h)
-
--- the weights from f on, of which one is looked at
-module _ (m : Weights) (f : ℕ) (h : f < length m) where
-  rest : in_range (drop f m) ≡ in_range (get_or m f 0 ∷ drop (suc f) m)
-  rest = ap in_range (drop-cons m f 0 h)
-
-  pub range-next : (get_or m f 0 ≡ 0 → ⊥) → get_or m f 0 ≤ max_weight → in_range (drop (f + 1) m) ≡ in_range (drop f m)
-  range-next l u = ap (λ k. in_range (drop k m)) (add-one f) ∙ sym (rest ∙ range_cons (get_or m f 0) (drop (suc f) m) (omega arith) u)
-
-  pub range-low : get_or m f 0 ≡ 0 → in_range (drop f m) ≡ false
-  range-low e = rest ∙ range-zero (get_or m f 0) (drop (suc f) m) e
-
-  pub range-high : max_weight < get_or m f 0 → in_range (drop f m) ≡ false
-  range-high u = rest ∙ range-over (get_or m f 0) (drop (suc f) m) u
+in_range_all [] = refl
+in_range_all (w ∷ ws) = ap (λ b. (leb 1 w && leb w max_weight) && b) (in_range_all ws)
 
 -- where all are in range, each is
 pub range_at : (m : Weights) → in_range m ≡ true → (f : ℕ) → f < length m → (1 ≤ get_or m f 0) × (get_or m f 0 ≤ max_weight)
@@ -102,8 +85,8 @@ module _ (m : Weights) (range : in_range m ≡ true) where
   weight-bounded (w ∷ ws) = let z = word-bounded w in let z' = weight-bounded ws in omega arith
 
   -- a side of a rule fits 32 bits
-  pub side-limit : (ws : List ℕ) → length ws ≤ side_words → weight_limit m ws ≡ weight m ws
-  side-limit ws h = limit-small m ws (let z = weight-bounded ws in omega arith)
+  pub side_limit : (ws : List ℕ) → length ws ≤ side_words → weight_limit m ws ≡ weight m ws
+  side_limit ws h = limit-small m ws (let z = weight-bounded ws in omega arith)
 
 -- the weight of a term, under a list for its system
 module _ (m : Weights) (s : System) (h : Weighs m s) (t : List ℕ) (l : length t ≤ term_words) where

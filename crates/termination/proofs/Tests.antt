@@ -9,7 +9,9 @@ use mathlib.Core.Option.{Option, none, some}
 use mathlib.Core.List.{List}
 use lib.ListN.{length}
 use Rattle.system.specs.declared.Answer.{Answer}
-use Rattle.system.specs.Numbers.{Fault, misweighed, rising, number_of}
+use Rattle.system.specs.Numbers.{number_of}
+use Rattle.system.specs.declared.numbers.Fault.{Fault}
+use Rattle.system.specs.declared.numbers.Verdict.TheVariants.{Misweighed, Rising}
 use Rattle.system.specs.System.{System, Rule, rule}
 use Rattle.system.specs.Rules.{RuleOf, listed, built_in}
 use Rattle.reader.specs.Parser.{Parsed, ok, fault, read}
@@ -113,7 +115,7 @@ module _ (b : List ℕ) (m : Weights) where
   high f n l e = elim (fault-range f) [ inl z ↦ (let h = z.1 in omega arith) | inr z ↦ (omega arith) ]
 
   -- 18: the book is accepted, and the list is not one of weights for it; and every such pair gets it
-  pub misweighed-book : (weights_answer b m).number ≡ number_of misweighed → MisweighedBook b m
+  pub misweighed-book : (weights_answer b m).number ≡ number_of Misweighed → MisweighedBook b m
   misweighed-book z = go ends z
     where
       go : {r : Answer} → Ends r → r.number ≡ 18 → MisweighedBook b m
@@ -126,7 +128,7 @@ module _ (b : List ℕ) (m : Weights) where
   book-misweighed h = weights-misweighed h.accepted (refuted (weighs m (length (system_of b).arities)) (λ e. h.misweighed (weighs-sound m (system_of b) e)))
 
   -- 19: the place is the lowest rule that does not fall; and every such pair gets it
-  pub rising-book : (weights_answer b m).number ≡ number_of rising → RisingBook b m (weights_answer b m).place
+  pub rising-book : (weights_answer b m).number ≡ number_of Rising → RisingBook b m (weights_answer b m).place
   rising-book z = go ends z
     where
       go : {r : Answer} → Ends r → r.number ≡ 19 → RisingBook b m r.place

@@ -1,12 +1,12 @@
--- What words weigh, how often a word stands among them, and one word more of both.
-use Prim.Native.Nat.{ℕ, zero, suc, ◌+◌, ◌≤◌, ◌<◌}
-use native.Mathlib.Numerals.{add-one}
+-- What words weigh, word by word, and as a step limit.
+use Prim.Native.Nat.{ℕ, ◌+◌, ◌≤◌, ◌<◌, min}
 use native.Mathlib.Omega.{arith}
-use mathlib.Core.Path.{◌≡◌, refl, ap, ◌∙◌}
+use native.Mathlib.Decide.{dec_lt}
+use mathlib.Core.Path.{◌≡◌, refl, ◌∙◌}
 use mathlib.Core.Bool.{true, false}
 use mathlib.Core.List.{List, [], ◌∷◌, ◌++◌}
-use lib.ListN.{length, get_or, take}
-use lib.Seq.{take-suc}
+use lib.ListN.{get_or}
+use Rattle.std.specs.List.{fold}
 use borrow.Author.Tests.{lt-ltb, le-ltb, lt-leb}
 use Rattle.system.specs.Limits.{variable, max_steps}
 use Rattle.system.specs.BuiltIns.{literal, maximum, last_built_in, is_literal, is_built_in}
@@ -32,14 +32,9 @@ module _ (w : ℕ) where
   unfolding built_in_weight
   builtin-literal e = rw e
 
-  module _ (other : is_literal w ≡ false) where
-    pub builtin-operator : is_built_in w ≡ true → built_in_weight w ≡ 1
-    unfolding built_in_weight
-    builtin-operator e = rw (other, e)
-
-    pub builtin-none : is_built_in w ≡ false → built_in_weight w ≡ 0
-    unfolding built_in_weight
-    builtin-none e = rw (other, e)
+  pub builtin-none : is_literal w ≡ false → is_built_in w ≡ false → built_in_weight w ≡ 0
+  unfolding built_in_weight
+  builtin-none a b = rw (a, b)
 
 -- a variable weighs nothing
 pub weight-variable : (m : Weights) (w : ℕ) → variable ≤ w → word_weight m w ≡ 0
@@ -63,13 +58,6 @@ module _ (m : Weights) where
   weight-append [] b = omega arith
   weight-append (w ∷ a) b = let z = weight-append a b in omega arith
 
-  -- the first of them weigh no more than all
-  pub weight-take : (k : ℕ) (ws : List ℕ) → weight m (take k ws) ≤ weight m ws
-  unfolding weight
-  weight-take zero ws = omega arith
-  weight-take (suc k) [] = omega arith
-  weight-take (suc k) (w ∷ ws) = let z = weight-take k ws in omega arith
-
   -- as a step limit: the weight where it fits, else the largest
   pub limit-small : (ws : List ℕ) → weight m ws ≤ max_steps → weight_limit m ws ≡ weight m ws
   unfolding weight_limit
@@ -79,14 +67,16 @@ module _ (m : Weights) where
   unfolding weight_limit
   limit-large ws h = smaller-second (weight m ws) max_steps h
 
--- ---- one word more
+-- ---- the sum, no larger than the largest step limit at any word
 
-module _ (ws : List ℕ) (j : ℕ) (h : j < length ws) where
-  next : take (j + 1) ws ≡ take j ws ++ get_or ws j 0 ∷ []
-  next = ap (λ k. take k ws) (add-one j) ∙ take-suc ws j 0 h
+module _ (m : Weights) where
+  limited : (ws : List ℕ) (a : ℕ) → a ≤ max_steps → fold (λ sum w. min (sum + word_weight m w) max_steps) a ws ≡ min (a + weight m ws) max_steps
+  unfolding weight
+  limited [] a h = omega arith
+  limited (w ∷ ws) a h = let z = limited ws (min (a + word_weight m w) max_steps) (omega arith) in omega arith
 
-  pub weight-next : (m : Weights) → weight m (take (j + 1) ws) ≡ weight m (take j ws) + word_weight m (get_or ws j 0)
-  weight-next m =
-      let z = weight-cons m (get_or ws j 0) [] in
-      let z' = weight-nil m in
-      ap (weight m) next ∙ weight-append m (take j ws) (get_or ws j 0 ∷ []) ∙ omega arith
+  pub fold-limit : (ws : List ℕ) → fold (λ sum w. min (sum + word_weight m w) max_steps) 0 ws ≡ weight_limit m ws
+  fold-limit ws = let z = limited ws 0 (omega arith) in elim (dec_lt max_steps (weight m ws)) [
+    | yes l ↦ (let y = limit-large m ws l in omega arith)
+    | no l ↦ (let y = limit-small m ws (omega arith) in omega arith)
+  ]

@@ -2,7 +2,7 @@
 use Rattle.std.specs.Prelude.{ℕ, ◌≡◌, ◌↔◌, List, length}
 use Rattle.std.proofs.Math.Option.{none, some}
 use Rattle.system.specs.declared.Answer.{Answer}
-use Rattle.system.specs.Numbers.{Fault}
+use Rattle.system.specs.declared.numbers.Fault.{Fault}
 use Rattle.reader.specs.Book.{system_of}
 use Rattle.reader.specs.Parser.{ok, fault, read}
 use Rattle.reader.specs.Answers.{answer_of}

@@ -3,7 +3,8 @@ use Rattle.std.specs.Prelude.{ℕ, zero, suc, ◌+◌, ◌≡◌, Bool, true, fa
 use Rattle.std.proofs.Math.Option.{Option, none, some}
 use Rattle.system.specs.declared.Answer.{Answer}
 use Rattle.system.specs.Limits.{variable, variables, max_steps, max_weight}
-use Rattle.system.specs.Numbers.{taken, misweighed, rising, number_of}
+use Rattle.system.specs.Numbers.{number_of}
+use Rattle.system.specs.declared.numbers.Verdict.TheVariants.{Taken, Misweighed, Rising}
 use Rattle.system.specs.BuiltIns.{smaller}
 use Rattle.system.specs.System.{System, Rule, rule}
 use Rattle.reader.specs.Parser.{ok, fault, read}
@@ -42,12 +43,12 @@ first_rising m s = first_failing (λ k. falls m (rule s k)) 0 (length s.rules)
 
 -- "then 19, place the lowest rule that doesn't fall"
 abbrev pub fall_answer : Option ℕ → Answer
-fall_answer none = record { number = number_of taken; place = 0; steps = 0 }
-fall_answer (some k) = record { number = number_of rising; place = k; steps = 0 }
+fall_answer none = record { number = number_of Taken; place = 0; steps = 0 }
+fall_answer (some k) = record { number = number_of Rising; place = k; steps = 0 }
 
 -- "18 if the list's length is not S or a weight is out of range"
 abbrev pub misweighed_answer : Answer
-misweighed_answer = record { number = number_of misweighed; place = 0; steps = 0 }
+misweighed_answer = record { number = number_of Misweighed; place = 0; steps = 0 }
 
 -- the test of a system that was read
 unfoldable pub system_answer : Weights → System → Answer
@@ -59,7 +60,7 @@ weights_answer book m = elim (read book) [ fault f i ↦ answer_of (fault f i) |
 
 -- a list by which a book passed: the test answers 0
 abbrev pub PassedWeights : List ℕ → Weights → Type 0
-PassedWeights book m = (weights_answer book m).number ≡ number_of taken
+PassedWeights book m = (weights_answer book m).number ≡ number_of Taken
 
 -- ---- the weight of a term as a step limit ("an allowance of the first cue's weight")
 

@@ -3,7 +3,7 @@ ghost use Rattle.std.specs.Prelude.{◌≡◌, true};
 ghost use Rattle.system.specs.Limits.{variables};
 ghost use Rattle.termination.specs.WeightTest.{keeps_at, below, falls, in_range};
 ghost use Rattle.matching.specs.rules.Searches.{NumberedSide};
-ghost use Rattle.termination.specs.falling.Counts.{Counts, covers};
+ghost use Rattle.termination.specs.falling.Counts.{Counts};
 
 use crate::weighing::weigh;
 use system::limits::{VARIABLE, VARIABLES};
@@ -15,30 +15,12 @@ fn count(words: &[u16]) -> [u16; VARIABLES]
     ensures { Counts words.now result }
 {
     let mut counts = [0u16; VARIABLES];
-    let mut j = 0;
-    while j < words.len() {
-        let w = wide(words[j]);
-        if VARIABLE <= w {
-            let v = w - VARIABLE;
+    for w in words {
+        if let Some(v) = wide(*w).checked_sub(VARIABLE) {
             counts[v] += 1;
         }
-        j += 1;
     }
     counts
-}
-
-// Whether no count is above the most.
-fn covers(most: [u16; VARIABLES], counts: [u16; VARIABLES]) -> bool
-    ensures { result ≡ covers most counts }
-{
-    let mut v = 0;
-    while v < VARIABLES {
-        if most[v] < counts[v] {
-            return false;
-        }
-        v += 1;
-    }
-    true
 }
 
 // Whether no variable is on the right more often than on the left.
@@ -48,16 +30,14 @@ fn keeps(lhs: &[u16], rhs: &[u16]) -> bool
 {
     let left = count(lhs);
     let right = count(rhs);
-    covers(left, right)
+    right.iter().zip(&left).all(|(r, l)| *r <= *l)
 }
 
 // Whether the rule with these sides falls, under weights that are in range.
+#[tactic(auto, using(crate::proofs::Ranges::side_limit), unfolding(crate::specs::WeightTest::falls))]
 pub fn falls(weights: &[u16], lhs: &[u16], rhs: &[u16]) -> bool
     requires { (in_range weights.now ≡ true) × NumberedSide lhs.now × NumberedSide rhs.now }
     ensures { result ≡ falls weights.now (record { lhs = lhs.entry.now; rhs = rhs.now }) }
 {
-    if weigh(weights, lhs) <= weigh(weights, rhs) {
-        return false;
-    }
-    keeps(lhs, rhs)
+    weigh(weights, rhs) < weigh(weights, lhs) && keeps(lhs, rhs)
 }

@@ -20,6 +20,5 @@ pub fn test_weights(book: &[u16], weights: &[u16]) -> Answer
     ensures tested { result ≡ weights_answer book.now weights.now }
     ensures told { TellsWeights book.now weights.now result }
 {
-    let s = scan_book(book);
-    testing::test(book, s, weights)
+    testing::test(&scan_book(book), weights)
 }

@@ -1,3 +1,3 @@
--- The check of a term, word by word, and against a book that was scanned.
+-- The check of a term, word by word, and against a book.
 pub mod TermSteps
 pub mod Checks

@@ -1,5 +1,5 @@
 // Terms (01: cues) against a book: whether words are one whole term, and one argument of it. None of the operations here asks anything of its
-// caller; `checking` is the inner interface for the layers above, over a book that was scanned.
+// caller; `checking` is the inner interface for the layers above, over an accepted book.
 #![tactic(auto)]
 
 ghost use Rattle.std.specs.Prelude.{◌≡◌, ◌+◌, ◌≤◌, length};
@@ -10,15 +10,17 @@ pub mod checking;
 use reader::ArgumentSpan;
 use reader::scan::scan_book;
 use system::Answer;
-use system::numbers::TAKEN;
+use system::words::{arity, span, spans};
 
 // Checks a term (01: a cue) against a book: the reader's answer where the book is refused, else 9 and the index of the first word
 // that can't stand there, or 0 and the term's length.
 pub fn check_term(book: &[u16], term: &[u16]) -> Answer
     ensures { result ≡ term_answer book.now term.now }
 {
-    let s = scan_book(book);
-    checking::check(book, s, term)
+    match scan_book(book).outcome {
+        Ok(b) => checking::check(&b, term),
+        Err(r) => r.into(),
+    }
 }
 
 // Where argument i (from 1) of the term's first symbol stands: 0 and 0 exactly when the book or the term would be refused, or there is no such
@@ -32,17 +34,11 @@ pub fn argument_span(book: &[u16], term: &[u16], i: usize) -> ArgumentSpan
         length: 0,
     };
     let c = check_term(book, term);
-    if c.number != TAKEN {
+    if !c.is_taken() || i == 0 || arity(book, term[0]) < i {
         return none;
     }
-    if i == 0 {
-        return none;
-    }
-    if system::words::arity(book, term[0]) < i {
-        return none;
-    }
-    let start = 1 + system::words::spans(book, &term[1..], i - 1);
-    let length = system::words::span(book, &term[start..]);
+    let start = 1 + spans(book, &term[1..], i - 1);
+    let length = span(book, &term[start..]);
     ArgumentSpan { start, length }
 }
 
@@ -52,7 +48,5 @@ pub fn argument<'a>(book: &[u16], term: &'a [u16], i: usize) -> &'a [u16]
     ensures place { LiesIn term.entry (start_of (argument_at book.now term.now i)) result }
 {
     let s = argument_span(book, term, i);
-    let start = s.start;
-    let end = start + s.length;
-    &term[start..end]
+    &term[s.start..s.start + s.length]
 }

@@ -3,19 +3,18 @@
 // The finger is at that position. In the place of the machine's counts the area holds the way to it: the positions of the symbols from the
 // root on, outermost first. So a position near the last step's costs little; and where a subterm ends is one read: no span of the term is counted.
 ghost use Rattle.std.specs.Prelude.{◌≡◌, ◌<◌};
-ghost use Rattle.reader.specs.Book.{system_of, Accepted};
+ghost use Rattle.reader.specs.Book.{system_of};
 ghost use Rattle.system.specs.Signature.{Signature};
 ghost use Rattle.system.specs.System.{System};
 ghost use Rattle.system.specs.Terms.{WellFormed};
-ghost use Rattle.layout.specs.index.Index.{Indexed};
 ghost use Rattle.rows.specs.Rows.{term_in, Gapped};
 ghost use Rattle.rows.specs.gap.Gaps.{words_in};
 ghost use Rattle.rows.specs.Measured.{Measured};
-ghost use Rattle.walks.specs.walk.Descent.{Readable, within, Above, Held};
+ghost use Rattle.walks.specs.walk.Descent.{within, Above, Held};
 ghost use Rattle.walks.specs.walk.Way.{PointsIn, PointsForSome, Over, Found};
 
-use layout::entries::stands_in;
-use reader::Shape;
+use layout::index::Index;
+use reader::book::Book;
 use rows::gap::{Gap, length_at, word_at, words};
 use rows::lengths::COUNTS;
 use system::words::{arity, wide};
@@ -40,31 +39,29 @@ fn inside(area: &[u16], gap: Gap, at: usize, q: usize) -> bool
     requires { Gapped area.now gap × (at < words_in gap) }
     ensures { (g : Signature) → Measured g area.now gap → result ≡ within g (term_in area.now gap) at q }
 {
-    if q < at {
-        return false;
-    }
-    q - at < length_at(area, gap, at)
+    at <= q && q - at < length_at(area, gap, at)
 }
 
 // Finds the argument of the symbol at `at` that holds the position q, by at most as many reads as it has arguments. If none of the others does, it is
 // the last one, which needs no read.
-fn holder(book: &[u16], area: &[u16], gap: Gap, at: usize, q: usize) -> Argument
-    requires { Readable book.now × Measured (system_of book.now).arities area.now gap
-        × Above (system_of book.now) (term_in area.now gap) at q × (at < q) }
-    ensures { Held (system_of book.now) (term_in area.now gap) at q result }
+fn holder(book: &Book<'_>, area: &[u16], gap: Gap, at: usize, q: usize) -> Argument
+    requires { Measured (system_of book.now.words.now).arities area.now gap
+        × Above (system_of book.now.words.now) (term_in area.now gap) at q × (at < q) }
+    ensures { Held (system_of book.now.words.now) (term_in area.now gap) at q result }
 {
-    let last = arity(book, word_at(area, gap, at)) - 1;
-    let mut number = 0;
+    let last = arity(book.words, word_at(area, gap, at)) - 1;
     let mut start = at + 1;
-    while number < last {
+    for number in 0..last {
         let width = length_at(area, gap, start);
         if q - start < width {
             return Argument { number, start };
         }
         start += width;
-        number += 1;
     }
-    Argument { number, start }
+    Argument {
+        number: last,
+        start,
+    }
 }
 
 // Goes up the way to the first position whose subterm holds q. The root's does.
@@ -73,62 +70,47 @@ fn climb(area: &[u16], f: Finger, q: usize) -> Finger
     ensures { (s : System) → WellFormed s → PointsIn s area.now f →
         Over s (term_in area.now f.gap) area.now result q }
 {
-    let gap = f.gap;
-    let mut level = f.level;
     let mut at = f.at;
-    while 0 < level {
-        if inside(area, gap, at, q) {
-            return Finger { gap, level, at };
+    for level in (0..f.level).rev() {
+        if inside(area, f.gap, at, q) {
+            return Finger {
+                level: level + 1,
+                at,
+                ..f
+            };
         }
-        level -= 1;
         at = wide(area[COUNTS + level]);
     }
-    Finger { gap, level, at }
+    Finger { level: 0, at, ..f }
 }
 
 // Goes down to q, as long as the argument that holds q stands in the strategy, and notes the way.
-fn descend(
-    book: &[u16],
-    shape: Shape,
-    index: &[u16],
-    area: &mut [u16],
-    f: Finger,
-    q: usize,
-) -> Finger
-    requires { Accepted book.now shape × Indexed book.now shape index.now
-        × Over (system_of book.now) (term_in area.old f.gap) area.old f q }
-    ensures { Found (system_of book.now) (term_in area.old f.gap) area.new result q }
+fn descend(index: &Index<'_>, area: &mut [u16], f: Finger, q: usize) -> Option<Finger>
+    requires { Over (system_of index.now.book.words.now) (term_in area.old f.gap) area.old f q }
+    ensures { Found (system_of index.now.book.words.now) (term_in area.old f.gap) area.new q result }
 {
-    let gap = f.gap;
-    let mut level = f.level;
-    let mut at = f.at;
-    while at < q {
-        let a = holder(book, area, gap, at, q);
-        if !stands_in(book, shape, index, word_at(area, gap, at), a.number + 1) {
-            return Finger { gap, level, at };
+    let mut f = f;
+    // The cursor goes on to where an argument starts, which is read: no range and no iterator counts it.
+    while f.at < q {
+        let a = holder(&index.book, area, f.gap, f.at, q);
+        if !index.stands_in(word_at(area, f.gap, f.at), a.number + 1) {
+            return None;
         }
-        area[COUNTS + level] = at as u16;
-        level += 1;
-        at = a.start;
+        area[COUNTS + f.level] = f.at as u16;
+        f.level += 1;
+        f.at = a.start;
     }
-    Finger { gap, level, at }
+    Some(f)
 }
 
-// Brings the finger to the position q if that is active, and to another position if it is not. Any word of a record may be asked for.
-pub fn find(
-    book: &[u16],
-    shape: Shape,
-    index: &[u16],
-    area: &mut [u16],
-    f: Finger,
-    q: usize,
-) -> Finger
-    requires { Accepted book.now shape × Indexed book.now shape index.now × PointsIn (system_of book.now) area.old f }
-    ensures { Found (system_of book.now) (term_in area.old f.gap) area.new result q }
+// Brings the finger to the position q if that is active; none if it is not. Any word of a record may be asked for.
+pub fn find(index: &Index<'_>, area: &mut [u16], f: Finger, q: usize) -> Option<Finger>
+    requires { PointsIn (system_of index.now.book.words.now) area.old f }
+    ensures { Found (system_of index.now.book.words.now) (term_in area.old f.gap) area.new q result }
 {
     if words(f.gap) <= q {
-        return f;
+        return None;
     }
     let over = climb(area, f, q);
-    descend(book, shape, index, area, over, q)
+    descend(index, area, over, q)
 }

@@ -1,13 +1,5 @@
 -- `cue_test_strategies` meets its contract.
-use mathlib.Core.Path.{ap, ◌∙◌}
-use Rattle.cue.specs.Exports.{answer_for}
 use Rattle.cue.proofs.cue_test_strategies.Goals as goal
 
-pub returns : goal.returns
-returns c =
-    let e = c.answer_for.ensures in
-    let t = c.test_strategies.ensures in
-    record {
-      tested = e ∙ ap answer_for t.tested;
-      told = rw e t.told;
-    }
+pub returns-clause-told : goal.returns-clause-told
+returns-clause-told c = let e = c.into.ensures in rw e c.test_strategies.ensures.told

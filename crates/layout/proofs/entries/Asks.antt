@@ -1,18 +1,18 @@
 -- What an entry of a symbol's strategy asks for, in the terms of the code.
-use Prim.Native.Nat.{ℕ, zero, suc, ◌+◌, ◌-◌, ◌≤◌, ◌<◌}
+use Prim.Native.Nat.{ℕ, zero, suc, ◌-◌, ◌≤◌, ◌<◌, min}
 use native.Mathlib.Omega.{arith}
 use native.Mathlib.Decide.{dec_lt}
 use mathlib.Core.Path.{◌≡◌, refl, sym, ap, ◌∙◌, subst}
 use mathlib.Core.Bool.{Bool, true, false}
 use mathlib.Core.List.{List, []}
-use lib.ListN.{length, get_or, drop, length-drop}
-use lib.Seq.{get_or-take, get_or-drop, length-take-le}
+use lib.ListN.{length, get_or, take, drop}
+use lib.Dec.{eqb}
+use Rattle.std.specs.List.{list_any}
 use borrow.Author.Tests.{lt-ltb, le-ltb}
 use Rattle.reader.specs.declared.Shape.{Shape}
 use Rattle.system.specs.BuiltIns.{built_in_arity, built_in_strategy}
 use Rattle.system.specs.System.{strategy}
 use Rattle.reader.specs.Book.{system_of, Accepted}
-use Rattle.layout.specs.index.Accepted.{StrategyAt}
 use Rattle.system.proofs.BuiltIns.{eager, strategy-eager}
 use Rattle.system.proofs.Rules.{strategy-unlisted}
 use Rattle.layout.proofs.Suffixes.{strategy-count}
@@ -20,7 +20,7 @@ use Rattle.layout.specs.declared.entries.Entry.{Entry}
 use Rattle.layout.specs.declared.entries.Entry.TheVariants.{End, Repeated, Rules, Argument}
 use Rattle.system.specs.Terms.{among}
 use Rattle.layout.specs.entries.Entries.{entry_from, between, entry_of}
-use Rattle.layout.proofs.entries.Repeats.{between-take}
+use Rattle.layout.proofs.entries.Repeats.{among-any, between-min}
 
 -- ---- what an entry asks for
 
@@ -142,41 +142,17 @@ pub entry-unlisted : (b : List ℕ) (sh : Shape) → Accepted b sh → (w n f c 
     e ≡ entry_of (strategy (system_of b) w) f c
 entry-unlisted b sh acc w n f c q h e is = is ∙ ap (λ es. entry_of es f c) (sym (strategy-unlisted (system_of b) w (omega (arith, strategy-count b sh acc))))
 
--- an entry of the strategy at `at`, by the words of the book
-module _ (b : List ℕ) (w k at f c n : ℕ) (is : k ≡ w) (st : StrategyAt b k at) (count : n ≡ get_or b at 0) where
-  abbrev es : List ℕ
-  es = strategy (system_of b) k
+-- entry c of a strategy, as the code reads it: its word e, and whether e stands among those from f on before it
+module _ (es : List ℕ) (f c e : ℕ) (more : c < length es) (word : e ≡ get_or es c 0) {r : Bool}
+    (before : r ≡ list_any (eqb e) (take (c - min f c) (drop (min f c) es))) where
+  entry-stood : stood es f c ≡ r
+  entry-stood = among-any (get_or es c 0) (between es f c) ∙ (λ i. list_any (eqb (sym word i)) (between-min es f c i)) ∙ sym before
 
-  entry-count : length es ≡ n
-  entry-count =
-      ap length (sym st.entries) ∙ length-take-le (get_or b at 0) (drop (at + 1) b) (rw (length-drop (at + 1) b) (let h = st.fits in omega arith)) ∙ sym count
+  pub entry-repeated : r ≡ true → Repeated ≡ entry_of es f c
+  entry-repeated q = sym (entry-again es f c more (entry-stood ∙ q))
 
-  same : (e : Entry) → entry_of es f c ≡ e → e ≡ entry_of (strategy (system_of b) w) f c
-  same e q = sym q ∙ ap (λ y. entry_of (strategy (system_of b) y) f c) is
-
-  pub entry-over : n ≤ c → End ≡ entry_of (strategy (system_of b) w) f c
-  entry-over h = same End (entry_past es f c (omega (arith, entry-count)))
-
-  module _ (more : c < n) (r : Bool) (before : r ≡ among (get_or b (at + 1 + c) 0) (between (drop (at + 1) b) f c)) where
-    entry-word : get_or es c 0 ≡ get_or b (at + 1 + c) 0
-    entry-word =
-        ap (λ y. get_or y c 0) (sym st.entries) ∙ get_or-take (get_or b at 0) (drop (at + 1) b) c 0 (omega arith)
-        ∙ get_or-drop (at + 1) b c 0
-
-    inside : c < length es
-    inside = omega (arith, entry-count)
-
-    entry-stood : stood es f c ≡ r
-    entry-stood =
-        let e : between es f c ≡ between (drop (at + 1) b) f c = ap (λ y. between y f c) (sym st.entries) ∙ between-take (get_or b at 0) f c (drop (at + 1) b) (omega arith) in
-        (λ j. among (entry-word j) (e j)) ∙ sym before
-
-    pub entry-repeated : r ≡ true → Repeated ≡ entry_of (strategy (system_of b) w) f c
-    entry-repeated q = same Repeated (entry-again es f c inside (entry-stood ∙ q))
-
-    module _ (new : r ≡ false) (e : ℕ) (word : e ≡ get_or b (at + 1 + c) 0) where
-      pub entry_read : entry_from e ≡ entry_of (strategy (system_of b) w) f c
-      entry_read = ap entry_from (word ∙ sym entry-word) ∙ same (entry_from (get_or es c 0)) (entry_here es f c inside (entry-stood ∙ new))
+  pub entry_read : r ≡ false → {n : ℕ} → n ≡ e → entry_from n ≡ entry_of es f c
+  entry_read q is = ap entry_from (is ∙ word) ∙ sym (entry_here es f c more (entry-stood ∙ q))
 
 -- what it asks for, by the code's test
 pub from_zero : (e : ℕ) → e ≡ 0 → Rules ≡ entry_from e

@@ -1,5 +1,5 @@
 -- Whether an entry is one of those that stand before it in a strategy.
-use Prim.Native.Nat.{ℕ, zero, suc, ◌+◌, ◌-◌, ◌≤◌, ◌<◌}
+use Prim.Native.Nat.{ℕ, suc, ◌+◌, ◌-◌, ◌≤◌, ◌<◌, min}
 use native.Mathlib.Omega.{arith}
 use native.Mathlib.Decide.{dec_lt}
 use mathlib.Core.Path.{◌≡◌, refl, ap, ◌∙◌, subst}
@@ -7,9 +7,10 @@ use mathlib.Core.Logic.{◌⊎◌}
 use mathlib.Core.Bool.{Bool, true, false, ◌||◌}
 use mathlib.Core.List.{List, [], ◌∷◌, ◌++◌}
 use lib.ListN.{length, get_or, take, drop, length-drop}
-use lib.Seq.{take-nil, take_all, take-suc, take-take, drop-cons, get_or-drop}
+use lib.Seq.{take_all, take-suc, get_or-drop}
 use lib.Dec.{eqb}
-use borrow.Author.Tests.{eqb-true, eq-eqb, ne_eqb}
+use Rattle.std.specs.List.{list_any}
+use borrow.Author.Tests.{eqb-true, eq-eqb}
 use Rattle.system.specs.Terms.{Member, first, later, among}
 use Rattle.layout.specs.entries.Entries.{between}
 use Rattle.system.proofs.Members.{member-nil, member-snoc}
@@ -52,41 +53,15 @@ between_more es f c e more st = elim (dec_lt c f) [
 pub between-all : (es : List ℕ) (c : ℕ) → length es ≤ c → between es 0 c ≡ es
 between-all es c h = ap (λ k. take k es) (let z : c - 0 ≡ c = omega arith in z) ∙ take_all c es h
 
-inner : (f k n : ℕ) (ws : List ℕ) → f + k ≤ n → take k (drop f (take n ws)) ≡ take k (drop f ws)
-inner zero k n ws h = take-take k n ws (omega arith)
-inner (suc f) k n [] h = rw (take-nil n)
-inner (suc f) k zero (x ∷ ws) h = absurd (omega arith)
-inner (suc f) k (suc n) (x ∷ ws) h = inner f k n ws (omega arith)
+-- whether an entry stands in a list, as `any` looks for it
+pub among-any : (e : ℕ) (ds : List ℕ) → among e ds ≡ list_any (eqb e) ds
+unfolding among
+among-any e [] = refl
+among-any e (d ∷ ds) = ap (λ b. eqb e d || b) (among-any e ds)
 
--- what stands between two entries is told by the words alone
-pub between-take : (n f c : ℕ) (ws : List ℕ) → c ≤ n → between (take n ws) f c ≡ between ws f c
-between-take n f c ws h = elim (dec_lt c f) [
-  | yes l ↦ let z : c - f ≡ 0 = omega arith in rw z
-  | no l ↦ inner f (c - f) n ws (omega arith)
+-- what stands between two entries, by a slice that starts at or before its end
+pub between-min : (es : List ℕ) (f c : ℕ) → between es f c ≡ take (c - min f c) (drop (min f c) es)
+between-min es f c = elim (dec_lt c f) [
+  | yes l ↦ let z : c - f ≡ 0 = omega arith in let y : c - min f c ≡ 0 = omega arith in rw (z, y) refl
+  | no l ↦ let z : min f c ≡ f = omega arith in rw z refl
 ]
-
--- ---- the search, entry by entry, of the strategy that stands in ws after index `at`
-
-module _ (ws : List ℕ) (at j c e : ℕ) where
-  abbrev es : List ℕ
-  es = drop (at + 1) ws
-
-  -- at its end
-  pub stood-end : c ≤ j → false ≡ among e (between es j c)
-  unfolding among
-  stood-end h = let z : c - j ≡ 0 = omega arith in rw z
-
-  module _ (more : j < c) (fits : at + 1 + c < length ws) where
-    between_cons : between es j c ≡ get_or ws (at + 1 + j) 0 ∷ between es (j + 1) c
-    between_cons =
-        let z : c - j ≡ suc (c - (j + 1)) = omega arith in
-        let y : suc j ≡ j + 1 = omega arith in
-        rw (z, drop-cons es j 0 (rw (length-drop (at + 1) ws) (omega arith)), get_or-drop (at + 1) ws j 0, y)
-
-    pub stood-found : e ≡ get_or ws (at + 1 + j) 0 → true ≡ among e (between es j c)
-    unfolding among
-    stood-found q = rw (between_cons, eq-eqb e (get_or ws (at + 1 + j) 0) q)
-
-    pub stood-next : (e ≡ get_or ws (at + 1 + j) 0 → ⊥) → among e (between es (j + 1) c) ≡ among e (between es j c)
-    unfolding among
-    stood-next q = rw (between_cons, ne_eqb e (get_or ws (at + 1 + j) 0) q)

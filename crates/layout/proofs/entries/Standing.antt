@@ -1,42 +1,19 @@
--- Whether an entry stands in a strategy: the search over its words, and where they stand in the book.
-use Prim.Native.Nat.{ℕ, zero, suc, ◌+◌, ◌-◌, ◌≤◌, ◌<◌}
+-- Whether an entry stands in a strategy that no book lists.
+use Prim.Native.Nat.{ℕ, zero, suc, ◌≤◌}
 use native.Mathlib.Omega.{arith}
-use native.Mathlib.Numerals.{add-one}
 use mathlib.Core.Path.{◌≡◌, refl, sym, ap, ◌∙◌}
-use mathlib.Core.Bool.{Bool, true, false}
-use mathlib.Core.List.{List, ◌∷◌}
-use lib.ListN.{length, get_or, take, drop, drop_of_length-le}
-use lib.Seq.{drop-cons}
+use mathlib.Core.Bool.{Bool, false}
+use mathlib.Core.List.{List}
 use lib.Dec.{leb}
-use borrow.Author.Tests.{eq-eqb, ne_eqb, lt-leb}
+use borrow.Author.Tests.{ne_eqb, lt-leb}
 use Rattle.reader.specs.declared.Shape.{Shape}
 use Rattle.system.specs.BuiltIns.{built_in_arity, built_in_strategy}
 use Rattle.system.specs.System.{strategy}
 use Rattle.reader.specs.Book.{system_of, Accepted}
-use Rattle.layout.specs.index.Accepted.{StrategyAt}
 use Rattle.system.specs.Terms.{among}
 use Rattle.system.proofs.BuiltIns.{eager, strategy-eager}
 use Rattle.system.proofs.Rules.{strategy-unlisted}
 use Rattle.layout.proofs.Suffixes.{strategy-count}
-
--- ---- the search, with j words behind it
-
-module _ (ws : List ℕ) (j e : ℕ) where
-  pub among-end : length ws ≤ j → false ≡ among e (drop j ws)
-  unfolding among
-  among-end h = rw (drop_of_length-le ws {i = j} h)
-
-  module _ (more : j < length ws) where
-    rest : drop j ws ≡ get_or ws j 0 ∷ drop (j + 1) ws
-    rest = drop-cons ws j 0 more ∙ ap (λ k. get_or ws j 0 ∷ drop k ws) (sym (add-one j))
-
-    pub among-here : e ≡ get_or ws j 0 → true ≡ among e (drop j ws)
-    unfolding among
-    among-here q = rw (rest, eq-eqb e (get_or ws j 0) q)
-
-    pub among_next : (e ≡ get_or ws j 0 → ⊥) → among e (drop (j + 1) ws) ≡ among e (drop j ws)
-    unfolding among
-    among_next q = rw (rest, ne_eqb e (get_or ws j 0) q)
 
 -- ---- the built-in strategies
 
@@ -78,17 +55,5 @@ module _ (w e n : ℕ) (is : n ≡ built_in_arity w) (few : n ≤ 2) where
       go (suc (suc zero)) h z = two-arguments e
       go (suc (suc (suc n))) h z = absurd (omega arith)
 
--- ---- by the words of the book
-
 pub among-unlisted : (b : List ℕ) (sh : Shape) → Accepted b sh → (w n e : ℕ) → n ≡ w → sh.symbols ≤ n → among e (built_in_strategy w) ≡ among e (strategy (system_of b) w)
 among-unlisted b sh acc w n e q h = ap (among e) (sym (strategy-unlisted (system_of b) w (omega (arith, strategy-count b sh acc))))
-
--- the entries of the strategy at `at`, from `first` up to `end`
-module _ (b : List ℕ) (w k at n : ℕ) (is : k ≡ w) (st : StrategyAt b k at) (count : n ≡ get_or b at 0) where
-  pub entries_fit : at + 1 + n ≤ length b
-  entries_fit = let h = st.fits in omega arith
-
-  pub among-listed : (e : ℕ) → among e (take (at + 1 + n - (at + 1)) (drop (at + 1) b)) ≡ among e (strategy (system_of b) w)
-  among-listed e =
-      let z : at + 1 + n - (at + 1) ≡ get_or b at 0 = omega arith in
-      ap (λ y. among e (take y (drop (at + 1) b))) z ∙ ap (among e) st.entries ∙ ap (λ y. among e (strategy (system_of b) y)) is

@@ -1,138 +1,121 @@
 -- The loops that make an index: what each keeps, and what a turn does to it.
 use Prim.Native.Nat.{ℕ, ◌+◌, ◌-◌, ◌≤◌, ◌<◌}
 use native.Mathlib.Omega.{arith}
-use native.Mathlib.Decide.{ℕ_discrete}
 use mathlib.Core.Path.{◌≡◌, refl, ap, ◌∙◌}
 use mathlib.Core.List.{List}
 use lib.ListN.{length, get_or, set, length-set}
-use lib.Seq.{get_or-set_same, get_or-set_other}
 use Rattle.system.specs.Limits.{max_symbols, max_rules}
 use Rattle.reader.specs.declared.Shape.{Shape}
-use Rattle.layout.specs.declared.rules.RuleSpan.{RuleSpan}
+use Rattle.std.specs.Iterator.Adapters.{enumerate_source, enumerate_count}
+use Rattle.std.specs.declared.iter.Enumerate.{Enumerate}
+use Rattle.layout.specs.declared.listed.Rule.{Rule as Listed}
+use Rattle.layout.specs.declared.listed.Rules.{Rules}
+use Rattle.layout.specs.declared.strategies.Strategy.{Strategy}
+use Rattle.layout.specs.declared.strategies.Strategies.{Strategies}
 use Rattle.reader.specs.Book.{system_of, Accepted}
-use Rattle.layout.specs.index.Accepted.{SuffixAt, RulesAt}
-use Rattle.layout.specs.rules.Rules.{rule_end, rule_span}
-use Rattle.layout.specs.index.Index.{buckets, bucket, rule_starts, first_rules, next_rules, index_words, Emptied, Indexing, Indexed}
-use Rattle.layout.proofs.Books.{Turn, well, rule-count, first_rest, room, turn-of}
-use Rattle.layout.proofs.Sizes.{book-short}
-use Rattle.layout.proofs.Suffixes.{strategy-count, symbols-few, suffix-start, suffix-strategy, suffix-next}
-use Rattle.layout.proofs.index.Indexing.{strategy-noted, rule-noted, rule-linked, indexing-ends}
-
--- ---- the lists before number b are empty
-
-pub record Emptying (index : List ℕ) (end b : ℕ) : Type 0 where
-  pub slots : length index ≡ index_words
-  pub inside : b ≤ buckets
-  pub firsts : (i : ℕ) → i < b → get_or index (first_rules + i) 0 ≡ end
-
-module _ {index : List ℕ} {end : ℕ} where
-  pub emptying-starts : length index ≡ index_words → Emptying index end 0
-  emptying-starts slots = record { slots = slots; inside = omega arith; firsts = λ i h. absurd (omega arith) }
-
-  module _ {b : ℕ} (m : Emptying index end b) where
-    pub emptying-next : b < buckets → Emptying (set index (first_rules + b) end) end (b + 1)
-    emptying-next more = record {
-      slots = length-set index (first_rules + b) end ∙ m.slots;
-      inside = omega arith;
-      firsts = λ i h. elim (ℕ_discrete b i) [
-        | yes e ↦ rw (← e) (get_or-set_same index (first_rules + b) end 0 (let slots = m.slots in omega arith))
-        | no d ↦ get_or-set_other index (first_rules + b) (first_rules + i) end 0 (λ e. d (omega arith)) ∙ m.firsts i (omega arith)
-      ];
-    }
-
-    pub emptying-ends : buckets ≤ b → Emptied index end
-    emptying-ends h = record { slots = m.slots; firsts = λ c low. m.firsts c (omega arith) }
+use Rattle.layout.specs.rules.Rules.{RuleStands}
+use Rattle.layout.specs.listed.Listed.{rule_of}
+use Rattle.system.specs.System.{rule, head}
+use Rattle.layout.specs.index.Accepted.{StrategyAt, RulesAt}
+use Rattle.layout.specs.index.Index.{bucket, StrategiesNoted, RulesNoted, Linked}
+use Rattle.layout.proofs.Books.{well, rule-count}
+use Rattle.layout.proofs.listed.Turns.{At, Turned, at-start}
+use Rattle.layout.proofs.strategies.Turns as strategies
+use Rattle.layout.proofs.Suffixes.{strategy-count, symbols-few, suffix-strategy}
+use Rattle.layout.proofs.index.Indexing.{noted-more, rule-linked}
 
 module _ {b : List ℕ} {sh : Shape} (acc : Accepted b sh) where
   pub rules-few : sh.rules ≤ max_rules
   rules-few = let n = (well b sh acc).rule_bound in omega (arith, rule-count b sh acc)
 
--- ---- the strategies before that of symbol f are noted, which stands at `at`
+-- ---- the strategies before the one that comes next are noted
 
-pub record NotingStrategies (b : List ℕ) (sh : Shape) (index : List ℕ) (f at : ℕ) : Type 0 where
-  pub noted : Indexing b index f 0 sh.rules
-  pub inside : f ≤ sh.symbols
-  pub rest : SuffixAt b f at
+pub record NotingStrategies (b places : List ℕ) (s : Enumerate Strategies) : Type 0 where
+  pub noted : StrategiesNoted b (enumerate_count s) places
+  pub at : strategies.At b (enumerate_count s) (enumerate_source s)
 
-module _ {b : List ℕ} {sh : Shape} (acc : Accepted b sh) {index : List ℕ} where
-  pub strategies-start : Indexing b index 0 0 sh.rules → NotingStrategies b sh index 0 sh.strategies
-  strategies-start m = record { noted = m; inside = omega arith; rest = suffix-start b sh acc }
+module _ {b : List ℕ} {sh : Shape} (acc : Accepted b sh) {places : List ℕ} {s : Enumerate Strategies} where
+  pub strategies-start : length places ≡ max_symbols → enumerate_count s ≡ 0 → (enumerate_source s).left ≡ sh.symbols → (enumerate_source s).book.words.now ≡ b →
+      NotingStrategies b places s
+  strategies-start w z l e = record { noted = record { slots = w; stands = λ i h. absurd (omega arith) }; at = rw z (strategies.at-start acc l e) }
 
-  module _ {f at : ℕ} (m : NotingStrategies b sh index f at) where
-    -- the strategy lies in the book, and where it stands is a word
-    pub strategy-room : f < sh.symbols → (f < max_symbols) × (length index ≡ index_words) × (at + get_or b at 0 < length b) × (length b ≤ 65535)
-    strategy-room more = (omega (arith, symbols-few b sh acc), m.noted.slots, (suffix-strategy b sh acc f at more m.rest).fits, book-short b sh acc)
+  module _ (m : NotingStrategies b places s) where
+    -- there is a slot for the strategy
+    pub strategy-slot : {f : ℕ} {x : Strategy} {t : Strategies} → f ≡ enumerate_count s → strategies.Turned b (enumerate_count s) x t → f < length places
+    strategy-slot e d = let few = symbols-few b sh acc in let more = d.more in omega (arith, strategy-count b sh acc, m.noted.slots)
 
-    pub strategies-next : f < sh.symbols → {n : ℕ} → n ≡ get_or b at 0 → NotingStrategies b sh (set index f at) (f + 1) (at + 1 + n)
-    strategies-next more {n} e = record {
-      noted = strategy-noted m.noted (strategy-room more).0 (suffix-strategy b sh acc f at more m.rest);
-      inside = omega arith;
-      rest = suffix-next b sh acc f at n more m.rest e;
-    }
+    pub strategies-next : {f : ℕ} {x : Strategy} {t : Enumerate Strategies} → f ≡ enumerate_count s → enumerate_count t ≡ enumerate_count s + 1 →
+        strategies.Turned b (enumerate_count s) x (enumerate_source t) → NotingStrategies b (set places f x.at) t
+    strategies-next {f} {x} {t} e n d =
+        let k = enumerate_count s in
+        let here : StrategyAt b k x.at = suffix-strategy b sh acc k x.at (omega (arith, strategy-count b sh acc, d.more)) d.stands in
+        rw e (record {
+          noted = rw n (record {
+            slots = length-set places k x.at ∙ m.noted.slots;
+            stands = noted-more (StrategyAt b) places k x.at (strategy-slot refl d) m.noted.stands here;
+          });
+          at = rw n d.goes;
+        })
 
-    pub strategies-end : sh.symbols ≤ f → Indexing b index sh.symbols 0 sh.rules
-    strategies-end h = let e : f ≡ sh.symbols = (let i = m.inside in omega arith) in rw e at m.noted
+    pub strategies-end : enumerate_count s ≡ length (system_of b).strategies → StrategiesNoted b sh.symbols places
+    strategies-end e = rw (e, strategy-count b sh acc) at m.noted
 
--- ---- the rules before number k are noted, which stands at `at`
+-- ---- the rules before the one that comes next are noted
 
-pub record NotingRules (b : List ℕ) (sh : Shape) (index : List ℕ) (k at : ℕ) : Type 0 where
-  pub noted : Indexing b index sh.symbols k sh.rules
-  pub inside : k ≤ sh.rules
-  pub rest : RulesAt b k at
+pub record NotingRules (b places : List ℕ) (s : Enumerate Rules) : Type 0 where
+  pub noted : RulesNoted b (enumerate_count s) places
+  pub at : At b (enumerate_count s) (enumerate_source s)
 
-module _ {b : List ℕ} {sh : Shape} (acc : Accepted b sh) {index : List ℕ} where
-  pub rules-start : Indexing b index sh.symbols 0 sh.rules → NotingRules b sh index 0 sh.first_rule
-  rules-start m = record { noted = m; inside = omega arith; rest = first_rest b sh acc }
+module _ {b : List ℕ} {sh : Shape} (acc : Accepted b sh) {places : List ℕ} {s : Enumerate Rules} where
+  pub rules-start : length places ≡ max_rules → enumerate_count s ≡ 0 → (enumerate_source s).left ≡ sh.rules → (enumerate_source s).book.words.now ≡ b →
+      NotingRules b places s
+  rules-start w z l e = record { noted = record { slots = w; stands = λ i h. absurd (omega arith) }; at = rw z (at-start acc l e) }
 
-  module _ {k at : ℕ} (m : NotingRules b sh index k at) where
-    pub rule-room : k < sh.rules → (k < max_rules) × (length index ≡ index_words) × (rule_end b at ≤ length b) × (length b ≤ 65535)
-    rule-room more = (omega (arith, rules-few acc), m.noted.slots, room acc more m.rest, book-short b sh acc)
+  module _ (m : NotingRules b places s) where
+    -- there is a slot for the rule
+    pub rule-slot : {k : ℕ} {x : Listed} {t : Rules} → k ≡ enumerate_count s → Turned b (enumerate_count s) x t → k < length places
+    rule-slot e d = let few = rules-few acc in let more = d.more in omega (arith, rule-count b sh acc, m.noted.slots)
 
-    pub rules-next : k < sh.rules → {p : RuleSpan} → p ≡ rule_span b at → NotingRules b sh (set index (rule_starts + k) at) (k + 1) p.next
-    rules-next more e = record {
-      noted = rule-noted m.noted (rule-room more).0 m.rest;
-      inside = omega arith;
-      rest = (turn-of acc more m.rest e).here.rest;
-    }
+    pub rules-next : {k : ℕ} {x : Listed} {t : Enumerate Rules} → k ≡ enumerate_count s → enumerate_count t ≡ enumerate_count s + 1 →
+        Turned b (enumerate_count s) x (enumerate_source t) → NotingRules b (set places k x.at) t
+    rules-next {k} {x} {t} e n d =
+        let i = enumerate_count s in
+        rw e (record {
+          noted = rw n (record {
+            slots = length-set places i x.at ∙ m.noted.slots;
+            stands = noted-more (RulesAt b) places i x.at (rule-slot refl d) m.noted.stands d.stands;
+          });
+          at = rw n d.goes;
+        })
 
-    pub rules-end : sh.rules ≤ k → Indexing b index sh.symbols sh.rules sh.rules
-    rules-end h = let e : k ≡ sh.rules = (let i = m.inside in omega arith) in rw e at m.noted
+    pub rules-end : enumerate_count s ≡ length (system_of b).rules → RulesNoted b sh.rules places
+    rules-end e = rw (e, ← rule-count b sh acc) at m.noted
 
 -- ---- the rules from number k on are in the lists
 
-pub record Linking (b index : List ℕ) (k : ℕ) : Type 0 where
-  pub noted : Indexing b index (length (system_of b).strategies) (length (system_of b).rules) k
+pub record Linking (b firsts nexts : List ℕ) (k : ℕ) : Type 0 where
+  pub linked : Linked b k firsts nexts
   pub inside : k ≤ length (system_of b).rules
 
-module _ {b : List ℕ} {sh : Shape} (acc : Accepted b sh) {index : List ℕ} where
-  pub linking-starts : Indexing b index sh.symbols sh.rules sh.rules → Linking b index sh.rules
-  linking-starts m = record { noted = rw (strategy-count b sh acc, ← rule-count b sh acc) m; inside = omega (arith, rule-count b sh acc) }
+module _ {b : List ℕ} {sh : Shape} (acc : Accepted b sh) {starts : List ℕ} (noted : RulesNoted b sh.rules starts) {firsts nexts : List ℕ} {k : ℕ}
+    (m : Linking b firsts nexts k) where
+  pub link-few : k ≤ max_rules
+  link-few = let i = m.inside in let n = (well b sh acc).rule_bound in omega arith
 
-  module _ {k : ℕ} (m : Linking b index k) where
-    pub link-bounds : (k ≤ max_rules) × (length index ≡ index_words) × (length b ≤ 65535)
-    link-bounds = let i = m.inside in let n = (well b sh acc).rule_bound in (omega arith, m.noted.slots, book-short b sh acc)
+  module _ (some : 0 < k) where
+    -- the rule of this turn
+    more : k - 1 < sh.rules
+    more = let i = m.inside in omega (arith, rule-count b sh acc)
 
-    module _ (some : 0 < k) {x : ℕ} (is : x ≡ get_or index (rule_starts + (k - 1)) 0) where
-      -- the rule of this turn
-      turn : Turn b sh (k - 1) x (rule_span b x)
-      turn =
-          let i = m.inside in
-          turn-of acc (omega (arith, rule-count b sh acc)) (rw is (m.noted.rules (k - 1) (omega arith))) refl
+    stands : {x : ℕ} → x ≡ get_or starts (k - 1) 0 → RulesAt b (k - 1) x
+    stands is = rw is (noted.stands (k - 1) more)
 
-      -- its first word lies in the book
-      pub link-room : x + 1 < length b
-      unfolding rule_span
-      link-room = let h = turn.here in let s = h.some in let f = h.fits in omega (arith, h.width, h.next)
+    pub link-stands : {x : ℕ} → x ≡ get_or starts (k - 1) 0 → RuleStands b x
+    link-stands is = (k - 1, (let i = m.inside in omega arith), stands is)
 
-      pub linking-next : {w : ℕ} → w ≡ get_or b (x + 1) 0 →
-          Linking b (set (set index (next_rules + (k - 1)) (get_or index (first_rules + bucket w) 0)) (first_rules + bucket w) (k - 1)) (k - 1)
-      unfolding rule_span
-      linking-next {w} e =
-          let i = m.inside in
-          let h = turn.here in
-          record { noted = rule-linked m.noted (k - 1) (bucket w) (omega arith) link-bounds.0 turn.more (ap bucket (e ∙ h.head)); inside = omega arith }
-
-    pub linking-ends : k ≤ 0 → Indexed b sh index
-    linking-ends h =
-        let e : k ≡ 0 = omega arith in
-        indexing-ends acc (rw (e, strategy-count b sh acc, ← rule-count b sh acc) at m.noted)
+    pub linking-next : (r : Listed) {x w : ℕ} → x ≡ get_or starts (k - 1) 0 → ((i : ℕ) → i < sh.rules → RulesAt b i x → rule_of r ≡ rule (system_of b) i) →
+        w ≡ get_or r.lhs.now 0 0 → Linking b (set firsts (bucket w) (k - 1)) (set nexts (k - 1) (get_or firsts (bucket w) 0)) (k - 1)
+    linking-next r {x} {w} is sides e =
+        let i = m.inside in
+        let h : w ≡ head (rule (system_of b) (k - 1)).lhs = e ∙ ap (λ y. head y.lhs) (sides (k - 1) more (stands is)) in
+        record { linked = rule-linked m.linked (k - 1) (bucket w) (omega arith) link-few (omega arith) (ap bucket h); inside = omega arith }

@@ -1,8 +1,9 @@
 -- The index of a book: where each strategy and each rule stands, so that none is walked over; and for each first word of a term the rules whose left
 -- sides may start with it, so that the others are not looked at.
-use Rattle.std.specs.Prelude.{ℕ, suc, ◌+◌, ◌%◌, ◌≤◌, ◌<◌, ◌≡◌, Bool, cond, List, [], ◌∷◌, length, get_or, drop, eqb}
+use Rattle.std.specs.Prelude.{ℕ, suc, ◌+◌, ◌%◌, ◌≤◌, ◌<◌, ◌≡◌, Bool, cond, List, [], ◌∷◌, length, get_or, drop, eqb, Option, MatchOption}
 use Rattle.system.specs.Limits.{max_symbols, max_rules}
 use Rattle.reader.specs.declared.Shape.{Shape}
+use Rattle.layout.specs.declared.index.Places.{Places}
 use Rattle.system.specs.System.{System, Rule, rule, head}
 use Rattle.reader.specs.Book.{system_of}
 use Rattle.layout.specs.index.Accepted.{StrategyAt, RulesAt}
@@ -29,42 +30,30 @@ rule_from s k b = k + seek (λ w. eqb (bucket w) b) (drop k s.rules)
 abbrev pub rule_after : System → ℕ → ℕ
 rule_after s k = rule_from s (k + 1) (bucket (head (rule s k).lhs))
 
+-- the rule of a number below the number of rules; that number itself, which ends a list, is none
+abbrev pub RuleNumber : ℕ → ℕ → Option ℕ → Type 0
+RuleNumber rules n r = MatchOption r (n ≡ rules) (λ k. (k ≡ n) × (k < rules))
+
 -- ---- the words of an index: one for each symbol that a book may have, for each rule, for each bucket, and for each rule again
 
-abbrev pub rule_starts : ℕ
-rule_starts = max_symbols
+-- where the strategies of the first n symbols stand
+pub record StrategiesNoted (ws : List ℕ) (n : ℕ) (strategies : List ℕ) : Type 0 where
+  pub slots : length strategies ≡ max_symbols
+  pub stands : (f : ℕ) → f < n → StrategyAt ws f (get_or strategies f 0)
 
-abbrev pub first_rules : ℕ
-first_rules = rule_starts + max_rules
+-- where the first n rules stand
+pub record RulesNoted (ws : List ℕ) (n : ℕ) (rules : List ℕ) : Type 0 where
+  pub slots : length rules ≡ max_rules
+  pub stands : (k : ℕ) → k < n → RulesAt ws k (get_or rules k 0)
 
-abbrev pub next_rules : ℕ
-next_rules = first_rules + buckets
+-- of the rules from number j on the first of each bucket, and the one that follows each in its bucket. The number of rules ends a bucket's list
+pub record Linked (ws : List ℕ) (j : ℕ) (firsts nexts : List ℕ) : Type 0 where
+  pub first_slots : length firsts ≡ buckets
+  pub next_slots : length nexts ≡ max_rules
+  pub heads : (b : ℕ) → b < buckets → get_or firsts b 0 ≡ rule_from (system_of ws) j b
+  pub follows : (k : ℕ) → j ≤ k → k < length (system_of ws).rules → get_or nexts k 0 ≡ rule_after (system_of ws) k
 
-abbrev pub index_words : ℕ
-index_words = next_rules + max_rules
-
--- where the strategy of each symbol stands; where each rule stands; the first rule of each bucket; and the rule that follows each in its bucket.
--- The number of rules ends a bucket's list
-pub record Indexed (ws : List ℕ) (shape : Shape) (index : List ℕ) : Type 0 where
-  pub slots : length index ≡ index_words
-  pub strategies : (f : ℕ) → f < shape.symbols → StrategyAt ws f (get_or index f 0)
-  pub rules : (k : ℕ) → k < shape.rules → RulesAt ws k (get_or index (rule_starts + k) 0)
-  pub firsts : (b : ℕ) → b < buckets → get_or index (first_rules + b) 0 ≡ rule_from (system_of ws) 0 b
-  pub nexts : (k : ℕ) → k < shape.rules → get_or index (next_rules + k) 0 ≡ rule_after (system_of ws) k
-
--- ---- the index while it is made
-
--- every list is empty
-pub record Emptied (index : List ℕ) (n : ℕ) : Type 0 where
-  pub slots : length index ≡ index_words
-  pub firsts : (b : ℕ) → b < buckets → get_or index (first_rules + b) 0 ≡ n
-
--- the first f strategies and the first k rules are found, and the rules from number j on are in the lists
-pub record Indexing (ws index : List ℕ) (f k j : ℕ) : Type 0 where
-  pub slots : length index ≡ index_words
-  pub symbol_bound : f ≤ max_symbols
-  pub rule_bound : k ≤ max_rules
-  pub strategies : (i : ℕ) → i < f → StrategyAt ws i (get_or index i 0)
-  pub rules : (i : ℕ) → i < k → RulesAt ws i (get_or index (rule_starts + i) 0)
-  pub firsts : (b : ℕ) → b < buckets → get_or index (first_rules + b) 0 ≡ rule_from (system_of ws) j b
-  pub nexts : (i : ℕ) → j ≤ i → i < length (system_of ws).rules → get_or index (next_rules + i) 0 ≡ rule_after (system_of ws) i
+pub record Indexed (ws : List ℕ) (shape : Shape) (p : Places) : Type 0 where
+  pub strategies : StrategiesNoted ws shape.symbols p.strategies
+  pub rules : RulesNoted ws shape.rules p.rules
+  pub linked : Linked ws 0 p.firsts p.nexts

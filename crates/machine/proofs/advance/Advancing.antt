@@ -1,4 +1,4 @@
--- What the loop of `machine::advance` keeps, and each way on from a round of it, by the event.
+-- Each way on from a round of the loop of `machine::advance`, by the event.
 use Prim.Native.Nat.{ℕ, suc, ◌+◌, ◌-◌, ◌≤◌, ◌<◌}
 use native.Mathlib.Omega.{arith}
 use mathlib.Core.Path.{◌≡◌, refl, sym, ap, ◌∙◌, subst, subst₂}
@@ -6,13 +6,10 @@ use mathlib.Core.Bool.{true}
 use mathlib.Core.List.{List, [], ◌∷◌, ◌++◌}
 use lib.ListN.{length, get_or, take, drop, length-append}
 use lib.Seq.{take_all, take-suc, length-take-le, append_snoc}
-use Rattle.reader.specs.declared.Shape.{Shape}
 use Rattle.system.specs.System.{System}
-use Rattle.redexes.specs.declared.search.Redex.{Redex}
-use Rattle.matching.specs.rules.Searches.{unnumbered}
-use Rattle.reader.specs.Book.{system_of, Accepted}
+use Rattle.std.specs.Prelude.{None}
+use Rattle.reader.specs.Book.{system_of}
 use Rattle.redexes.specs.search.Redexes.{redex_of}
-use Rattle.machine.specs.declared.advance.State.{State}
 use Rattle.machine.specs.declared.advance.Event.{Event}
 use Rattle.machine.specs.declared.advance.Event.TheVariants.{End, Repeated, Rules, Argument}
 use Rattle.rewriting.specs.Machine.{strategy_at, position, advance}
@@ -22,70 +19,19 @@ use Rattle.rows.specs.Rows.{term_in}
 use Rattle.rows.specs.Measured.{Measured}
 use Rattle.system.specs.Signature.{signature_of}
 use Rattle.layout.proofs.Books.{signature}
-use Rattle.machine.specs.advance.Area.{outer_in, count_in, last_words, Stands, Valid, Tracks}
+use Rattle.machine.specs.advance.Area.{outer_in, count_in, Stands, Valid, Tracks}
 use Rattle.machine.specs.advance.Transition as to
-use Rattle.machine.specs.advance.Transition.{since_at, Transition, counts_after, Performed}
-use Rattle.machine.specs.advance.Arrivals.{comes}
+use Rattle.machine.specs.advance.Transition.{since_at, Transition, counts_after}
 use Rattle.rewriting.proofs.Laws.{entry_at}
 use Rattle.layout.proofs.entries.Asks.{stood}
 use Rattle.machine.proofs.advance.Skipping.{Skips, Skipped, skipped-start, skipped-again, skipped-more, skipped-open, skipped-left}
 use Rattle.machine.proofs.advance.Measure.{remaining, less-end, less-entry, less-argument}
 use Rattle.machine.proofs.advance.Advances.{advance-pop, advance-pass, advance-open}
-use Rattle.machine.proofs.advance.Areas.{held-outer, held-count, SamePositions, tracks-frame}
+use Rattle.machine.proofs.advance.Areas.{held-outer, held-count, tracks-frame}
 use Rattle.machine.proofs.advance.Bounds.{Bounds, bounds}
 use Rattle.machine.proofs.advance.Transitions.{Entered, entered_by}
 use Rattle.machine.proofs.advance.Trying.{tried-none}
-
--- the transitions that are left in the state in an area
-unfoldable pub remaining_in : System → List ℕ → Gap → ℕ → ℕ → ℕ
-remaining_in s ws gap base level = remaining s (term_in ws gap) 64 (outer_in ws level ++ count_in ws level ∷ []) base
-
--- a state, of the same term, from which the machine comes to the same place; and what is known of the entries that were followed
-pub record Advancing (s : System) (state : State) (base : ℕ) (ws₀ ws positions : List ℕ) (level floor since : ℕ) : Type 0 where
-  pub held : Tracks s ws positions state.gap base level
-  pub term : term_in ws state.gap ≡ term_in ws₀ state.gap
-  pub same : comes s (record { gap = state.gap; level = level }) base ws ≡ comes s state base ws₀
-  pub skipped : Skipped s (term_in ws state.gap) base (outer_in ws level) (count_in ws level) floor since
-  pub kept : last_words base ws ≡ last_words base ws₀
-
-pub advancing-start : (s : System) (state : State) (base : ℕ) (ws positions : List ℕ) (since : ℕ) → Tracks s ws positions state.gap base state.level →
-    since ≡ count_in ws state.level → Advancing s state base ws ws positions state.level state.level since
-advancing-start s state base ws positions since h q =
-    let level = state.level in
-    record {
-      held = h;
-      term = refl;
-      same = refl;
-      skipped = rw q (skipped-start s (term_in ws state.gap) base (outer_in ws level) (count_in ws level) level (sym h.represents.levels));
-      kept = refl;
-    }
-
--- a round of the loop: the book, the state at the loop's start, the state before the transition, and what the transition left
-pub record Round : Type 0 where
-  pub book : List ℕ
-  pub shape : Shape
-  pub accepted : Accepted book shape
-  pub state : State
-  pub base : ℕ
-  pub ws₀ : List ℕ
-  pub ws : List ℕ
-  pub positions : List ℕ
-  pub level : ℕ
-  pub floor : ℕ
-  pub since : ℕ
-  pub kept : Advancing (system_of book) state base ws₀ ws positions level floor since
-  pub event : Event
-  pub ws' : List ℕ
-  pub positions' : List ℕ
-  -- the frame then, whose bindings the rules that were tried may have changed
-  pub frame : List ℕ
-  pub framed : SamePositions positions' frame
-  pub performed : Performed (system_of book) (record { gap = state.gap; level = level; since = since_at floor since level }) base ws positions event ws' positions'
-
--- it goes on: the same is kept, with fewer transitions left
-pub record Goes (τ : Round) (level floor since : ℕ) : Type 0 where
-  pub on : Advancing (system_of τ.book) τ.state τ.base τ.ws₀ τ.ws' τ.frame level floor since
-  pub less : remaining_in (system_of τ.book) τ.ws' τ.state.gap τ.base level < remaining_in (system_of τ.book) τ.ws τ.state.gap τ.base τ.level
+use Rattle.machine.proofs.advance.Rounds.{remaining_in, Round, Goes}
 
 module _ (τ : Round) where
   abbrev s : System
@@ -138,9 +84,6 @@ module _ (τ : Round) where
 
   levels : length outer ≡ level
   levels = τ.kept.held.represents.levels
-
-  pub round-bounds : Bounds τ.ws τ.positions gap base level
-  round-bounds = bounds τ.book τ.shape τ.accepted τ.ws τ.positions gap base level τ.kept.held
 
   -- what the event tells
   pub told : (e : Event) → τ.event ≡ e → Entered s t base outer f c e
@@ -287,8 +230,8 @@ module _ (τ : Round) where
         λ j. drop (position s (et j) (eo j) base) (et j)
 
     -- none matches
-    pub goes-rules : (r : Redex) → r ≡ redex_of s (drop p (term_in ws' gap)) → r.number ≡ unnumbered → Goes τ level floor since
-    goes-rules r is q =
+    pub goes-rules : redex_of s (drop p (term_in ws' gap)) ≡ None → Goes τ level floor since
+    goes-rules is =
         let x = told Rules e in
-        let no = tried-none τ.book τ.shape τ.accepted ws' positions' gap base level tries-held r is q in
+        let no = tried-none τ.book τ.shape τ.accepted ws' positions' gap base level tries-held is in
         over-it x.0 tries-is tries-held (subst (Skips s t (63 - length outer) here) (sym x.1) (rw same-subterm at no))

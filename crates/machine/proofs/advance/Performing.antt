@@ -65,6 +65,28 @@ pub record Taking : Type 0 where
   pub e : Entry
   pub answers : e ≡ entry_of (strategy (system_of book) word) at.since k
 
+module _ {book : List ℕ} {shape : Shape} (acc : Accepted book shape) (at : Innermost) {ws positions : List ℕ} {base : ℕ}
+    (held : Tracks (system_of book) ws positions at.gap base at.level) {k : ℕ} (is : k ≡ count_in ws at.level)
+    {p word : ℕ} (start : p ≡ get_or positions at.level 0) (reads : word ≡ get_or (term_in ws at.gap) p 0)
+    {e : Entry} (answers : e ≡ entry_of (strategy (system_of book) word) at.since k) where
+  abbrev pub taking-of : Taking
+  taking-of = record {
+    book = book;
+    shape = shape;
+    accepted = acc;
+    at = at;
+    ws = ws;
+    positions = positions;
+    base = base;
+    held = held;
+    k = k;
+    is = is;
+    word = word;
+    reads = reads ∙ ap (λ y. get_or (term_in ws at.gap) y 0) start;
+    e = e;
+    answers = answers;
+  }
+
 module _ (τ : Taking) where
   abbrev b : List ℕ
   b = τ.book

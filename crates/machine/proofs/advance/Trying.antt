@@ -1,6 +1,6 @@
 -- Trying the rules at the innermost level: what the first rule that matches the subterm at its position tells.
 use Prim.Native.Nat.{ℕ}
-use mathlib.Core.Path.{◌≡◌, ap, ◌∙◌, subst}
+use mathlib.Core.Path.{◌≡◌, sym, ap, ◌∙◌, subst}
 use mathlib.Core.Option.{none, some}
 use mathlib.Core.List.{List}
 use lib.ListN.{get_or, drop}
@@ -10,7 +10,7 @@ use Rattle.reader.specs.Book.{system_of, Accepted}
 use Rattle.rows.specs.declared.gap.Gap.{Gap}
 use Rattle.rows.specs.Rows.{term_in}
 use Rattle.redexes.specs.declared.search.Redex.{Redex}
-use Rattle.matching.specs.rules.Searches.{unnumbered}
+use Rattle.std.specs.Prelude.{Some, None}
 use Rattle.matching.specs.Matching.{Contraction, contraction}
 use Rattle.matching.specs.Bindings.{match_of}
 use Rattle.redexes.specs.search.Redexes.{redex_of, Bound}
@@ -33,16 +33,16 @@ module _ (b : List ℕ) (sh : Shape) (acc : Accepted b sh) (ws positions : List 
   front : drop p (term_in ws gap) ≡ subterm
   front = ap (λ y. drop y (term_in ws gap)) (spot b sh acc ws positions gap base level v)
 
-  module _ (m : Redex) (is : m ≡ redex_of s (drop p (term_in ws gap))) where
-    pub tried-bound : (bs : List ℕ) → Bound (match_of s (drop p (term_in ws gap))) bs → Bound (match_of s subterm) bs
-    tried-bound bs h = subst (λ y. Bound (match_of s y) bs) front h
+  pub tried-bound : (bs : List ℕ) → Bound (match_of s (drop p (term_in ws gap))) bs → Bound (match_of s subterm) bs
+  tried-bound bs h = subst (λ y. Bound (match_of s y) bs) front h
 
-    pub tried-match : m ≡ redex_of s subterm
-    tried-match = is ∙ ap (redex_of s) front
+  pub tried-none : redex_of s (drop p (term_in ws gap)) ≡ None → contraction s subterm ≡ none
+  tried-none is = redex-none b sh acc subterm (sym (ap (redex_of s) front) ∙ is)
 
-    pub tried-none : m.number ≡ unnumbered → contraction s subterm ≡ none
-    tried-none q = redex-none b sh acc subterm m tried-match q
+  -- one matches, listed or built in
+  module _ {m : Redex} (is : redex_of s (drop p (term_in ws gap)) ≡ Some m) where
+    pub tried-match : redex_of s subterm ≡ Some m
+    tried-match = sym (ap (redex_of s) front) ∙ is
 
-    -- one matches, listed or built in
-    pub tried-some : (m.number ≡ unnumbered → ⊥) → (x : Contraction) × (contraction s subterm ≡ some x)
-    tried-some f = redex-some b sh acc subterm m tried-match f
+    pub tried-some : (x : Contraction) × (contraction s subterm ≡ some x)
+    tried-some = redex-some b sh acc subterm tried-match

@@ -1,22 +1,23 @@
 -- `first_match` meets its contract.
-use mathlib.Core.Path.{◌∙◌}
-use Rattle.layout.proofs.Accepting.{scan-accepted}
-use Rattle.matching.specs.Bindings.{no_bindings}
-use Rattle.matching.proofs.Sources.{scan-refuses, scan-matches}
+use mathlib.Core.Path.{sym, ap, ◌∙◌}
+use Rattle.reader.proofs.scan.Outcomes.{scan-refused, scan-words}
+use Rattle.matching.specs.Bindings.{no_bindings, match_in}
+use Rattle.matching.proofs.Sources.{match-refused, match-accepted}
 use Rattle.matching.proofs.Fits.{match-tells}
 use Rattle.matching.proofs.first_match.Goals as goal
 
-pub returns-then-s-ne-TAKEN : goal.returns-then-s-ne-TAKEN
+pub returns-in-Err : goal.returns-in-Err
 unfolding no_bindings
-returns-then-s-ne-TAKEN c = let x = c.scan_book-s in
-    let told = match-tells (scan-refuses _ x.result x.ensures c.if-s-ne-TAKEN.true _) in
+returns-in-Err c =
+    let s = c.scan_book in
+    let told = match-tells (sym (match-refused c.args.book.now (scan-refused s.result s.ensures c.in-Err.is) c.args.ws.now)) in
     record { matched = told.0; told = told.1 }
 
-pub first_rule-requires : goal.first_rule-requires
-first_rule-requires c = let x = c.scan_book-s in scan-accepted _ x.result x.ensures c.if-s-ne-TAKEN.false
-
-pub returns : goal.returns
-returns c =
-    let x = c.scan_book-s in
-    let told = match-tells (c.first_rule.ensures ∙ scan-matches _ x.result x.ensures c.if-s-ne-TAKEN.false _) in
+pub returns-in-Ok : goal.returns-in-Ok
+returns-in-Ok c =
+    let s = c.scan_book in
+    let b = c.in-Ok.b in
+    let ws = c.args.ws.now in
+    let is = sym (match-accepted b.words.now b.accepted.accepted ws) ∙ ap (λ w. match_in w ws) (scan-words s.result s.ensures c.in-Ok.is) in
+    let told = match-tells (c.first_rule.ensures ∙ is) in
     record { matched = told.0; told = told.1 }

@@ -7,19 +7,19 @@ use mathlib.Core.Path.{◌≡◌, refl, sym, ◌∙◌}
 use mathlib.Core.Option.{none, some}
 use mathlib.Core.List.{List}
 use lib.ListN.{length, drop}
+use Rattle.std.specs.Prelude.{Some}
 use Rattle.reader.specs.declared.Shape.{Shape}
-use Rattle.layout.specs.declared.rules.RuleSpan.{RuleSpan}
 use Rattle.system.specs.Limits.{variable}
 use Rattle.system.specs.System.{rule, head}
 use Rattle.system.specs.Signature.{signature_of}
 use Rattle.reader.specs.Book.{system_of, Accepted}
 use Rattle.layout.specs.index.Accepted.{RulesAt}
-use Rattle.layout.specs.rules.Rules.{rule_span}
+use Rattle.layout.specs.rules.Rules.{RuleSpan, rule_span}
 use Rattle.layout.specs.index.Index.{bucket, rule_from, rule_after}
 use Rattle.system.proofs.Signatures.{few-symbols}
 use Rattle.system.proofs.Forests.{forest-length}
 use Rattle.system.proofs.Rules.{listed-head}
-use Rattle.layout.proofs.Books.{well, rule-count, first_rest, turn-of, rule-unique}
+use Rattle.layout.proofs.Books.{Turn, well, rule-count, first_rest, turn-of, rule-unique}
 use Rattle.layout.proofs.index.Lists.{from-within, from_found, skips-first, skips-next}
 use Rattle.matching.specs.declared.FirstRule.TheVariants.{First}
 use Rattle.matching.specs.Bindings.{Bindings, no_bindings, consumed, bindings, no_match, match_from, match_listed}
@@ -101,21 +101,28 @@ module _ {b : List ℕ} {sh : Shape} (acc : Accepted b sh) (ws : List ℕ) where
       rw (← add-one k)
       (record { at = _; rest = t.here.rest; goes = sym (rules-next (signature_of b) (system_of b).rules k g.at ws t.more (u k (omega arith)) _ n) ∙ g.goes })
 
-  -- the list's end: no rule matches
-  pub along-ends : {k : ℕ} → Along b sh ws k → sh.rules ≤ k → match_listed (system_of b) ws ≡ no_match
-  along-ends {k} a h =
-      let g = unmatched-goes k a.inside a.unmatched in
+  -- none of them matches
+  pub unmatched-ends : {k : ℕ} → k ≤ sh.rules → sh.rules ≤ k → Unmatched b ws k → match_listed (system_of b) ws ≡ no_match
+  unmatched-ends {k} inside h u =
+      let g = unmatched-goes k inside u in
       sym g.goes ∙ rules-end (signature_of b) (system_of b).rules k g.at ws (omega (arith, rule-count b sh acc))
 
-  module _ {k at : ℕ} (a : Along b sh ws k) (more : k < sh.rules) (rest : RulesAt b k at) where
-    along-goes : match_from (signature_of b) (drop k (system_of b).rules) k at ws ≡ match_listed (system_of b) ws
-    along-goes =
-        let g = unmatched-goes k a.inside a.unmatched in
-        rw (rule-unique acc more rest g.rest) g.goes
+  -- rule k does, which stands at p: it is the first
+  pub unmatched-here : {k at : ℕ} {p : RuleSpan} → Turn b sh k at p → RulesAt b k at → Unmatched b ws k → (x : Bindings) →
+      bindings (signature_of b) ws (rule (system_of b) k).lhs 0 no_bindings ≡ some x →
+      record { rule = Some (First k p.rhs p.size); starts = x.starts; lengths = x.lengths } ≡ match_listed (system_of b) ws
+  unmatched-here {k} {at} {p} t rest u x m =
+      let more = t.inside in
+      let g = unmatched-goes k (omega arith) u in
+      let goes : match_from (signature_of b) (drop k (system_of b).rules) k at ws ≡ match_listed (system_of b) ws = rw (rule-unique acc more rest g.rest) g.goes in
+      rw (t.here.right, t.here.size) (sym (rules-here (signature_of b) (system_of b).rules k at ws t.more x m) ∙ goes)
 
-    -- rule k matches: it is the first
-    pub along-here : {p : RuleSpan} → p ≡ rule_span b at → (x : Bindings) → bindings (signature_of b) ws (rule (system_of b) k).lhs 0 no_bindings ≡ some x →
-        record { rule = First k p.rhs p.size; starts = x.starts; lengths = x.lengths } ≡ match_listed (system_of b) ws
-    along-here e x m =
-        let t = turn-of acc more rest e in
-        rw (t.here.right, t.here.size) (sym (rules-here (signature_of b) (system_of b).rules k at ws t.more x m) ∙ along-goes)
+  -- the list's end: no rule matches
+  pub along-ends : {k : ℕ} → Along b sh ws k → sh.rules ≤ k → match_listed (system_of b) ws ≡ no_match
+  along-ends a h = unmatched-ends a.inside h a.unmatched
+
+  -- rule k matches: it is the first
+  pub along-here : {k at : ℕ} → Along b sh ws k → k < sh.rules → RulesAt b k at → {p : RuleSpan} → p ≡ rule_span b at → (x : Bindings) →
+      bindings (signature_of b) ws (rule (system_of b) k).lhs 0 no_bindings ≡ some x →
+      record { rule = Some (First k p.rhs p.size); starts = x.starts; lengths = x.lengths } ≡ match_listed (system_of b) ws
+  along-here a more rest e x m = unmatched-here (turn-of acc more rest e) rest a.unmatched x m

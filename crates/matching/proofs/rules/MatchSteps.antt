@@ -9,8 +9,10 @@ use mathlib.Core.Option.{none, some}
 use mathlib.Core.List.{List, [], ◌∷◌}
 use lib.ListN.{length, get_or, take, drop, set, drop_of_length-le}
 use lib.Seq.{drop-cons}
-use lib.Dec.{leb, ltb}
+use lib.Dec.{eqb, leb, ltb}
+use mir.Val.{bool_byte}
 use borrow.Author.Tests.{lt-ltb, le-ltb, eq-eqb, ne_eqb, le-leb, lt-leb}
+use Rattle.std.specs.Prelude.{Some}
 use Rattle.system.specs.Limits.{variable, variables}
 use Rattle.system.specs.Signature.{Signature, span}
 use Rattle.system.specs.System.{Rule, no_rule}
@@ -22,6 +24,10 @@ use Rattle.matching.specs.rules.Searches.{Within}
 use Rattle.matching.proofs.Stretches.{none-length, within-set}
 
 -- ---- what a word takes
+
+as-byte : (b : Bool) → bool_byte b ≡ cond b 1 0
+as-byte true = refl
+as-byte false = refl
 
 module _ (g : Signature) (l : ℕ) (ws : List ℕ) where
   pub consumed-end : length ws ≡ 0 → consumed g l ws ≡ 0
@@ -56,6 +62,15 @@ module _ (g : Signature) (l : ℕ) (ws : List ℕ) where
         go : (ws : List ℕ) → 0 < length ws → l ≡ get_or ws 0 0 → consumed g l ws ≡ 1
         go [] e d = absurd (omega arith)
         go (w ∷ ws) e d = rw (lt-ltb l variable h, eq-eqb l w d)
+
+    -- a symbol, told by a byte
+    pub consumed-byte : l < variable → {w : ℕ} → w ≡ get_or ws 0 0 → bool_byte (eqb l w) ≡ consumed g l ws
+    unfolding consumed
+    consumed-byte h {w} is = go ws here is
+      where
+        go : (ws : List ℕ) → 0 < length ws → w ≡ get_or ws 0 0 → bool_byte (eqb l w) ≡ consumed g l ws
+        go [] e d = absurd (omega arith)
+        go (v ∷ ws) e d = rw (lt-ltb l variable h, d) (as-byte (eqb l v))
 
 -- never more than there are
 pub consumed-le : (g : Signature) (l : ℕ) (ws : List ℕ) → consumed g l ws ≤ length ws
@@ -188,7 +203,7 @@ module _ (g : Signature) where
   from-nil k at ws = refl
 
   pub from-here : (r : Rule) (rs : List Rule) (k at : ℕ) (ws : List ℕ) (a : Bindings) → bindings g ws r.lhs 0 no_bindings ≡ some a →
-      match_from g (r ∷ rs) k at ws ≡ record { rule = First k (at + 1 + length r.lhs + 1) (length r.rhs); starts = a.starts; lengths = a.lengths }
+      match_from g (r ∷ rs) k at ws ≡ record { rule = Some (First k (at + 1 + length r.lhs + 1) (length r.rhs)); starts = a.starts; lengths = a.lengths }
   unfolding match_from
   from-here r rs k at ws a e = rw (e, match_from)
 
@@ -210,5 +225,5 @@ module _ (g : Signature) where
 
       pub rules-here : (a : Bindings) → bindings g ws (get_or rules k no_rule).lhs 0 no_bindings ≡ some a →
           match_from g (drop k rules) k at ws ≡
-          record { rule = First k (at + 1 + length (get_or rules k no_rule).lhs + 1) (length (get_or rules k no_rule).rhs); starts = a.starts; lengths = a.lengths }
+          record { rule = Some (First k (at + 1 + length (get_or rules k no_rule).lhs + 1) (length (get_or rules k no_rule).rhs)); starts = a.starts; lengths = a.lengths }
       rules-here a e = rw (drop-cons rules k no_rule more) (from-here (get_or rules k no_rule) (drop (suc k) rules) k at ws a e)

@@ -1,125 +1,101 @@
 -- The strategy test: one rule, one entry, one symbol, in the terms of the loops.
 use Prim.Native.Nat.{ℕ, zero, suc, ◌+◌, ◌-◌, ◌≤◌, ◌<◌}
 use native.Mathlib.Omega.{arith}
-use native.Mathlib.Numerals.{add-one}
+use native.Mathlib.Decide.{ℕ_discrete}
 use mathlib.Core.Path.{◌≡◌, refl, sym, ap, ◌∙◌}
 use mathlib.Core.List.{List, [], ◌∷◌, ◌++◌}
-use mathlib.Core.Bool.{Bool, true, false, not, ◌&&◌, ◌||◌, or-true, cond}
 use mathlib.Core.Option.{none, some}
-use lib.ListN.{length, get_or, take, drop, drop_of_length-le, length-drop, get_or-eq_default}
-use lib.Seq.{drop-cons, take-suc, get_or-take, get_or-drop, length-take-le, take-length}
-use lib.Dec.{eqb, ltb}
-use borrow.Author.Tests.{eq-eqb, ne_eqb, lt-ltb, le-ltb, le-leb, lt-leb}
+use mathlib.Core.Bool.{Bool, true, false, not, ◌&&◌, ◌||◌, or-true, cond}
+use lib.ListN.{length, get_or, get_or-eq_default}
+use lib.Dec.{eqb}
+use Rattle.std.specs.List.{filter, list_all, list_any}
+use borrow.Author.Tests.{le-leb, lt-leb}
 use Rattle.reader.specs.declared.Shape.{Shape}
 use Rattle.system.specs.Limits.{variable}
 use Rattle.system.specs.Signature.{Signature, argument, span}
-use Rattle.system.specs.System.{System, Rule, no_rule, rule, head, strategy}
+use Rattle.system.specs.System.{System, Rule, head, strategy}
 use Rattle.system.specs.Terms.{occurs}
 use Rattle.system.specs.Signature.{signature_of}
-use Rattle.layout.specs.declared.rules.RuleSpan.{RuleSpan}
 use Rattle.reader.specs.Book.{system_of, Accepted}
-use Rattle.layout.specs.index.Accepted.{StrategyAt, SuffixAt}
-use Rattle.system.specs.FirstFailing.{first_failing}
-use Rattle.matching.specs.StrategyTest.{every, held_once, idle_test, idles, closes, constructs, passes, first_unsafe, safety_answer}
-use Rattle.system.proofs.words.SpanSteps.{tail}
-use Rattle.layout.proofs.Books.{Rest, Turn, rule-count, symbol-count, first_rest, signature}
-use Rattle.layout.proofs.Suffixes.{suffix-strategy, suffix-start, suffix-next}
-use Rattle.system.proofs.FirstFailing.{sought, sought-starts, sought-ends, sought-passes, sought-fails}
+use Rattle.matching.specs.StrategyTest.{every, held_once, idle_test, idles, closes, constructs, passes, first_unsafe}
+use Rattle.matching.specs.Safety.{argument_word}
+use Rattle.layout.specs.declared.strategies.Strategies.{Strategies}
+use Rattle.layout.proofs.Books.{well, signature}
+use Rattle.layout.proofs.strategies.Turns.{At, at-start}
+use Rattle.std.specs.Iterator.Adapters.{enumerate_source, enumerate_count}
+use Rattle.std.specs.declared.iter.Enumerate.{Enumerate}
+use Rattle.system.proofs.FirstFailing.{Lowest, all_none, lowest-some}
 
 -- ---- whether an argument is a variable that is held once
 
-module _ (g : Signature) (lhs : List ℕ) (i : ℕ) where
-  pub held_none : length lhs ≡ 0 → held_once g lhs i ≡ false
+pub held_none : (g : Signature) (lhs : List ℕ) (i : ℕ) → length lhs ≡ 0 → held_once g lhs i ≡ false
+unfolding held_once
+held_none g lhs i e = rw (get_or-eq_default lhs 0 {n = argument g lhs 0 i} (omega arith))
+
+-- the arguments stand behind the first word, and that one behind so many words
+module _ (g : Signature) (i : ℕ) {lhs : List ℕ} {f : ℕ} {ws : List ℕ} (is : lhs ≡ f ∷ ws) {n : ℕ} (far : n ≡ span g ws i) where
+  at_place : argument g lhs 0 i ≡ suc n
+  unfolding argument
+  at_place = rw is (omega arith)
+
+  word : argument_word g lhs i ≡ get_or ws n 0
+  word = rw (at_place, is) refl
+
+  pub held-past : length ws ≤ n → held_once g lhs i ≡ false
   unfolding held_once
-  held_none e = rw (get_or-eq_default lhs 0 {n = argument g lhs 0 i} (omega arith))
+  held-past h = rw (word, get_or-eq_default ws 0 {n = n} h)
 
-  module _ (n : ℕ) (is : n ≡ span g (take (length lhs - 1) (drop 1 lhs)) i) where
-    at_place : argument g lhs 0 i ≡ 1 + n
-    unfolding argument
-    at_place = rw is (rw (tail lhs 1))
-
-    pub held-past : length lhs ≤ 1 + n → held_once g lhs i ≡ false
+  module _ {w : ℕ} (here : w ≡ get_or ws n 0) where
+    pub held-symbol : w < variable → held_once g lhs i ≡ false
     unfolding held_once
-    held-past h = rw (at_place, get_or-eq_default lhs 0 {n = 1 + n} h)
+    held-symbol h = rw (word, ← here, lt-leb variable w h)
 
-    pub held-symbol : get_or lhs (1 + n) 0 < variable → held_once g lhs i ≡ false
+    pub held-variable : variable ≤ w → held_once g lhs i ≡ eqb (occurs w lhs) 1
     unfolding held_once
-    held-symbol h = rw (at_place, lt-leb variable (get_or lhs (1 + n) 0) h)
+    held-variable h = rw (word, ← here, le-leb variable w h)
 
-    pub held-variable : variable ≤ get_or lhs (1 + n) 0 → held_once g lhs i ≡ eqb (occurs (get_or lhs (1 + n) 0) lhs) 1
-    unfolding held_once
-    held-variable h = rw (at_place, le-leb variable (get_or lhs (1 + n) 0) h)
+-- how often a word stands, as it is counted
+pub occurs-count : (w : ℕ) (ws : List ℕ) → length (filter (λ v. eqb v w) ws) ≡ occurs w ws
+unfolding occurs
+occurs-count w [] = refl
+occurs-count w (v ∷ ws) =
+    let rest = occurs-count w ws in
+    let P : Bool → Type 0 = λ b. length (cond b (v ∷ filter (λ v. eqb v w) ws) (filter (λ v. eqb v w) ws)) ≡ cond b 1 0 + occurs w ws in
+    elim (eqb v w) as P [ true ↦ omega arith | false ↦ omega arith ]
 
--- ---- a test that every rule passes, rule by rule
+-- ---- a test that every rule passes
 
--- the rules before number k pass
-pub record Passed (b : List ℕ) (sh : Shape) (test : Rule → Bool) (k at : ℕ) : Type 0 where
-  pub inside : k ≤ sh.rules
-  pub rest : Rest b k at
-  pub goes : every test (drop k (system_of b).rules) ≡ every test (system_of b).rules
+abbrev pub starts : ℕ → Rule → Bool
+starts f r = eqb (head r.lhs) f
 
-module _ (test : Rule → Bool) where
-  every-nil : every test [] ≡ true
-  unfolding every
-  every-nil = refl
+-- those that start with f pass
+pub every-filter : (f : ℕ) (test : Rule → Bool) (rs : List Rule) → list_all test (filter (starts f) rs) ≡ every (λ r. not (starts f r) || test r) rs
+unfolding every
+every-filter f test [] = refl
+every-filter f test (r ∷ rs) =
+    let rest = every-filter f test rs in
+    let P : Bool → Type 0 = λ b. list_all test (cond b (r ∷ filter (starts f) rs) (filter (starts f) rs)) ≡ ((not b || test r) && every (λ r. not (starts f r) || test r) rs) in
+    elim (starts f r) as P [ true ↦ ap (λ z. test r && z) rest | false ↦ rest ]
 
-  every-cons : (r : Rule) (rs : List Rule) → test r ≡ true → every test (r ∷ rs) ≡ every test rs
-  unfolding every
-  every-cons r rs e = rw e
-
-  every-stop : (r : Rule) (rs : List Rule) → test r ≡ false → every test (r ∷ rs) ≡ false
-  unfolding every
-  every-stop r rs e = rw e
-
-  pub every-starts : {b : List ℕ} {sh : Shape} → Accepted b sh → Passed b sh test 0 sh.first_rule
-  every-starts {b} {sh} acc = record { inside = omega arith; rest = first_rest b sh acc; goes = refl }
-
-  pub every-ends : {b : List ℕ} {sh : Shape} {k at : ℕ} → Accepted b sh → Passed b sh test k at → sh.rules ≤ k → every test (system_of b).rules ≡ true
-  every-ends {b} {sh} {k} acc so h = sym so.goes ∙ rw (drop_of_length-le (system_of b).rules {i = k} (omega (arith, rule-count b sh acc))) every-nil
-
-  module _ {b : List ℕ} {sh : Shape} {k at : ℕ} {p : RuleSpan} (t : Turn b sh k at p) (so : Passed b sh test k at) where
-    pub every-fails : test (rule (system_of b) k) ≡ false → every test (system_of b).rules ≡ false
-    every-fails e = sym so.goes ∙ rw (drop-cons (system_of b).rules k no_rule t.more) (every-stop (rule (system_of b) k) (drop (suc k) (system_of b).rules) e)
-
-    pub every-goes : test (rule (system_of b) k) ≡ true → Passed b sh test (k + 1) p.next
-    every-goes e = record {
-      inside = (let l = t.inside in omega arith);
-      rest = t.here.rest;
-      goes = rw (add-one k)
-          (sym (every-cons (rule (system_of b) k) (drop (suc k) (system_of b).rules) e) ∙ ap (every test) (sym (drop-cons (system_of b).rules k no_rule t.more)) ∙ so.goes);
-    }
-
--- the two tests
-abbrev pub other_head : ℕ → Rule → Bool
-other_head f r = not (eqb (head r.lhs) f)
-
-abbrev pub idle_in : Signature → ℕ → ℕ → Rule → Bool
-idle_in g f i r = other_head f r || held_once g r.lhs i
-
-pub defined-every : (s : System) (f : ℕ) (t : Bool) → every (other_head f) s.rules ≡ t → not (constructs s f) ≡ not t
-unfolding constructs
-defined-every s f t e = ap not e
-
-pub idle-every : {b : List ℕ} {sh : Shape} → Accepted b sh → (f i : ℕ) → idle_test (system_of b) f i ≡ every (idle_in (signature_of b) f i) (system_of b).rules
+pub idle-all : {b : List ℕ} {sh : Shape} → Accepted b sh → (f i : ℕ) →
+    list_all (λ r. held_once (signature_of b) r.lhs i) (filter (starts f) (system_of b).rules) ≡ idle_test (system_of b) f i
 unfolding idle_test
-idle-every {b} {sh} acc f i = ap (λ g. every (idle_in g f i) (system_of b).rules) (signature b sh acc)
+idle-all {b} {sh} acc f i =
+    every-filter f (λ r. held_once (signature_of b) r.lhs i) (system_of b).rules
+    ∙ ap (λ g. every (λ r. not (starts f r) || held_once g r.lhs i) (system_of b).rules) (sym (signature b sh acc))
 
--- a rule by its first word
-module _ {b : List ℕ} {sh : Shape} {k at : ℕ} {p : RuleSpan} (t : Turn b sh k at p) (f : ℕ) {w : ℕ} (is : w ≡ get_or b p.lhs 0) where
-  pub head-other : (w ≡ f → ⊥) → other_head f (rule (system_of b) k) ≡ true
-  head-other d = rw (ne_eqb (head (rule (system_of b) k).lhs) f (λ e. d (is ∙ t.here.head ∙ e)))
+-- one starts with f
+every-any : (f : ℕ) (rs : List Rule) → list_any (starts f) rs ≡ not (every (λ r. not (starts f r)) rs)
+unfolding every
+every-any f [] = refl
+every-any f (r ∷ rs) =
+    let rest = every-any f rs in
+    let P : Bool → Type 0 = λ b. (b || list_any (starts f) rs) ≡ not (not b && every (λ r. not (starts f r)) rs) in
+    elim (starts f r) as P [ true ↦ refl | false ↦ rest ]
 
-  pub head-same : w ≡ f → other_head f (rule (system_of b) k) ≡ false
-  head-same e = rw (eq-eqb (head (rule (system_of b) k).lhs) f (sym t.here.head ∙ sym is ∙ e))
-
-  module _ (i : ℕ) where
-    pub idle-other : (w ≡ f → ⊥) → idle_in (signature_of b) f i (rule (system_of b) k) ≡ true
-    idle-other d = rw (head-other d)
-
-    -- by what was found of its argument
-    pub idle-same : w ≡ f → {x y : Bool} → x ≡ held_once (signature_of b) (take (p.lhs + p.width - p.lhs) (drop p.lhs b)) i → x ≡ y →
-        idle_in (signature_of b) f i (rule (system_of b) k) ≡ y
-    idle-same e v q = rw (head-same e) (ap (λ z. held_once (signature_of b) z i) (sym t.here.words) ∙ sym v ∙ q)
+pub defined-any : (s : System) (f : ℕ) → list_any (starts f) s.rules ≡ not (constructs s f)
+unfolding constructs
+defined-any s f = every-any f s.rules
 
 -- ---- a strategy, from its last entry on
 
@@ -159,55 +135,24 @@ module _ (test : ℕ → Bool) where
     snoc-busy t (zero ∷ es) = rw (snoc-busy t es, idles-busy t es)
     snoc-busy t (suc i ∷ es) = snoc-busy t es
 
--- the entries after number i (from 1) are idle arguments
-pub record Looked (b : List ℕ) (f at : ℕ) (test : ℕ → Bool) (i : ℕ) : Type 0 where
-  pub inside : i ≤ get_or b at 0
-  pub goes : closes test (take i (strategy (system_of b) f)) ≡ closes test (strategy (system_of b) f)
+-- the entries that are left to look at: none, or those before the last, which is e
+pub look-ends : (test : ℕ → Bool) {es : List ℕ} → es ≡ [] → closes test es ≡ false
+unfolding closes
+look-ends test e = rw e refl
 
-module _ {b : List ℕ} {f at : ℕ} (st : StrategyAt b f at) where
-  abbrev es : List ℕ
-  es = strategy (system_of b) f
+module _ (test : ℕ → Bool) (rest : List ℕ) {es : List ℕ} {e : ℕ} (is : es ≡ rest ++ e ∷ []) where
+  pub look-zero : e ≡ 0 → closes test es ≡ true
+  look-zero z = ap (closes test) (is ∙ ap (λ y. rest ++ y ∷ []) z) ∙ snoc-zero test rest
 
-  entry-count : length es ≡ get_or b at 0
-  entry-count =
-      ap length (sym st.entries) ∙ length-take-le (get_or b at 0) (drop (at + 1) b) (rw (length-drop (at + 1) b) (let h = st.fits in omega arith))
+  module _ (positive : e ≡ 0 → ⊥) where
+    last : es ≡ rest ++ suc (e - 1) ∷ []
+    last = let z : e ≡ suc (e - 1) = omega arith in is ∙ ap (λ y. rest ++ y ∷ []) z
 
-  module _ (test : ℕ → Bool) where
-    pub look-starts : {n : ℕ} → n ≡ get_or b at 0 → Looked b f at test n
-    look-starts e = record { inside = omega arith; goes = rw (e, ← entry-count, take-length es) }
+    pub look-busy : test (e - 1) ≡ false → closes test es ≡ false
+    look-busy t = ap (closes test) last ∙ snoc-busy test (e - 1) t rest
 
-    module _ {i : ℕ} (so : Looked b f at test i) where
-      pub look-ends : i ≤ 0 → closes test es ≡ false
-      unfolding closes
-      look-ends h = let z : i ≡ 0 = omega arith in sym so.goes ∙ rw z
-
-      module _ (more : 0 < i) {e : ℕ} (is : e ≡ get_or b (at + i) 0) where
-        entry : get_or es (i - 1) 0 ≡ e
-        entry =
-            let z : at + 1 + (i - 1) ≡ at + i = omega arith in
-            ap (λ y. get_or y (i - 1) 0) (sym st.entries) ∙ get_or-take (get_or b at 0) (drop (at + 1) b) (i - 1) 0 (let h = so.inside in omega arith)
-            ∙ get_or-drop (at + 1) b (i - 1) 0 ∙ ap (λ n. get_or b n 0) z ∙ sym is
-
-        last : take i es ≡ take (i - 1) es ++ e ∷ []
-        last =
-            let z : i ≡ suc (i - 1) = omega arith in
-            ap (λ n. take n es) z ∙ take-suc es (i - 1) 0 (let h = so.inside in omega (arith, entry-count)) ∙ ap (λ y. take (i - 1) es ++ y ∷ []) entry
-
-        pub look-zero : e ≡ 0 → closes test es ≡ true
-        look-zero z = sym so.goes ∙ ap (closes test) (last ∙ ap (λ y. take (i - 1) es ++ y ∷ []) z) ∙ snoc-zero test (take (i - 1) es)
-
-        module _ (positive : e ≡ 0 → ⊥) where
-          last-suc : take i es ≡ take (i - 1) es ++ suc (e - 1) ∷ []
-          last-suc = let z : e ≡ suc (e - 1) = omega arith in last ∙ ap (λ y. take (i - 1) es ++ y ∷ []) z
-
-          pub look-busy : test (e - 1) ≡ false → closes test es ≡ false
-          look-busy t = sym so.goes ∙ ap (closes test) last-suc ∙ snoc-busy test (e - 1) t (take (i - 1) es)
-
-          pub look-idle : test (e - 1) ≡ true → Looked b f at test (i - 1)
-          look-idle t = record {
-            inside = (let h = so.inside in omega arith);
-            goes = sym (snoc-idle test (e - 1) t (take (i - 1) es)) ∙ ap (closes test) (sym last-suc) ∙ so.goes;
-          }
+    pub look-idle : test (e - 1) ≡ true → closes test es ≡ closes test rest
+    look-idle t = ap (closes test) last ∙ snoc-idle test (e - 1) t rest
 
 -- ---- a symbol
 
@@ -231,51 +176,31 @@ module _ (s : System) (f : ℕ) {r : Bool} (is : r ≡ not (constructs s f)) whe
 
 -- ---- the symbols, one after the other
 
--- the strategies from that of f on stand from the index `at` on, and what fails first is found among the symbols from f on that are before
--- `first`, or is `first`
-pub record Through (b : List ℕ) (sh : Shape) (f at first : ℕ) : Type 0 where
-  pub inside : first ≤ sh.symbols
-  pub suffix : SuffixAt b f at
-  pub goes : sought (passes (system_of b)) sh.symbols f first ≡ first_unsafe (system_of b)
+-- the symbols before the one whose strategy comes next pass
+pub record Through (b : List ℕ) (s : Enumerate Strategies) : Type 0 where
+  pub at : At b (enumerate_count s) (enumerate_source s)
+  pub pass : (j : ℕ) → j < enumerate_count s → passes (system_of b) j ≡ true
 
 module _ {b : List ℕ} {sh : Shape} (acc : Accepted b sh) where
-  arity-count : length (system_of b).arities ≡ sh.symbols
-  arity-count = ap length (signature b sh acc) ∙ sym (symbol-count b sh acc)
+  arity-count : length (system_of b).arities ≡ length (system_of b).strategies
+  arity-count = let n = (well b sh acc).strategy_count in omega arith
 
-  pub test-starts : Through b sh 0 sh.strategies sh.symbols
-  test-starts = record {
-    inside = omega arith;
-    suffix = suffix-start b sh acc;
-    goes = sought-starts (passes (system_of b)) sh.symbols ∙ ap (first_failing (passes (system_of b)) 0) (sym arity-count);
-  }
+  pub test-starts : {s : Enumerate Strategies} → enumerate_count s ≡ 0 → (enumerate_source s).left ≡ sh.symbols → (enumerate_source s).book.words.now ≡ b → Through b s
+  test-starts z l e = record { at = rw z (at-start acc l e); pass = λ j h. absurd (omega arith) }
 
-  module _ {f at first : ℕ} (so : Through b sh f at first) where
-    ends : first ≤ f → {x : Bool} → ltb first sh.symbols ≡ x → cond x (some first) none ≡ first_unsafe (system_of b)
-    ends h e = rw (← e) (sym (sought-ends (passes (system_of b)) sh.symbols f first h)) ∙ so.goes
+  module _ {s : Enumerate Strategies} (so : Through b s) where
+    pub test-passes : enumerate_count s ≡ length (system_of b).strategies → first_unsafe (system_of b) ≡ none
+    test-passes e = all_none (passes (system_of b)) 0 (length (system_of b).arities) (λ j l h. so.pass j (omega (arith, arity-count)))
 
-    -- the search is over
-    pub test-fails : first ≤ f → first < sh.symbols → record { number = 14; place = first; steps = 0 } ≡ safety_answer (first_unsafe (system_of b))
-    test-fails h l = ap safety_answer (ends h (lt-ltb first sh.symbols l))
+    module _ {f : ℕ} (is : f ≡ enumerate_count s) {r : Bool} (told : r ≡ passes (system_of b) f) where
+      pub test-fails : enumerate_count s < length (system_of b).strategies → r ≡ false → first_unsafe (system_of b) ≡ some f
+      test-fails more q =
+          let low : Lowest (passes (system_of b)) 0 (length (system_of b).arities) f =
+          record { least = omega arith; inside = omega (arith, arity-count); fails = sym told ∙ q; lower = λ j l h. so.pass j (omega arith) } in
+          lowest-some (passes (system_of b)) 0 (length (system_of b).arities) low
 
-    pub test-passes : first ≤ f → sh.symbols ≤ first → record { number = 0; place = 0; steps = 0 } ≡ safety_answer (first_unsafe (system_of b))
-    test-passes h l = ap safety_answer (ends h (le-ltb first sh.symbols l))
-
-    module _ (more : f < sh.symbols) where
-      pub test-strategy : StrategyAt b f at
-      test-strategy = suffix-strategy b sh acc f at more so.suffix
-
-      -- the symbol f passes or fails, and the next one is looked at if it is before `first`
-      module _ {r : Bool} (is : r ≡ passes (system_of b) f) {n : ℕ} (size : n ≡ get_or b at 0) (seeking : f < first) where
-        pub goes-passing : r ≡ true → Through b sh (f + 1) (at + 1 + n) first
-        goes-passing e = record {
-          inside = so.inside;
-          suffix = suffix-next b sh acc f at n more so.suffix size;
-          goes = sought-passes (passes (system_of b)) sh.symbols f first seeking (sym is ∙ e) ∙ so.goes;
-        }
-
-        pub goes-failing : r ≡ false → Through b sh (f + 1) (at + 1 + n) f
-        goes-failing e = record {
-          inside = omega arith;
-          suffix = suffix-next b sh acc f at n more so.suffix size;
-          goes = sought-fails (passes (system_of b)) sh.symbols f first seeking so.inside (sym is ∙ e) ∙ so.goes;
-        }
+      pub test-goes : {t : Enumerate Strategies} → At b (enumerate_count s + 1) (enumerate_source t) → enumerate_count t ≡ enumerate_count s + 1 → r ≡ true → Through b t
+      test-goes at n q = record {
+        at = rw n at;
+        pass = λ j h. elim (ℕ_discrete j f) [ yes e ↦ rw e (sym told ∙ q) | no d ↦ so.pass j (omega arith) ];
+      }

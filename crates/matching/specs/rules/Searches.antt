@@ -1,11 +1,7 @@
--- What the layers above are told of a match: the rule's number, and how long its reduct is.
+-- What the layers above are told of a match: how long its reduct is.
 use Rattle.std.specs.Prelude.{ℕ, ◌+◌, ◌-◌, ◌≤◌, ◌<◌, ◌≡◌, List, [], ◌∷◌, cond, length, get_or, take, drop, ltb}
 use Rattle.system.specs.Limits.{side_words, variable, variables}
 use Rattle.matching.specs.Bindings.{Bindings}
-
--- told where no rule was found: the number of no rule, and no word
-abbrev pub unnumbered : ℕ
-unnumbered = 65536
 
 -- ---- the reduct
 

@@ -1,40 +1,43 @@
--- What the reader's functions hand on: the numbers of a parser's outcome.
-use Rattle.std.specs.Prelude.{ℕ, ◌+◌, ◌≤◌, ◌<◌, List, length, get_or}
+-- What the reader's functions hand on: a parser's outcome as a Result, with what the code needs of its value.
+use Rattle.std.specs.Prelude.{ℕ, ◌≡◌, ◌+◌, ◌≤◌, ◌<◌, List, length, get_or, Result, Ok, Err, Some, None}
+use Rattle.std.specs.declared.option.Option.{Option as Maybe}
 use Rattle.std.proofs.Math.Option.{Option, none, some}
-use Rattle.reader.specs.declared.scan.numbers.Section.{Section}
+use Rattle.reader.specs.declared.Refusal.{Refusal}
 use Rattle.reader.specs.declared.scan.sides.Side.{Side}
 use Rattle.reader.specs.declared.scan.sections.Sections.{Sections}
-use Rattle.reader.specs.declared.scan.Scan.{Scan}
 use Rattle.system.specs.System.{System}
 use Rattle.reader.specs.Format.{encode_strategies}
-use Rattle.system.specs.Numbers.{Fault, taken, number_of, fault_number}
 use Rattle.reader.specs.Parser.{Parsed, ok, fault, Reading}
-use Rattle.reader.specs.Answers.{answer_of, shape_of}
 
--- a section of a book: number 0 and the index after it, or the first fault
-abbrev pub section_of : {A : Type 0} → Parsed A → Section
-section_of (ok a i) = record { number = number_of taken; place = i }
-section_of (fault f i) = record { number = fault_number f; place = i }
+-- the fault and its place, or what becomes of the value and the index after it
+abbrev pub outcome : {A B : Type 0} → (A → ℕ → B) → Parsed A → Result B Refusal
+outcome f (ok a i) = Ok (f a i)
+outcome f (fault g i) = Err (record { fault = g; place = i })
 
--- a word stands at i, and lies between two numbers
-pub record Inside (ws : List ℕ) (i low high : ℕ) : Type 0 where
+-- a number: itself
+abbrev pub word_of : Parsed ℕ → Result ℕ Refusal
+word_of = outcome (λ w i. w)
+
+-- a section of a book: the index after it
+abbrev pub section_of : {A : Type 0} → Parsed A → Result ℕ Refusal
+section_of = outcome (λ a i. i)
+
+-- a side: the index after it, and how many variables are known there
+abbrev pub side_of : Parsed Reading → Result Side Refusal
+side_of = outcome (λ r i. record { end = i; known = r.known })
+
+-- the whole book: its end, and the index of the count of its rules
+abbrev pub sections_of : Parsed System → Result Sections Refusal
+sections_of = outcome (λ s i. record { rules = length s.arities + 2 + length (encode_strategies s.strategies); end = i })
+
+-- what is found, if something is
+abbrev pub found : {A : Type 0} → Option A → Maybe A
+found none = None
+found (some a) = Some a
+
+-- w stands at i, and lies between two numbers
+pub record Inside (ws : List ℕ) (i low high w : ℕ) : Type 0 where
   pub here : i < length ws
-  pub above : low ≤ get_or ws i 0
-  pub below : get_or ws i 0 ≤ high
-
-abbrev pub side_of : Parsed Reading → Side
-side_of (ok r i) = record { number = number_of taken; place = i; known = r.known }
-side_of (fault f i) = record { number = fault_number f; place = i; known = 0 }
-
--- the whole book, with the index of the count of its rules
-abbrev pub sections_of : Parsed System → Sections
-sections_of (ok s i) = record { number = number_of taken; place = i; rules = length s.arities + 2 + length (encode_strategies s.strategies) }
-sections_of (fault f i) = record { number = fault_number f; place = i; rules = 0 }
-
--- the book read once: the reader's answer and the shape
-abbrev pub scan_of : Parsed System → Scan
-scan_of o = record { answer = answer_of o; shape = shape_of o }
-
-abbrev pub number_or0 : Option Fault → ℕ
-number_or0 none = 0
-number_or0 (some f) = fault_number f
+  pub is : w ≡ get_or ws i 0
+  pub above : low ≤ w
+  pub below : w ≤ high

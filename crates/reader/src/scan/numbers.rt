@@ -1,60 +1,55 @@
 // Counts, lengths and entries: numbers of the book within their ranges.
-ghost use Rattle.std.specs.Prelude.{◌≡◌, ◌≤◌, ◌<◌, length};
+ghost use Rattle.std.specs.Prelude.{◌≡◌, ◌≤◌, ◌+◌, length, IfOk};
 ghost use Rattle.system.specs.Limits.{max_word};
-ghost use Rattle.system.specs.Numbers.{Fault, fault_number};
 ghost use Rattle.reader.specs.Parser.{times, number};
-ghost use Rattle.reader.specs.scan.Sections.{section_of, Inside};
+ghost use Rattle.reader.specs.scan.Sections.{word_of, section_of, Inside};
 
-use system::numbers::{MISSING, TAKEN};
+use crate::Refusal;
+use system::numbers::Fault;
 use system::words::wide;
 
-// A section of the book that was read: number 0 and the index after it, or the first fault.
-#[derive(Clone, Copy)]
-pub struct Section {
-    pub number: u32,
-    pub place: usize,
+// The number at `at`, which is to be from `low` to `high`; where it is not, what is wrong is `otherwise`.
+#[tactic(auto, unfolding(crate::specs::Parser::number, crate::specs::Parser::word, crate::specs::Parser::outside))]
+pub fn read_number(
+    book: &[u16],
+    at: usize,
+    low: usize,
+    high: usize,
+    otherwise: Fault,
+) -> Result<usize, Refusal>
+    ensures value { result ≡ word_of (number book.now otherwise low high at) }
+    ensures inside { IfOk result (λ n. Inside book.now at low high n) }
+{
+    let Some(w) = book.get(at) else {
+        return Err(Refusal {
+            fault: Fault::Missing,
+            place: at,
+        });
+    };
+    let n = wide(*w);
+    if !(low..=high).contains(&n) {
+        return Err(Refusal {
+            fault: otherwise,
+            place: at,
+        });
+    }
+    Ok(n)
 }
 
-// What is wrong with the word at `at`, a number from `low` to `high`: 0, 1, or `otherwise`.
-pub fn check(book: &[u16], at: usize, low: usize, high: usize, otherwise: u32) -> u32
-    requires { 0 < otherwise }
-    ensures value { (f : Fault) → fault_number f ≡ otherwise → result ≡ (section_of (number book.now f low high at)).number }
-    ensures inside { result ≡ 0 → Inside book.now at low high }
+// n numbers from 0 to `high`: the index after them.
+pub fn read_numbers(
+    book: &[u16],
+    at: usize,
+    n: usize,
+    high: usize,
+    otherwise: Fault,
+) -> Result<usize, Refusal>
+    requires { (at ≤ length book.now) × (n ≤ max_word) }
+    ensures value { result ≡ section_of (times n (number book.now otherwise 0 high) at) }
+    ensures within { IfOk result (λ i. (i ≡ at + n) × (i ≤ length book.now)) }
 {
-    if book.len() <= at {
-        return MISSING;
+    for i in at..at + n {
+        read_number(book, i, 0, high, otherwise)?;
     }
-    let w = wide(book[at]);
-    if w < low {
-        return otherwise;
-    }
-    if high < w {
-        return otherwise;
-    }
-    0
-}
-
-// n numbers from 0 to `high`.
-pub fn read_numbers(book: &[u16], at: usize, n: usize, high: usize, otherwise: u32) -> Section
-    requires { (at ≤ length book.now) × (n ≤ max_word) × (0 < otherwise) }
-    ensures value { (f : Fault) → fault_number f ≡ otherwise → result ≡ section_of (times n (number book.now f 0 high) at) }
-    ensures within { result.place ≤ length book.now }
-{
-    let mut i = at;
-    let mut left = n;
-    while 0 < left {
-        let f = check(book, i, 0, high, otherwise);
-        if f != TAKEN {
-            return Section {
-                number: f,
-                place: i,
-            };
-        }
-        i += 1;
-        left -= 1;
-    }
-    Section {
-        number: TAKEN,
-        place: i,
-    }
+    Ok(at + n)
 }

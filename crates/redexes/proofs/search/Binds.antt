@@ -12,7 +12,9 @@ use Rattle.system.specs.Signature.{Signature}
 use Rattle.matching.specs.Matching.{same_words}
 use Rattle.matching.specs.Bindings.{consumed, value, taken, with_binding}
 use Rattle.matching.specs.rules.Searches.{Within}
-use Rattle.redexes.specs.search.Redexes.{bound_in}
+use Rattle.std.specs.Prelude.{Some, None}
+use Rattle.redexes.specs.search.Redexes.{bound_in, some_words}
+use Rattle.redexes.proofs.search.SomeWords.{some_words-some, some-from_words, none-from_words}
 use Rattle.matching.proofs.SameWords.{same-lengths}
 use Rattle.matching.proofs.Stretches.{value-length}
 use Rattle.matching.proofs.rules.MatchSteps.{consumed-le, with_binding-symbol, with_binding-old, with_binding-new, taken-symbol, taken-new, taken-again, taken-unlike, taken_none}
@@ -59,28 +61,43 @@ symbol-bound bs {l} is low start n = sym (with_binding-symbol l (bound_in bs) st
 
 -- ---- the word against the words of the term t from q on, of the subterm that starts at p
 
-module _ (g : Signature) (t : List ℕ) (l : ℕ) {p q : ℕ} (onward : p ≤ q) (bs : List ℕ) {n : ℕ} (takes : n ≡ consumed g l (drop q t)) where
+module _ (g : Signature) (t : List ℕ) (l : ℕ) {p q : ℕ} (onward : p ≤ q) (bs : List ℕ) where
   abbrev ws : List ℕ
   ws = drop p t
 
   here : drop (q - p) ws ≡ drop q t
   here = let z : p + (q - p) ≡ q = omega arith in drop-drop (q - p) p t ∙ ap (λ i. drop i t) z
 
-  took : n ≡ consumed g l (drop (q - p) ws)
-  took = takes ∙ ap (consumed g l) (sym here)
+  pub nothing-takes : None ≡ some_words (consumed g l (drop q t)) → None ≡ some_words (taken g ws l (q - p) (bound_in bs))
+  nothing-takes e = ap some_words (sym (taken_none g ws l (q - p) (bound_in bs) (ap (consumed g l) here ∙ none-from_words e)))
 
-  pub nothing-takes : n ≡ 0 → 0 ≡ taken g ws l (q - p) (bound_in bs)
-  nothing-takes z = sym (taken_none g ws l (q - p) (bound_in bs) (sym took ∙ z))
+module _ (g : Signature) (t : List ℕ) (l : ℕ) {p q : ℕ} (onward : p ≤ q) (bs : List ℕ) {n : ℕ} (reads : Some n ≡ some_words (consumed g l (drop q t))) where
+  abbrev ws' : List ℕ
+  ws' = drop p t
 
-  pub takes-inside : (n ≡ 0 → ⊥) → q + n ≤ length t
-  takes-inside some = let m = consumed-le g l (drop q t) in let d = length-drop q t in omega arith
+  took : n ≡ consumed g l (drop (q - p) (drop p t))
+  took = (some-from_words reads).0 ∙ ap (consumed g l) (sym (here g t l onward bs))
 
-  pub symbol-takes : {w : ℕ} → w ≡ l → w < variable → n ≡ taken g ws l (q - p) (bound_in bs)
-  symbol-takes is low = took ∙ sym (taken-symbol g ws l (q - p) (bound_in bs) (omega arith))
+  pub takes-some : n ≡ 0 → ⊥
+  takes-some = (some-from_words reads).1
+
+  pub takes-inside : q + n ≤ length t
+  takes-inside =
+      let e = (some-from_words reads).0 in
+      let some = takes-some in
+      let m = consumed-le g l (drop q t) in
+      let d = length-drop q t in
+      omega arith
+
+  takes : {k : ℕ} → k ≡ n → Some n ≡ some_words k
+  takes e = some_words-some (sym e) takes-some
+
+  pub symbol-takes : {w : ℕ} → w ≡ l → w < variable → Some n ≡ some_words (taken g ws' l (q - p) (bound_in bs))
+  symbol-takes is low = takes (taken-symbol g ws' l (q - p) (bound_in bs) (omega arith) ∙ sym took)
 
   module _ {w : ℕ} (is : w ≡ l) (high : variable ≤ w) (few : w - variable < variables) where
-    pub new-takes : get_or bs (variables + (w - variable)) 0 ≡ 0 → n ≡ taken g ws l (q - p) (bound_in bs)
-    new-takes e = took ∙ sym (taken-new g ws l (q - p) (bound_in bs) (length-word bs is high few ∙ e))
+    pub new-takes : get_or bs (variables + (w - variable)) 0 ≡ 0 → Some n ≡ some_words (taken g ws' l (q - p) (bound_in bs))
+    new-takes e = takes (taken-new g ws' l (q - p) (bound_in bs) (length-word bs is high few ∙ e) ∙ sym took)
 
     -- a variable that has a stretch, of m words
     module _ {m : ℕ} (long : m ≡ get_or bs (variables + (w - variable)) 0) (old : m ≡ 0 → ⊥) where
@@ -88,28 +105,28 @@ module _ (g : Signature) (t : List ℕ) (l : ℕ) {p q : ℕ} (onward : p ≤ q)
       has = omega (arith, length-word bs is high few)
 
       -- of another length
-      pub length-differs : Within ws (bound_in bs).starts (bound_in bs).lengths → (m ≡ n → ⊥) → 0 ≡ taken g ws l (q - p) (bound_in bs)
+      pub length-differs : Within ws' (bound_in bs).starts (bound_in bs).lengths → (m ≡ n → ⊥) → None ≡ some_words (taken g ws' l (q - p) (bound_in bs))
       length-differs lies d =
-          let x = value-length ws (bound_in bs) lies (l - variable) in
-          let y = length-take-le (consumed g l (drop (q - p) ws)) (drop (q - p) ws) (consumed-le g l (drop (q - p) ws)) in
+          let x = value-length ws' (bound_in bs) lies (l - variable) in
+          let y = length-take-le (consumed g l (drop (q - p) ws')) (drop (q - p) ws') (consumed-le g l (drop (q - p) ws')) in
           let z = took in
-          sym (taken-unlike g ws l (q - p) (bound_in bs) (omega arith) has (same-lengths _ _ (λ e. d (omega (arith, length-word bs is high few)))))
+          ap some_words (sym (taken-unlike g ws' l (q - p) (bound_in bs) (omega arith) has (same-lengths _ _ (λ e. d (omega (arith, length-word bs is high few))))))
 
       -- of the same length: its words, from `start` on, are compared
       module _ (same : m ≡ n) {start : ℕ} (from : start ≡ get_or bs (w - variable) 0) {r : Bool} (e : r ≡ same_words (take n (drop (p + start) t)) (take n (drop q t))) where
-        its-words : value ws (bound_in bs) (l - variable) ≡ take n (drop (p + start) t)
+        its-words : value ws' (bound_in bs) (l - variable) ≡ take n (drop (p + start) t)
         unfolding value
         its-words =
             rw (start_word bs is high few, length-word bs is high few, ← long, ← from, drop-drop start p t) (ap (λ k. take k (drop (p + start) t)) same)
 
-        alike : same_words (value ws (bound_in bs) (l - variable)) (take (consumed g l (drop (q - p) ws)) (drop (q - p) ws)) ≡ r
+        alike : same_words (value ws' (bound_in bs) (l - variable)) (take (consumed g l (drop (q - p) ws')) (drop (q - p) ws')) ≡ r
         alike =
-            ap (λ x. same_words x (take (consumed g l (drop (q - p) ws)) (drop (q - p) ws))) its-words
-            ∙ ap (λ k. same_words (take n (drop (p + start) t)) (take k (drop (q - p) ws))) (sym took)
-            ∙ ap (λ y. same_words (take n (drop (p + start) t)) (take n y)) here ∙ sym e
+            ap (λ x. same_words x (take (consumed g l (drop (q - p) ws')) (drop (q - p) ws'))) its-words
+            ∙ ap (λ k. same_words (take n (drop (p + start) t)) (take k (drop (q - p) ws'))) (sym took)
+            ∙ ap (λ y. same_words (take n (drop (p + start) t)) (take n y)) (here g t l onward bs) ∙ sym e
 
-        pub words-differ : r ≡ false → 0 ≡ taken g ws l (q - p) (bound_in bs)
-        words-differ f = sym (taken-unlike g ws l (q - p) (bound_in bs) (omega arith) has (alike ∙ f))
+        pub words-differ : r ≡ false → None ≡ some_words (taken g ws' l (q - p) (bound_in bs))
+        words-differ f = ap some_words (sym (taken-unlike g ws' l (q - p) (bound_in bs) (omega arith) has (alike ∙ f)))
 
-        pub again-takes : r ≡ true → n ≡ taken g ws l (q - p) (bound_in bs)
-        again-takes f = took ∙ sym (taken-again g ws l (q - p) (bound_in bs) (omega arith) has (alike ∙ f))
+        pub again-takes : r ≡ true → Some n ≡ some_words (taken g ws' l (q - p) (bound_in bs))
+        again-takes f = takes (taken-again g ws' l (q - p) (bound_in bs) (omega arith) has (alike ∙ f) ∙ sym took)

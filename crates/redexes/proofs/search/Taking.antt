@@ -12,7 +12,11 @@ use Rattle.rows.specs.Rows.{term_in, lengths_in}
 use Rattle.rows.specs.gap.Gaps.{words_in}
 use Rattle.rows.specs.Measured.{Measured}
 use Rattle.rows.proofs.lengths.Measures.{words-length, measured-length}
+use Rattle.std.specs.Prelude.{Some, None}
+use Rattle.system.proofs.words.SpanSteps.{span-some}
 use Rattle.matching.specs.Bindings.{consumed}
+use Rattle.redexes.specs.search.Redexes.{some_words}
+use Rattle.redexes.proofs.search.SomeWords.{some_words-some}
 use Rattle.matching.proofs.rules.MatchSteps.{consumed-end, consumed-variable, consumed-differ, consumed-same}
 
 -- a word of the term, in the words from p on
@@ -23,21 +27,24 @@ module _ {g : Signature} {area : List ℕ} {gap : Gap} (m : Measured g area gap)
   abbrev here : List ℕ
   here = drop q (term_in area gap)
 
-  pub consumes-none : words_in gap ≤ q → 0 ≡ consumed g l (drop q (term_in area gap))
-  consumes-none h = sym (consumed-end g l here (let n = length-drop q (term_in area gap) in let k = words-length m.gapped in omega arith))
+  pub consumes-none : words_in gap ≤ q → None ≡ some_words (consumed g l (drop q (term_in area gap)))
+  consumes-none h = ap some_words (sym (consumed-end g l here (let n = length-drop q (term_in area gap) in let k = words-length m.gapped in omega arith)))
 
   module _ (inside : q < words_in gap) where
-    some_words : 0 < length here
-    some_words = let n = length-drop q (term_in area gap) in let k = words-length m.gapped in omega arith
+    some_here : 0 < length here
+    some_here = let n = length-drop q (term_in area gap) in let k = words-length m.gapped in omega arith
 
-    pub consumes-variable : {n : ℕ} → n ≡ get_or (lengths_in area gap) q 0 → variable ≤ l → n ≡ consumed g l (drop q (term_in area gap))
-    consumes-variable e h = e ∙ measured-length m q ∙ sym (consumed-variable g l here some_words h)
+    pub consumes-variable : {n : ℕ} → n ≡ get_or (lengths_in area gap) q 0 → variable ≤ l → Some n ≡ some_words (consumed g l (drop q (term_in area gap)))
+    consumes-variable e h =
+        let is = e ∙ measured-length m q in
+        let some = span-some g here some_here in
+        some_words-some (is ∙ sym (consumed-variable g l here some_here h)) (λ z. omega arith)
 
     first : {w : ℕ} → w ≡ get_or (term_in area gap) q 0 → w ≡ get_or here 0 0
     first e = word-from (term_in area gap) q 0 q (omega arith) e
 
-    pub consumes-differ : {w : ℕ} → w ≡ get_or (term_in area gap) q 0 → l < variable → (l ≡ w → ⊥) → 0 ≡ consumed g l (drop q (term_in area gap))
-    consumes-differ e low d = sym (consumed-differ g l here some_words low (λ z. d (z ∙ sym (first e))))
+    pub consumes-differ : {w : ℕ} → w ≡ get_or (term_in area gap) q 0 → l < variable → (l ≡ w → ⊥) → None ≡ some_words (consumed g l (drop q (term_in area gap)))
+    consumes-differ e low d = ap some_words (sym (consumed-differ g l here some_here low (λ z. d (z ∙ sym (first e)))))
 
-    pub consumes-same : {w : ℕ} → w ≡ get_or (term_in area gap) q 0 → l < variable → l ≡ w → 1 ≡ consumed g l (drop q (term_in area gap))
-    consumes-same e low z = sym (consumed-same g l here some_words low (z ∙ first e))
+    pub consumes-same : {w : ℕ} → w ≡ get_or (term_in area gap) q 0 → l < variable → l ≡ w → Some 1 ≡ some_words (consumed g l (drop q (term_in area gap)))
+    consumes-same e low z = ap some_words (sym (consumed-same g l here some_here low (z ∙ first e)))

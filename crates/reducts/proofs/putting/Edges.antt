@@ -6,7 +6,7 @@ use mathlib.Core.Bool.{Bool, true, false}
 use mathlib.Core.List.{List}
 use Rattle.system.specs.Signature.{Signature}
 use Rattle.rows.specs.declared.gap.Gap.{Gap}
-use Rattle.rows.specs.gap.Gaps.{words_in, even, Moved}
+use Rattle.rows.specs.gap.Gaps.{even, Moved}
 use Rattle.rows.specs.lengths.Written.{Written}
 use Rattle.matching.specs.rules.Searches.{reduct_length}
 use Rattle.sides.specs.sides.Sides.{Stretches}
@@ -21,10 +21,6 @@ use Rattle.reducts.proofs.putting.Puts.{moved-puttable, moved-size, moved-stands
 module _ {g : Signature} {side ws : List ℕ} {gap : Gap} {u : Subterm} {c : Stretches} (p : Puttable g side ws gap u c) where
   abbrev k : ℕ
   k = reduct_length c.lengths side
-
-  pub edge-within : (before : Bool) → edge u before ≤ words_in gap
-  edge-within true = let w = p.within in omega arith
-  edge-within false = p.within
 
   module _ {ws' : List ℕ} {gap' : Gap} where
     pub edge-long : (before : Bool) → (before ≡ true → k ≤ gap_size gap) → Moved ws gap (edge u before) gap' ws' → gap'.back < u.at + k →

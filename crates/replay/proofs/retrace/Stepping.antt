@@ -4,15 +4,15 @@ use native.Mathlib.Omega.{arith}
 use mathlib.Core.Path.{◌≡◌, refl, sym, ap, ◌∙◌, subst}
 use mathlib.Core.Option.{some}
 use mathlib.Core.List.{List}
+use Rattle.std.specs.Prelude.{Result, Some}
 use lib.ListN.{length, take, drop, length-drop}
-use Rattle.reader.specs.declared.Shape.{Shape}
+use Rattle.reader.specs.declared.book.Book.{Book}
 use Rattle.system.specs.Signature.{signature_of}
-use Rattle.reader.specs.Book.{system_of, Accepted}
+use Rattle.reader.specs.Book.{system_of}
 use Rattle.system.specs.Limits.{area_words, term_words}
 use Rattle.system.specs.Signature.{span, replace}
 use Rattle.system.specs.System.{System}
 use Rattle.system.specs.Terms.{Whole, WellFormed}
-use Rattle.layout.specs.index.Index.{Indexed}
 use Rattle.system.proofs.Places.{replace-length}
 use Rattle.layout.proofs.Books.{well, signature}
 use Rattle.system.proofs.words.SpanSteps.{span-le}
@@ -37,15 +37,15 @@ use Rattle.walks.specs.declared.walk.Finger.{Finger}
 use Rattle.walks.specs.walk.Way.{way_in, Points}
 use Rattle.walks.proofs.walk.Pointing.{points-words, points-bounds}
 use Rattle.replay.specs.declared.retrace.Pair.{Pair}
-use Rattle.replay.specs.declared.retrace.Followed.{Followed}
+use Rattle.replay.specs.declared.retrace.Halt.{Halt}
 use Rattle.replay.specs.retrace.Retraces.{Follows}
 
 -- at the root of a term that was laid in the rows
-pub points-start : (book : List ℕ) (shape : Shape) → Accepted book shape → (t ws : List ℕ) (gap : Gap) → Whole (system_of book).arities t →
-    Laid (signature_of book) t area_words ws gap → Points (system_of book) t ws (record { gap = gap; level = 0; at = 0 })
-points-start book shape accepted t ws gap h l = record {
+pub points-start : (book : Book) (t ws : List ℕ) (gap : Gap) → Whole (system_of book.words.now).arities t →
+    Laid (signature_of book.words.now) t area_words ws gap → Points (system_of book.words.now) t ws (record { gap = gap; level = 0; at = 0 })
+points-start book t ws gap h l = record {
   total = l.total;
-  measured = subst (λ g. Measured g ws gap) (sym (signature book shape accepted)) l.measured;
+  measured = subst (λ g. Measured g ws gap) (sym (signature book.words.now book.shape book.accepted)) l.measured;
   term = l.words;
   whole = h;
   levels = refl;
@@ -97,26 +97,23 @@ module _ (s : System) (wf : WellFormed s) {t ws : List ℕ} {f : Finger} (v : Po
           }
 
 -- what the rewrite at the finger asks, where a rule is found there
-module _ (book : List ℕ) (shape : Shape) (accepted : Accepted book shape) {t ws : List ℕ} {f : Finger} (v : Points (system_of book) t ws f) where
+module _ (book : Book) {t ws : List ℕ} {f : Finger} (v : Points (system_of book.words.now) t ws f) where
   abbrev s : System
-  s = system_of book
+  s = system_of book.words.now
 
-  pub points-reducible : (index : List ℕ) → Indexed book shape index → (width : ℕ) (m : Redex) (bs : List ℕ) (x : Contraction) →
-      width ≡ span s.arities (drop f.at t) 1 → m ≡ redex_of s (drop f.at t) → Bound (match_of s (drop f.at t)) bs → length bs ≡ binding_words →
-      contraction s (drop f.at t) ≡ some x → Reducible book index ws f.gap (record { level = f.level; at = f.at; width = width }) m bs
-  points-reducible index indexed width m bs x wide match bound many contracts =
-      let b = points-bounds s (well book shape accepted) v in
+  pub points-reducible : (width : ℕ) (m : Redex) (bs : List ℕ) (x : Contraction) →
+      width ≡ span s.arities (drop f.at t) 1 → redex_of s (drop f.at t) ≡ Some m → Bound (match_of s (drop f.at t)) bs → length bs ≡ binding_words →
+      contraction s (drop f.at t) ≡ some x → Reducible book.words.now ws f.gap (record { level = f.level; at = f.at; width = width }) m bs
+  points-reducible width m bs x wide match bound many contracts =
+      let b = points-bounds s (well book.words.now book.shape book.accepted) v in
       let e = sym v.term in
       record {
-        shape = shape;
-        accepted = accepted;
-        indexed = indexed;
         total = v.total;
         measured = v.measured;
         whole = subst (Whole s.arities) e v.whole;
-        inside = subst (λ y. f.at < length y) e (active-within s (well book shape accepted) v.whole (way-active v.way));
+        inside = subst (λ y. f.at < length y) e (active-within s (well book.words.now book.shape book.accepted) v.whole (way-active v.way));
         around = b.room;
-        match = match ∙ ap (λ y. redex_of s (drop f.at y)) e;
+        match = ap (λ y. redex_of s (drop f.at y)) (sym e) ∙ match;
         bound = subst (λ y. Bound (match_of s (drop f.at y)) bs) e bound;
         many = many;
         wide = wide ∙ ap (λ y. span s.arities (drop f.at y) 1) e;
@@ -125,5 +122,5 @@ module _ (book : List ℕ) (shape : Shape) (accepted : Accepted book shape) {t w
       }
 
   -- what was followed in the term as the area holds it
-  pub follows-in : {p : Pair} {r : Followed} {ws' : List ℕ} → Follows s (term_in ws f.gap) p r ws' → Follows s t p r ws'
-  follows-in {p} {r} {ws'} = subst (λ y. Follows s y p r ws') v.term
+  pub follows-in : {p : Pair} {r : Result Finger Halt} {ws' : List ℕ} → Follows s (term_in ws f.gap) p ws' r → Follows s t p ws' r
+  follows-in {p} {r} {ws'} = subst (λ y. Follows s y p ws' r) v.term

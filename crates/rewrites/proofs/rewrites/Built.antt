@@ -11,7 +11,8 @@ use Rattle.system.specs.Signature.{arity, replace}
 use Rattle.system.specs.System.{System, instance}
 use Rattle.system.specs.Terms.{Member, first, later}
 use Rattle.system.specs.Signature.{signature_of}
-use Rattle.reader.specs.Book.{system_of}
+use Rattle.reader.specs.declared.Shape.{Shape}
+use Rattle.reader.specs.Book.{system_of, Accepted}
 use Rattle.system.proofs.BuiltIns.{arity-none}
 use Rattle.system.proofs.Members.{member-nil}
 use Rattle.system.proofs.words.SpanSteps.{span-some}
@@ -19,7 +20,10 @@ use Rattle.system.proofs.Signatures.{arity-unlisted, few-listed}
 use Rattle.layout.proofs.Books.{signature}
 use Rattle.rows.specs.declared.gap.Gap.{Gap}
 use Rattle.rows.specs.Rows.{term_in}
+use Rattle.std.specs.Prelude.{Some}
 use Rattle.redexes.specs.declared.search.Redex.{Redex}
+use Rattle.redexes.specs.declared.search.Redex.TheVariants.{BuiltIn}
+use Rattle.redexes.proofs.search.Found.{redex-built}
 use Rattle.matching.specs.declared.FirstRule.TheVariants.{Computed}
 use Rattle.matching.specs.Matching.{Contraction}
 use Rattle.matching.proofs.Matched.{instance-nil, instance-symbol}
@@ -32,7 +36,7 @@ use Rattle.reducts.specs.putting.Replaced.{filling, Puttable, spliced, Placed, K
 use Rattle.rewrites.specs.rewrites.Rewritten.{Contracts, Reducible, rewritten, Rewrites, done, long}
 use Rattle.rewrites.proofs.rewrites.Redexes.{formed, inside, measured, words, small, ends, starts-many, lengths-many, found}
 
-module _ {book index ws : List ℕ} {gap : Gap} {u : Subterm} {m : Redex} {bs : List ℕ} (asked : Reducible book index ws gap u m bs) where
+module _ {book ws : List ℕ} {shape : Shape} {gap : Gap} {u : Subterm} {m : Redex} {bs : List ℕ} (acc : Accepted book shape) (asked : Reducible book ws gap u m bs) where
   abbrev s : System
   s = system_of book
 
@@ -47,14 +51,18 @@ module _ {book index ws : List ℕ} {gap : Gap} {u : Subterm} {m : Redex} {bs : 
   put-rewrites side width c is r ws' (fits l gap' q h) x e =
       let z = is x e in
       done (subst (λ y. length y ≤ term_words) z l) gap' q
-      (subst (λ y. Placed y ws t (rewritten s ws gap u x) u.at u.level gap' ws') (sym (signature book asked.shape asked.accepted))
+      (subst (λ y. Placed y ws t (rewritten s ws gap u x) u.at u.level gap' ws') (sym (signature book shape acc))
       (subst (λ y. Placed (signature_of book) ws t y u.at u.level gap' ws') z h))
   put-rewrites side width c is r ws' (exceeds l gap' q h) x e =
-      long (subst (λ y. term_words < length y) (is x e) l) gap' q (subst (λ y. Kept y ws t gap' ws') (sym (signature book asked.shape asked.accepted)) h)
+      long (subst (λ y. term_words < length y) (is x e) l) gap' q (subst (λ y. Kept y ws t gap' ws') (sym (signature book shape acc)) h)
 
-  module _ {k w : ℕ} (F : (found asked).rule ≡ Computed k w) where
+  -- the rule itself
+  pub built-rule : {k w : ℕ} → m ≡ BuiltIn k w → (found acc asked).rule ≡ Some (Computed k w)
+  built-rule is = redex-built book shape acc (drop u.at t) (asked.match ∙ ap Some is)
+
+  module _ {k w : ℕ} (F : (found acc asked).rule ≡ Some (Computed k w)) where
     is-level : (literal ≤ w) × (w < literal + literals)
-    is-level = match-literal book asked.shape asked.accepted (drop u.at t) (found asked) refl F
+    is-level = match-literal book shape acc (drop u.at t) (found acc asked) refl F
 
     pub word-symbol : w < variable
     word-symbol = let h = is-level in omega arith
@@ -62,11 +70,11 @@ module _ {book index ws : List ℕ} {gap : Gap} {u : Subterm} {m : Redex} {bs : 
     pub word-arity : arity (signature_of book) w ≡ 0
     word-arity =
         let h = is-level in
-        let n = ap length (signature book asked.shape asked.accepted) in
-        arity-unlisted (signature_of book) w (omega (arith, few-listed s (formed asked))) ∙ arity-none w (inl (omega arith))
+        let n = ap length (signature book shape acc) in
+        arity-unlisted (signature_of book) w (omega (arith, few-listed s (formed acc asked))) ∙ arity-none w (inl (omega arith))
 
     pub word_wide : 0 < u.width
-    word_wide = let z = span-some s.arities (drop u.at t) (omega (arith, length-drop u.at t, inside asked)) in omega (arith, asked.wide)
+    word_wide = let z = span-some s.arities (drop u.at t) (omega (arith, length-drop u.at t, inside acc asked)) in omega (arith, asked.wide)
 
     sided : Sided (w ∷ [])
     sided = record { small = omega arith; known = one }
@@ -85,12 +93,12 @@ module _ {book index ws : List ℕ} {gap : Gap} {u : Subterm} {m : Redex} {bs : 
     pub word-puttable : Puttable (signature_of book) (w ∷ []) ws gap u (stretches_in bs)
     word-puttable = record {
       total = asked.total;
-      measured = measured asked;
-      within = omega (arith, ends asked, words asked);
-      around = omega (arith, ends asked, words asked, small asked, asked.around);
+      measured = measured acc asked;
+      within = omega (arith, ends acc asked, words acc asked);
+      around = omega (arith, ends acc asked, words acc asked, small acc asked, asked.around);
       sided = sided;
-      starts = starts-many asked;
-      lengths = lengths-many asked;
+      starts = starts-many acc asked;
+      lengths = lengths-many acc asked;
       filled = λ v h. absurd (no-variable v h);
     }
 
@@ -99,7 +107,7 @@ module _ {book index ws : List ℕ} {gap : Gap} {u : Subterm} {m : Redex} {bs : 
     word-rewritten x c =
         let σ = filling t u (stretches_in bs) in
         let e : instance σ (w ∷ []) ≡ w ∷ [] = instance-symbol σ w [] word-symbol ∙ ap (λ r. w ∷ r) (instance-nil σ) in
-        let y = match-word book asked.shape asked.accepted (drop u.at t) (found asked) refl F in
+        let y = match-word book shape acc (drop u.at t) (found acc asked) refl F in
         let z : record { number = k; reduct = w ∷ [] } ≡ x = cc y in
         append_assoc (take u.at t) (instance σ (w ∷ [])) (drop (u.at + u.width) t)
         ∙ ap (λ y. take u.at t ++ (y ++ drop (u.at + u.width) t)) (e ∙ ap (λ y. y.reduct) z)

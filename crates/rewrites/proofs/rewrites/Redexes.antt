@@ -5,12 +5,14 @@ use mathlib.Core.Path.{◌≡◌, refl, sym, ap, ◌∙◌, subst}
 use mathlib.Core.List.{List, ◌++◌}
 use lib.ListN.{length, get_or, take, drop, length-append, length-drop}
 use lib.Seq.{drop-drop, drop_at, take_at, length-take-le}
+use Rattle.std.specs.Prelude.{Some}
 use Rattle.system.specs.Signature.{Signature, Symbol, span}
 use Rattle.system.specs.Limits.{term_words, variables}
 use Rattle.system.specs.Signature.{signature_of}
 use Rattle.system.specs.System.{System}
 use Rattle.system.specs.Terms.{WellFormed}
-use Rattle.reader.specs.Book.{system_of}
+use Rattle.reader.specs.declared.Shape.{Shape}
+use Rattle.reader.specs.Book.{system_of, Accepted}
 use Rattle.system.proofs.Forests.{span-forest}
 use Rattle.layout.proofs.Books.{well, signature}
 use Rattle.rows.proofs.lengths.Measures.{words-length}
@@ -21,17 +23,15 @@ use Rattle.rows.specs.Measured.{Measured}
 use Rattle.matching.specs.declared.Match.{Match}
 use Rattle.redexes.specs.declared.search.Redex.{Redex}
 use Rattle.matching.specs.declared.FirstRule.TheVariants.{First}
-use Rattle.matching.specs.rules.Searches.{unnumbered}
 use Rattle.matching.specs.Bindings.{match_of, value, bindings_of}
 use Rattle.matching.proofs.Reducts.{match-within}
-use Rattle.redexes.proofs.search.Found.{redex-none}
 use Rattle.reducts.specs.declared.putting.Subterm.{Subterm}
 use Rattle.sides.specs.sides.Sides.{stretches_in}
 use Rattle.reducts.specs.putting.Replaced.{filling}
 use Rattle.rewriting.proofs.Actives.{At, at_parted, whole-at}
 use Rattle.rewrites.specs.rewrites.Rewritten.{Reducible}
 
-module _ {book index ws : List ℕ} {gap : Gap} {u : Subterm} {m : Redex} {bs : List ℕ} (asked : Reducible book index ws gap u m bs) where
+module _ {book ws : List ℕ} {shape : Shape} {gap : Gap} {u : Subterm} {m : Redex} {bs : List ℕ} (acc : Accepted book shape) (asked : Reducible book ws gap u m bs) where
   abbrev s : System
   s = system_of book
 
@@ -45,10 +45,10 @@ module _ {book index ws : List ℕ} {gap : Gap} {u : Subterm} {m : Redex} {bs : 
   p = u.at
 
   pub formed : WellFormed s
-  formed = well book asked.shape asked.accepted
+  formed = well book shape acc
 
   pub measured : Measured (signature_of book) ws gap
-  measured = subst (λ y. Measured y ws gap) (signature book asked.shape asked.accepted) asked.measured
+  measured = subst (λ y. Measured y ws gap) (signature book shape acc) asked.measured
 
   -- the whole subterm at p
   pub redex-here : At s (λ _. Unit {0}) t p
@@ -91,12 +91,6 @@ module _ {book index ws : List ℕ} {gap : Gap} {u : Subterm} {m : Redex} {bs : 
   pub found_here : found ≡ match_of s (redex-here.here ++ redex-here.behind)
   found_here = ap (match_of s) redex-parted
 
-  pub some-found : m.number ≡ unnumbered → ⊥
-  some-found f =
-      let e = redex-none book asked.shape asked.accepted (drop p t) m asked.match f in
-      let z : ◌≡◌ {A = ℕ} 0 1 = cc asked.contracts in
-      omega arith
-
   pub starts-many : length (stretches_in bs).starts ≡ variables
   starts-many = length-take-le variables bs (omega (arith, asked.many))
 
@@ -105,9 +99,9 @@ module _ {book index ws : List ℕ} {gap : Gap} {u : Subterm} {m : Redex} {bs : 
 
   -- ---- the bindings of a listed rule
 
-  module _ {k rhs size : ℕ} (f : found.rule ≡ First k rhs size) where
+  module _ {k rhs size : ℕ} (f : found.rule ≡ Some (First k rhs size)) where
     starts-size : length found.starts ≡ variables
-    starts-size = (match-within book asked.shape asked.accepted (drop p t) found refl).size-starts
+    starts-size = (match-within book shape acc (drop p t) found refl).size-starts
 
     pub starts-are : (stretches_in bs).starts ≡ found.starts
     starts-are = ap (take variables) (asked.bound k rhs size f) ∙ take_at found.starts found.lengths variables starts-size

@@ -1,12 +1,10 @@
 -- What a rewrite in an area does: "the right side, so filled, replaces the part".
-use Rattle.std.specs.Prelude.{ℕ, ◌≤◌, ◌<◌, ◌≡◌, List, length, drop}
+use Rattle.std.specs.Prelude.{ℕ, ◌≤◌, ◌<◌, ◌≡◌, List, length, drop, Some}
 use Rattle.std.proofs.Math.Option.{some}
-use Rattle.reader.specs.declared.Shape.{Shape}
 use Rattle.system.specs.Signature.{span, replace}
 use Rattle.system.specs.System.{System}
 use Rattle.system.specs.Terms.{Whole}
-use Rattle.layout.specs.index.Index.{Indexed}
-use Rattle.reader.specs.Book.{system_of, Accepted}
+use Rattle.reader.specs.Book.{system_of}
 use Rattle.rows.specs.declared.gap.Gap.{Gap}
 use Rattle.rows.specs.Rows.{term_in}
 use Rattle.rows.specs.Measured.{Measured}
@@ -30,16 +28,13 @@ Contracts book ws gap u x = contraction (system_of book) (drop u.at (term_in ws 
 
 -- the rows hold a whole term with true lengths; u is a subterm of it, with no more levels around it than words before it,
 -- m the match that was found there, and bs its bindings. What the third row holds does not matter
-pub record Reducible (book index ws : List ℕ) (gap : Gap) (u : Subterm) (m : Redex) (bs : List ℕ) : Type 0 where
-  pub shape : Shape
-  pub accepted : Accepted book shape
-  pub indexed : Indexed book shape index
+pub record Reducible (book ws : List ℕ) (gap : Gap) (u : Subterm) (m : Redex) (bs : List ℕ) : Type 0 where
   pub total : length ws ≡ area_words
   pub measured : Measured (system_of book).arities ws gap
   pub whole : Whole (system_of book).arities (term_in ws gap)
   pub inside : u.at < length (term_in ws gap)
   pub around : u.level ≤ u.at
-  pub match : m ≡ redex_of (system_of book) (drop u.at (term_in ws gap))
+  pub match : redex_of (system_of book) (drop u.at (term_in ws gap)) ≡ Some m
   pub bound : Bound (match_of (system_of book) (drop u.at (term_in ws gap))) bs
   pub many : length bs ≡ binding_words
   pub wide : u.width ≡ span (system_of book).arities (drop u.at (term_in ws gap)) 1

@@ -3,9 +3,9 @@ use Prim.Native.Nat.{ℕ, suc, ◌+◌, ◌-◌, ◌≤◌}
 use native.Mathlib.Nat.{add-zero}
 use native.Mathlib.Omega.{arith}
 use mathlib.Core.Path.{◌≡◌, refl, sym, ap, ◌∙◌, subst}
-use mathlib.Core.List.{List, [], ◌∷◌, ◌++◌, append_assoc, append-nil}
+use mathlib.Core.List.{List, [], ◌∷◌, ◌++◌, append_assoc}
 use lib.ListN.{length, take, drop, set, length-append, length-drop, drop_of_length-le}
-use lib.Seq.{length-sets, sets-eq, drop_at, drop-drop, take-take, take-append-le, drop-append-le, take-append_seam, length-take-le}
+use lib.Seq.{length-sets, sets-eq, drop_at, drop-drop, take-take, take-append-le, drop-append-le, length-take-le}
 use Rattle.buffers.specs.Words.{over}
 use Rattle.buffers.specs.moves.Parts.{part}
 use Rattle.buffers.proofs.Over.{length_part, part-above, take-over, drop-over}
@@ -18,7 +18,7 @@ use Rattle.rows.specs.gap.Gaps.{behind, even}
 use Rattle.system.specs.Spans.{spans}
 use Rattle.rows.specs.Measured.{Measured}
 use Rattle.rows.specs.lengths.Later.{Onward}
-use Rattle.rows.specs.lengths.Written.{Written, Copyable, Laid}
+use Rattle.rows.specs.lengths.Written.{Written, Copyable}
 use Rattle.system.proofs.Spans.{spans-word, spans-append}
 use Rattle.rows.proofs.gap.Rows.{take-over-lt, drop-over-add, word-row-length, length-row-length}
 use Rattle.rows.proofs.gap.Closed.{closed-row-length}
@@ -230,11 +230,8 @@ module _ (ws : List ℕ) (room : counts_at ≤ length ws) where
   row-end : (row : List ℕ) → length row ≡ term_words → drop term_words (closed (even term_words) row) ≡ []
   row-end row long = ap (drop term_words) (row-even term_words row) ∙ drop_of_length-le row {i = term_words} (omega arith)
 
-  even-end : drop term_words (term_in ws (even term_words)) ≡ []
+  pub even-end : drop term_words (term_in ws (even term_words)) ≡ []
   even-end = row-end (word_row ws) (word-row-length ws room)
-
-  pub term-end : term_in ws (behind term_words) ≡ []
-  term-end = row-behind term_words (word_row ws) ∙ ap (drop term_words) (sym (row-even term_words (word_row ws))) ∙ even-end
 
   pub onward-end : {g : Signature} → Onward g ws (even term_words) term_words
   unfolding spans
@@ -244,26 +241,4 @@ module _ (ws : List ℕ) (room : counts_at ≤ length ws) where
       lengths = row-end (length_row ws) (length-row-length ws room) ∙ ap (spans g) (sym even-end);
     };
     before = omega arith;
-  }
-
--- written from the third row
-module _ (ws t : List ℕ) {first : List ℕ} (short : length t ≤ term_words) (room : counts_at + term_words ≤ length ws) (e : first ≡ over ws counts_at t) where
-  first-long : length first ≡ length ws
-  first-long = ap length e ∙ length-sets ws counts_at t
-
-  pub lay-fits : counts_at + length t ≤ length first
-  lay-fits = let z = first-long in omega arith
-
-  third : part counts_at (length t) first ≡ t
-  third =
-      ap (part counts_at (length t)) e ∙ ap (take (length t)) (over-behind ws counts_at t (omega arith))
-      ∙ take-append_seam t (drop (counts_at + length t) ws)
-
-  pub written-laid : {g : Signature} {second : List ℕ} {b : ℕ} → Written g first (even term_words) term_words second b (part counts_at (length t) first) →
-      Laid g t (length ws) second (behind b)
-  written-laid v = record {
-    measured = onward-behind v.onward;
-    words = onward-term v.onward ∙ v.words ∙ (λ i. third i ++ even-end first (let z = first-long in omega arith) i) ∙ append-nil t;
-    front = refl;
-    total = v.total ∙ first-long;
   }

@@ -3,21 +3,20 @@ use Prim.Native.Nat.{ℕ, zero, suc, ◌≤◌}
 use native.Mathlib.Omega.{arith}
 use mathlib.Core.Path.{◌≡◌, refl, sym, ap, ◌∙◌, subst, subst₂}
 use mathlib.Core.List.{List, [], ◌∷◌}
-use lib.ListN.{length, get_or, take, set, drop_of_length-le, length-take}
+use lib.ListN.{length, get_or, take, set}
+use Rattle.std.specs.Prelude.{Result, Ok, Err}
 use Rattle.reader.specs.declared.Shape.{Shape}
 use Rattle.system.specs.System.{System}
 use Rattle.system.specs.Terms.{WellFormed}
-use Rattle.reader.specs.Book.{system_of}
-use Rattle.layout.specs.index.Index.{Indexed}
+use Rattle.reader.specs.Book.{system_of, Accepted}
 use Rattle.layout.proofs.Books.{well}
-use Rattle.system.specs.Limits.{area_words, term_words}
-use Rattle.system.specs.Numbers.{Limit, spent, overlong, nested, full, limit_number}
+use Rattle.system.specs.Limits.{area_words}
+use Rattle.system.specs.declared.numbers.Limit.{Limit}
+use Rattle.system.specs.declared.numbers.Limit.TheVariants.{Spent}
 use Rattle.rows.specs.declared.gap.Gap.{Gap}
-use Rattle.rows.specs.Rows.{counts_at, word_row, closed, term_in}
-use Rattle.rows.specs.gap.Gaps.{behind}
+use Rattle.rows.specs.Rows.{counts_at, term_in}
 use Rattle.rows.specs.lengths.Written.{Laid}
-use Rattle.rewriting.specs.Trace.{Trace}
-use Rattle.rewriting.specs.Evaluation.{Limits, start, stopped, trace_of, evaluation}
+use Rattle.rewriting.specs.Evaluation.{Limits, start, trace_of, evaluation}
 use Rattle.rewriting.specs.Machine.{position}
 use Rattle.rewriting.specs.Runs.{Came, ended, sunk, barred, waits, config_of, outcome_of, run}
 use Rattle.rewriting.specs.Ways.{Way, top, every_argument}
@@ -30,34 +29,23 @@ use Rattle.records.specs.declared.recording.Bounds.{Bounds}
 use Rattle.records.specs.recording.Kept.{limits_of, kept}
 use Rattle.records.proofs.Records.{kept-start}
 use Rattle.runs.specs.declared.run.RunResult.{RunResult}
+use Rattle.runs.specs.declared.running.End.{End}
+use Rattle.runs.specs.declared.running.End.TheVariants.{Final, Waiting, Stopped}
 use Rattle.runs.specs.declared.running.From.{From}
 use Rattle.runs.specs.declared.running.Reached.{Reached}
-use Rattle.runs.specs.run.RunResult.{Runnable, Ran}
-use Rattle.runs.specs.running.Reaches.{Startable, came_from, Reaches, Continues}
-use Rattle.runs.proofs.run.Enough.{Moves, run-moves}
-
--- a gap that leaves no word
-none_left : (ws : List ℕ) → term_in ws (behind term_words) ≡ []
-unfolding closed
-none_left ws = drop_of_length-le (word_row ws) {i = term_words} (let z = length-take term_words ws in omega arith)
-
-limit-some : (l : Limit) → limit_number l ≡ 0 → ⊥
-limit-some spent e = omega arith
-limit-some overlong e = omega arith
-limit-some nested e = omega arith
-limit-some full e = omega arith
+use Rattle.runs.specs.run.RunResult.{Runnable, Hands, Ran}
+use Rattle.runs.specs.running.Reaches.{Startable, came_from, end_of, Reaches, Continues}
 
 -- what was asked for, the index built, the term laid in the area, the frame, and how many steps the run may take
 pub record Begun : Type 0 where
   pub book : List ℕ
   pub shape : Shape
+  pub accepted : Accepted book shape
   pub term : List ℕ
   pub area : List ℕ
-  pub asked : Runnable book shape term area
+  pub asked : Runnable book term area
   pub bounds : Bounds
   pub lent : List ℕ
-  pub index : List ℕ
-  pub indexed : Indexed book shape index
   pub ws : List ℕ
   pub gap : Gap
   pub laid : Laid (system_of book).arities term area_words ws gap
@@ -78,10 +66,10 @@ module _ (v : Begun) where
   ready = set v.ws counts_at 0
 
   abbrev pub from : From
-  from = record { shape = v.shape; bounds = v.bounds; state = record { gap = v.gap; level = 0 }; way = 0; steps = 0; most = v.most }
+  from = record { bounds = v.bounds; state = record { gap = v.gap; level = 0 }; way = 0; steps = 0; most = v.most }
 
   formed : WellFormed s
-  formed = well v.book v.shape v.asked.accepted
+  formed = well v.book v.shape v.accepted
 
   stands : Stands s.arities ready v.gap v.term (0 ∷ [])
   stands =
@@ -95,10 +83,8 @@ module _ (v : Begun) where
       at zero m = v.first
       at (suc k) m = absurd (omega arith)
 
-  pub startable : Startable v.book v.index ready v.frame from
+  pub startable : Startable v.book ready v.frame from
   startable = record {
-    accepted = v.asked.accepted;
-    indexed = v.indexed;
     tracks = tracks-first tracks;
     way = subst₂ (Way (every_argument s) (term_in ready v.gap)) (sym (way-none ready)) (sym v.first) top;
   }
@@ -119,9 +105,6 @@ module _ (v : Begun) where
     unfolding evaluation
     is-evaluation = run-evaluates s limits 0 formed v.most (start v.term) (omega arith) (omega arith)
 
-    moves : Moves o
-    moves = run-moves s limits 0 v.most (0 ∷ []) (start v.term) (omega arith)
-
     abbrev Tells : Came → Type 0
     Tells o = words ≡ kept v.bounds.recorded v.lent (config_of o).trace
 
@@ -138,40 +121,29 @@ module _ (v : Begun) where
     as-evaluation : (f : RunResult) → Ran (outcome_of o) f ws × (words ≡ kept v.bounds.recorded v.lent (trace_of (outcome_of o))) → Ends f
     as-evaluation f = subst (λ z. Ran z f ws × (words ≡ kept v.bounds.recorded v.lent (trace_of z))) is-evaluation
 
-    -- a limit stops it: no word is handed back
-    pub ends-stopped : (e.number ≡ 0 → ⊥) → (f : RunResult) → f ≡ record { number = e.number; gap = behind term_words; steps = e.steps } → Ends f
-    ends-stopped some f q =
-        as-evaluation f (go o moves reaches.0 reaches.1)
+    -- what the code hands on of how the run ended
+    abbrev pub handed : End → Result Gap Limit
+    handed Final = Ok e.state.gap
+    handed Waiting = Err Spent
+    handed (Stopped l) = Err l
+
+    pub ends : (end : End) → e.end ≡ end → Ends (record { outcome = handed end; steps = e.steps })
+    ends end is = as-evaluation _ (go o reaches.0, reaches.1 ∙ ap (kept v.bounds.recorded v.lent) (told o))
       where
-        ran : (l : Limit) (h : Trace) → e.number ≡ limit_number l → e.steps ≡ length h → Ran (stopped l h) f ws
-        ran l h n k = record {
-          number = ap (λ y. y.number) q ∙ n;
-          steps = ap (λ y. y.steps) q ∙ k;
-          lies = rw q (record { low = omega arith; high = omega arith });
-          words = ap (λ y. term_in ws y.gap) q ∙ none_left ws;
+        told : (o : Came) → (config_of o).trace ≡ trace_of (outcome_of o)
+        told (ended r) = refl
+        told (sunk r) = refl
+        told (barred l outer c x r) = refl
+        told (waits outer c x r) = refl
+
+        hands : (o : Came) → Reaches s 0 o e ws frame → Hands (outcome_of o) (handed (end_of o)) ws
+        hands (ended r) z = (z.holds.measured.gapped.lies, z.holds.term)
+        hands (sunk r) z = refl
+        hands (barred l outer c x r) z = refl
+        hands (waits outer c x r) z = refl
+
+        go : (o : Came) → Reaches s 0 o e ws frame → Ran (outcome_of o) (record { outcome = handed end; steps = e.steps }) ws
+        go o z = record {
+          hands = subst (λ n. Hands (outcome_of o) (handed n) ws) (sym z.end ∙ is) (hands o z);
+          steps = z.steps ∙ ap length (told o);
         }
-
-        go : (o : Came) → Moves o → Reaches s 0 o e ws frame → Tells o → Ran (outcome_of o) f ws × (words ≡ kept v.bounds.recorded v.lent (trace_of (outcome_of o)))
-        go (ended r) m z w = absurd (some z.number)
-        go (sunk r) m z w = (ran nested r.trace z.number z.steps, w)
-        go (barred l outer c x r) m z w = (ran l r.trace z.number z.steps, w)
-        go (waits outer c x r) m z w = absurd m
-
-    -- it comes to its end: the term is
-    pub ends-final : e.number ≡ 0 → (f : RunResult) → f ≡ record { number = 0; gap = e.state.gap; steps = e.steps } → Ends f
-    ends-final none f q =
-        as-evaluation f (go o moves reaches.0 reaches.1)
-      where
-        go : (o : Came) → Moves o → Reaches s 0 o e ws frame → Tells o → Ran (outcome_of o) f ws × (words ≡ kept v.bounds.recorded v.lent (trace_of (outcome_of o)))
-        go (ended r) m z w = (
-          record {
-            number = ap (λ y. y.number) q;
-            steps = ap (λ y. y.steps) q ∙ z.steps;
-            lies = rw q z.holds.measured.gapped.lies;
-            words = ap (λ y. term_in ws y.gap) q ∙ z.holds.term;
-          },
-          w,
-        )
-        go (sunk r) m z w = absurd (omega (arith, z.number))
-        go (barred l outer c x r) m z w = absurd (limit-some l (sym z.number ∙ none))
-        go (waits outer c x r) m z w = absurd m

@@ -3,7 +3,6 @@
 use Prim.Native.Nat.{ℕ, ◌+◌, ◌-◌, ◌≤◌}
 use native.Mathlib.Omega.{arith}
 use mathlib.Core.Path.{◌≡◌, refl, sym, ap, ◌∙◌, subst, subst₂}
-use mathlib.Core.Bool.{true}
 use mathlib.Core.List.{List, [], ◌∷◌, ◌++◌}
 use lib.ListN.{length, set}
 use Rattle.reader.specs.declared.Shape.{Shape}
@@ -29,6 +28,7 @@ use Rattle.steps.specs.steps.Raised.{way_in}
 use Rattle.steps.proofs.steps.Kept.{way-length, way_same}
 use Rattle.records.specs.recording.Kept.{limits_of, kept}
 use Rattle.records.proofs.Records.{kept-length}
+use Rattle.runs.specs.declared.running.End.TheVariants.{Waiting}
 use Rattle.runs.specs.declared.running.From.{From}
 use Rattle.runs.specs.declared.running.Reached.{Reached}
 use Rattle.runs.specs.running.Reaches.{Startable, came_from, BeforeStep, Reaches, Continues}
@@ -78,30 +78,30 @@ record WaitsAt (s : System) (base : ℕ) (o : Came) (e : Reached) (ws frame : Li
   is : o ≡ waits outer c x r
   holds : BeforeStep s base outer c r e.state ws frame
 
-waits-at : (s : System) (base : ℕ) (o : Came) (e : Reached) (ws frame : List ℕ) → Reaches s base o e ws frame → e.waits ≡ true → WaitsAt s base o e ws frame
-waits-at s base (ended r) e ws frame h w = absurd (let z : ◌≡◌ {A = ℕ} 0 1 = cc h.waits in omega arith)
-waits-at s base (sunk r) e ws frame h w = absurd (let z : ◌≡◌ {A = ℕ} 0 1 = cc h.waits in omega arith)
-waits-at s base (barred l outer c x r) e ws frame h w = absurd (let z : ◌≡◌ {A = ℕ} 0 1 = cc h.waits in omega arith)
+waits-at : (s : System) (base : ℕ) (o : Came) (e : Reached) (ws frame : List ℕ) → Reaches s base o e ws frame → e.end ≡ Waiting → WaitsAt s base o e ws frame
+waits-at s base (ended r) e ws frame h w = cc (h.end, w)
+waits-at s base (sunk r) e ws frame h w = cc (h.end, w)
+waits-at s base (barred l outer c x r) e ws frame h w = cc (h.end, w)
 waits-at s base (waits outer c x r) e ws frame h w = record { outer = outer; c = c; x = x; r = r; is = refl; holds = h.holds }
 
-module _ {book index ws frame words : List ℕ} {from : From} (v : Startable book index ws frame from) {e : Reached} {ws' frame' words' : List ℕ}
+module _ {book ws frame words : List ℕ} {shape : Shape} {from : From} (acc : Accepted book shape) (v : Startable book ws frame from) {e : Reached} {ws' frame' words' : List ℕ}
     (w : Continues (system_of book) from ws frame words e ws' frame' words') where
   abbrev s : System
   s = system_of book
 
   -- n steps more at most, from where it came to
   abbrev pub onwards : ℕ → From
-  onwards n = record { shape = from.shape; bounds = from.bounds; state = e.state; way = from.way; steps = e.steps; most = n }
+  onwards n = record { bounds = from.bounds; state = e.state; way = from.way; steps = e.steps; most = n }
 
   -- as if all of them were asked for at once
   abbrev pub at_once : ℕ → From
-  at_once n = record { shape = from.shape; bounds = from.bounds; state = from.state; way = from.way; steps = from.steps; most = from.most + n }
+  at_once n = record { bounds = from.bounds; state = from.state; way = from.way; steps = from.steps; most = from.most + n }
 
   -- the area that it left, with the step's 0 not begun
   abbrev pub taken_back : List ℕ
   taken_back = set ws' (counts_at + e.state.level) (count_in ws' e.state.level - 1)
 
-  module _ (h : Trace) (counted : length h ≡ from.steps) (lent : List ℕ) (told : words ≡ kept from.bounds.recorded lent h) (waiting : e.waits ≡ true) where
+  module _ (h : Trace) (counted : length h ≡ from.steps) (lent : List ℕ) (told : words ≡ kept from.bounds.recorded lent h) (waiting : e.end ≡ Waiting) where
     abbrev o : Came
     o = came_from s from ws frame words h
 
@@ -115,20 +115,18 @@ module _ {book index ws frame words : List ℕ} {from : From} (v : Startable boo
     one_less = omega arith
 
     -- it may be gone on with
-    pub again-startable : (n : ℕ) → Startable book index taken_back frame' (onwards n)
+    pub again-startable : (n : ℕ) → Startable book taken_back frame' (onwards n)
     again-startable n =
         let d = count_in ws' e.state.level - 1 in
-        let t = recounted-tracks v.accepted tracks d one_less in
-        let b = within v.accepted tracks d one_less in
+        let t = recounted-tracks acc tracks d one_less in
+        let b = within acc tracks d one_less in
         let z = way-room w.way in
         let y = way-length ws' from.way in
-        let same = way_same (base_of frame) ws' taken_back (recounted-last v.accepted tracks d one_less) (omega (arith, b.apart)) from.way (omega arith) in
+        let same = way_same (base_of frame) ws' taken_back (recounted-last acc tracks d one_less) (omega (arith, b.apart)) from.way (omega arith) in
         record {
-          accepted = v.accepted;
-          indexed = v.indexed;
           tracks = tracks-first t;
           way = subst (Way (every_argument s) (term_in taken_back e.state.gap) (way_in taken_back from.way)) (sym (tracks-base t))
-              (subst₂ (λ t ps. Way (every_argument s) t ps (base_of frame)) (sym (recounted-stands v.accepted tracks d one_less).term) (sym same) w.way);
+              (subst₂ (λ t ps. Way (every_argument s) t ps (base_of frame)) (sym (recounted-stands acc tracks d one_less).term) (sym same) w.way);
         }
 
     -- and comes to where the run of all the steps does
@@ -138,12 +136,12 @@ module _ {book index ws frame words : List ℕ} {from : From} (v : Startable boo
         let flag = from.bounds.recorded in
         let long : length words' ≡ length words = ap length (w.reaches h counted lent told).1 ∙ kept-length flag lent (config_of o).trace ∙ sym (ap length told ∙ kept-length flag lent h) in
         let first = tracks-base tracks in
-        let counts = recounted-counts v.accepted tracks d one_less ∙ (λ i. at.holds.around i ++ (at.holds.begun i - 1) ∷ []) in
-        let term = (recounted-stands v.accepted tracks d one_less).term ∙ at.holds.term in
+        let counts = recounted-counts acc tracks d one_less ∙ (λ i. at.holds.around i ++ (at.holds.begun i - 1) ∷ []) in
+        let term = (recounted-stands acc tracks d one_less).term ∙ at.holds.term in
         let trace = ap (λ o. (config_of o).trace) at.is in
         let valid = v.tracks.represents.valid in
         let y = whole-at s (base_of frame) valid.whole valid.inside in
         (λ i. run s (limits_of from.bounds (long i)) (first i) n (counts i) (record { term = term i; trace = trace i }))
-        ∙ sym (again-from s (well book from.shape v.accepted) (limits_of from.bounds (length words)) from.most n (base_of frame) (outer_in ws from.state.level)
+        ∙ sym (again-from s (well book shape acc) (limits_of from.bounds (length words)) from.most n (base_of frame) (outer_in ws from.state.level)
         (count_in ws from.state.level) (record { term = term_in ws from.state.gap; trace = h }) y.before y.behind y.position
         (record { part = y.here; whole = y.whole; equal = y.equal }) valid.opened at.outer at.c at.x at.r at.is)

@@ -5,11 +5,14 @@ use mathlib.Core.Path.{◌≡◌, refl, sym, ap, ◌∙◌, subst, subst₂}
 use mathlib.Core.Bool.{Bool, true, false}
 use mathlib.Core.List.{List, [], ◌∷◌, ◌++◌}
 use lib.ListN.{length, get_or, take, drop, length-set}
+use Rattle.std.specs.Prelude.{None}
 use lib.Seq.{get_or-drop}
 use Rattle.reader.specs.Book.{system_of}
 use Rattle.system.specs.Limits.{term_words}
-use Rattle.system.specs.Numbers.{overlong, limit_number}
+use Rattle.system.specs.declared.numbers.Limit.TheVariants.{Overlong}
 use Rattle.system.proofs.Rules.{rule-bound}
+use Rattle.redexes.specs.declared.search.Redex.{Redex}
+use Rattle.redexes.specs.search.Redexes.{number_of}
 use Rattle.redexes.proofs.search.Found.{redex-number}
 use Rattle.rows.specs.declared.gap.Gap.{Gap}
 use Rattle.rows.specs.Rows.{counts_at, term_in}
@@ -30,6 +33,7 @@ use Rattle.steps.specs.steps.Stepped.{here, subterm_here, Stepped, done, long, S
 use Rattle.steps.proofs.steps.Kept.{way_same}
 use Rattle.records.specs.recording.Kept.{met, paired}
 use Rattle.records.proofs.Records.{kept_next}
+use Rattle.runs.specs.declared.running.End.TheVariants.{Stopped}
 use Rattle.runs.specs.declared.running.Reached.{Reached}
 use Rattle.runs.proofs.running.Running.{limits, steps_left, Earlier, goal, Running, positions-kept}
 use Rattle.runs.proofs.running.Rounds.{Round, Answers, there, told, formed, so_far, few, keeps, Before}
@@ -42,29 +46,29 @@ paired-length true words k at number = simp length-set
 paired-length false words k at number = refl
 
 -- by whether the term would be too long: the run is stopped, or goes on with its pair told
-abbrev pub Goes : Round → List ℕ → Gap → Bool → Type 0
-Goes k ws gap true = (e : Reached) → e ≡ told k (limit_number overlong) false (record { gap = gap; level = k.d.level }) → Answers k e ws k.positions'
-Goes k ws gap false =
-    (words : List ℕ) → words ≡ paired k.a.from.bounds.recorded k.words k.steps (here k.positions' (there k)) k.d.redex.number →
+abbrev pub Goes : Round → Redex → List ℕ → Gap → Bool → Type 0
+Goes k m ws gap true = (e : Reached) → e ≡ told k (Stopped Overlong) (record { gap = gap; level = k.d.level }) → Answers k e ws k.positions'
+Goes k m ws gap false =
+    (words : List ℕ) → words ≡ paired k.a.from.bounds.recorded k.words k.steps (here k.positions' (there k)) (number_of m) →
     Running (system_of k.book) k.a ws k.positions' words gap k.d.level (k.steps + 1)
 
-module _ (k : Round) (y : Before k) where
+module _ (k : Round) {redex : Redex} (y : Before k redex) where
   -- the number that was found is the rule's, and fits a word of the record
-  found_number : k.d.redex.number ≡ (x k y).number
+  found_number : number_of redex ≡ (x k y).number
   found_number =
-      redex-number k.book k.a.from.shape k.asked.accepted (subterm_here k.ws' k.positions' (there k)) k.d.redex y.steppable.match (x k y) y.steppable.contracts
+      redex-number k.book k.shape k.accepted (subterm_here k.ws' k.positions' (there k)) y.steppable.match (x k y) y.steppable.contracts
 
-  pub number_fits : k.d.redex.number ≤ 65535
+  pub number_fits : number_of redex ≤ 65535
   number_fits =
       let f = valid-first (s k y) (formed k) (t k y) (b k y) (outer k y) (c k y) (valid k y) (x k y) (rw (← place k y) y.steppable.contracts) in
       omega (arith, found_number, rule-bound (s k y) (formed k) f.known)
 
-  module _ (free : met (limits k.a) k.steps ≡ 0) (more : k.steps - k.a.from.steps < k.a.from.most) where
+  module _ (free : met (limits k.a) k.steps ≡ None) (more : k.steps - k.a.from.steps < k.a.from.most) where
     -- the area holds the state as it did
-    long-goes : (gap : Gap) (ws : List ℕ) → term_words < length (after k y) → Kept (s k y).arities k.ws' (t k y) gap ws → Goes k ws gap true
+    long-goes : (gap : Gap) (ws : List ℕ) → term_words < length (after k y) → Kept (s k y).arities k.ws' (t k y) gap ws → Goes k redex ws gap true
     long-goes gap ws m w =
         let level = k.d.level in
-        stops k y overlong gap ws (keeps k gap ws (w.term ∙ y.term) (ap (drop (term_words - b k y)) w.counts ∙ k.came.1))
+        stops k y Overlong gap ws (keeps k gap ws (w.term ∙ y.term) (ap (drop (term_words - b k y)) w.counts ∙ k.came.1))
         (record {
           tracks = tracks-kept y.tracks w;
           term = w.term;
@@ -108,7 +112,7 @@ module _ (k : Round) (y : Before k) where
           ∙ sym (stepping k y free more h
           ∙ fitting-goes (s k y) (limits k.a) (outer k y) (c k y) (x k y) (r k y h) (position (s k y) (t k y) (outer k y) (b k y)) (omega (arith, ap length (after_is k y h))) _)
 
-      done-goes : Goes k ws gap false
+      done-goes : Goes k redex ws gap false
       done-goes words told =
           let flag = k.a.from.bounds.recorded in
           record {
@@ -117,7 +121,7 @@ module _ (k : Round) (y : Before k) where
             way = way-after;
             last = last ∙ y.kept.last;
             since = (let z = k.running.since in omega arith);
-            room = ap length told ∙ paired-length flag k.words k.steps (p k y) k.d.redex.number ∙ k.running.room;
+            room = ap length told ∙ paired-length flag k.words k.steps (p k y) (number_of redex) ∙ k.running.room;
             follows = λ h. record {
               trace = d ∷ (so_far k h).trace;
               counted = omega (arith, (so_far k h).counted);
@@ -127,9 +131,9 @@ module _ (k : Round) (y : Before k) where
             };
           }
 
-    pub goes : (q : Reduced) (ws : List ℕ) → Steps k.book k.ws' k.positions' (there k) q ws → Goes k ws q.gap q.long
+    pub goes : (q : Reduced) (ws : List ℕ) → Steps k.book k.ws' k.positions' (there k) q ws → Goes k redex ws q.gap q.long
     goes q ws h = go (h (x k y) y.steppable.contracts)
       where
-        go : Stepped (s k y) k.ws' k.positions' (there k) (x k y) q ws → Goes k ws q.gap q.long
+        go : Stepped (s k y) k.ws' k.positions' (there k) (x k y) q ws → Goes k redex ws q.gap q.long
         go (long m gap e w) = rw e (long-goes gap ws m w)
         go (done m gap e w last) = rw e (done-goes gap ws m w (subst (λ z. last_words z ws ≡ last_words z k.ws') (tracks-base y.tracks) last))

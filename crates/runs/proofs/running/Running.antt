@@ -91,7 +91,7 @@ pub record Running (s : System) (a : Asked) (ws positions words : List ℕ) (gap
   pub follows : (h : Earlier a) → SoFar s a h ws words gap level steps
 
 -- the start
-pub running-start : {book index : List ℕ} (a : Asked) → Startable book index a.ws a.frame a.from →
+pub running-start : {book : List ℕ} (a : Asked) → Startable book a.ws a.frame a.from →
     Running (system_of book) a a.ws a.frame a.words a.from.state.gap a.from.state.level a.from.steps
 running-start {book} a v = record {
   holds = v.tracks;

@@ -1,14 +1,17 @@
 -- A round of a run's loop in which a rewrite is next: each way out of it, and that the next round starts as this one did.
 use Prim.Native.Nat.{ℕ, zero, suc, ◌+◌, ◌-◌, ◌≤◌, ◌<◌}
 use native.Mathlib.Omega.{arith}
-use mathlib.Core.Path.{◌≡◌, refl, ap, ◌∙◌}
-use mathlib.Core.Bool.{true, false}
+use mathlib.Core.Path.{◌≡◌, refl, sym, ap, ◌∙◌}
+use mathlib.Core.Bool.{true}
 use mathlib.Core.List.{List, [], ◌∷◌, ◌++◌}
 use lib.ListN.{length}
+use Rattle.std.specs.Prelude.{Option, Some, None}
 use Rattle.system.specs.System.{System}
 use Rattle.reader.specs.Book.{system_of}
 use Rattle.system.specs.Limits.{term_words, levels}
-use Rattle.system.specs.Numbers.{Limit, spent, overlong, full, limit_number}
+use Rattle.system.specs.declared.numbers.Limit.{Limit}
+use Rattle.system.specs.declared.numbers.Limit.TheVariants.{Overlong}
+use Rattle.redexes.specs.declared.search.Redex.{Redex}
 use Rattle.matching.specs.Matching.{Contraction}
 use Rattle.rows.specs.declared.gap.Gap.{Gap}
 use Rattle.rows.specs.Rows.{term_in}
@@ -22,12 +25,13 @@ use Rattle.machine.proofs.advance.Bounds.{spot}
 use Rattle.steps.specs.steps.Stepped.{here, stepped}
 use Rattle.records.specs.recording.Kept.{met}
 use Rattle.records.proofs.Limiting.{Meets, spends, fills, leaves, meets}
+use Rattle.runs.specs.declared.running.End.TheVariants.{Waiting, Stopped}
 use Rattle.runs.specs.declared.running.Reached.{Reached}
 use Rattle.runs.specs.running.Reaches.{Holds}
 use Rattle.runs.proofs.running.Running.{base, limits, steps_left, Earlier, goal}
 use Rattle.runs.proofs.running.Rounds.{Round, Answers, there, told, left, so_far, Keeps, answers, Before}
 
-module _ (k : Round) (y : Before k) where
+module _ (k : Round) {m : Redex} (y : Before k m) where
   abbrev pub s : System
   s = system_of k.book
 
@@ -59,7 +63,7 @@ module _ (k : Round) (y : Before k) where
   valid = y.tracks.represents.valid
 
   pub place : p ≡ position s t outer b
-  place = spot k.book k.a.from.shape k.asked.accepted k.ws' k.positions' k.gap b level y.tracks
+  place = spot k.book k.shape k.accepted k.ws' k.positions' k.gap b level y.tracks
 
   pub before-room : level < levels
   before-room = let z = valid.room in let z' = y.tracks.represents.levels in omega arith
@@ -77,44 +81,39 @@ module _ (k : Round) (y : Before k) where
   -- stopped just before it, in an area that holds the same state
   pub stops : (l : Limit) (gap : Gap) (ws : List ℕ) → Keeps k gap ws → Holds s b (barred l outer c x (record { term = t; trace = [] })) (record { gap = gap; level = level }) ws k.positions' →
       ((h : Earlier k.a) → goal s k.a h ≡ barred l outer c x (r h)) →
-      (e : Reached) → e ≡ told k (limit_number l) false (record { gap = gap; level = level }) → Answers k e ws k.positions'
+      (e : Reached) → e ≡ told k (Stopped l) (record { gap = gap; level = level }) → Answers k e ws k.positions'
   stops l gap ws z w q e is =
-      answers k (limit_number l) false (record { gap = gap; level = level }) ws k.positions' z (λ h. barred l outer c x (r h))
+      answers k (Stopped l) (record { gap = gap; level = level }) ws k.positions' z (λ h. barred l outer c x (r h))
       (λ h. record {
         same = q h;
-        number_is = refl;
-        waits-is = refl;
+        end-is = refl;
         trace-is = refl;
         holds = record { tracks = w.tracks; term = w.term; around = w.around; begun = w.begun };
       }) e is
 
   stops-here : (l : Limit) → ((h : Earlier k.a) → goal s k.a h ≡ barred l outer c x (r h)) →
-      (e : Reached) → e ≡ told k (limit_number l) false (there k) → Answers k e k.ws' k.positions'
+      (e : Reached) → e ≡ told k (Stopped l) (there k) → Answers k e k.ws' k.positions'
   stops-here l q e is = stops l k.gap k.ws' y.kept (record { tracks = y.tracks; term = refl; around = refl; begun = refl }) q e is
 
-  pub stops-met : (number : ℕ) → (number ≡ 0 → ⊥) → number ≡ met (limits k.a) k.steps →
-      (e : Reached) → e ≡ told k number false (there k) → Answers k e k.ws' k.positions'
-  stops-met number some e = go (met (limits k.a) k.steps) e (meets (limits k.a) k.steps)
+  pub stops-met : (l : Limit) → Some l ≡ met (limits k.a) k.steps → (e : Reached) → e ≡ told k (Stopped l) (there k) → Answers k e k.ws' k.positions'
+  stops-met l = go (met (limits k.a) k.steps) (meets (limits k.a) k.steps)
     where
-      is_number : (l : Limit) → number ≡ limit_number l → (e : Reached) → e ≡ told k number false (there k) → e ≡ told k (limit_number l) false (there k)
-      is_number l q e is = is ∙ ap (λ n. told k n false (there k)) q
-
-      go : (m : ℕ) → number ≡ m → Meets (limits k.a) k.steps m → (e : Reached) → e ≡ told k number false (there k) → Answers k e k.ws' k.positions'
-      go m q (spends h) e is =
-          stops-here spent (λ z. y.same z ∙ (tests (left k) z).1 ∙ before-spent s (limits k.a) outer c x (r z) (omega (arith, steps-are z)) _) e (is_number spent q e is)
-      go m q (fills h f) e is =
-          stops-here full (λ z. y.same z ∙ (tests (left k) z).1 ∙ before-full s (limits k.a) outer c x (r z) (omega (arith, steps-are z)) (rw (steps-are z) f) _)
-          e (is_number full q e is)
-      go m q (leaves h f) e is = absurd (some q)
+      go : (m : Option Limit) → Meets (limits k.a) k.steps m → Some l ≡ m → (e : Reached) → e ≡ told k (Stopped l) (there k) → Answers k e k.ws' k.positions'
+      go m (spends h) q e is =
+          stops-here l (λ z. y.same z ∙ (tests (left k) z).1 ∙ before-spent s (limits k.a) outer c x (r z) (omega (arith, steps-are z)) _ ∙ ap (λ l. barred l outer c x (r z)) (sym (cc q))) e is
+      go m (fills h f) q e is =
+          stops-here l (λ z. y.same z ∙ (tests (left k) z).1 ∙ before-full s (limits k.a) outer c x (r z) (omega (arith, steps-are z)) (rw (steps-are z) f) _
+          ∙ ap (λ l. barred l outer c x (r z)) (sym (cc q))) e is
+      go m (leaves h f) q e is = cc q
 
   -- ---- none is
 
-  pub room-left : met (limits k.a) k.steps ≡ 0 → (k.steps < k.a.from.bounds.limit) × (has_room (limits k.a).room k.steps ≡ true)
+  pub room-left : met (limits k.a) k.steps ≡ None → (k.steps < k.a.from.bounds.limit) × (has_room (limits k.a).room k.steps ≡ true)
   room-left e = go (met (limits k.a) k.steps) e (meets (limits k.a) k.steps)
     where
-      go : (m : ℕ) → m ≡ 0 → Meets (limits k.a) k.steps m → (k.steps < k.a.from.bounds.limit) × (has_room (limits k.a).room k.steps ≡ true)
-      go m e (spends h) = absurd (omega arith)
-      go m e (fills h f) = absurd (omega arith)
+      go : (m : Option Limit) → m ≡ None → Meets (limits k.a) k.steps m → (k.steps < k.a.from.bounds.limit) × (has_room (limits k.a).room k.steps ≡ true)
+      go m e (spends h) = cc e
+      go m e (fills h f) = cc e
       go m e (leaves h f) = (h, f)
 
   abbrev pub after : List ℕ
@@ -126,7 +125,7 @@ module _ (k : Round) (y : Before k) where
   pub after_is : (h : Earlier k.a) → (next h).term ≡ after
   after_is h = rw place
 
-  module _ (free : met (limits k.a) k.steps ≡ 0) where
+  module _ (free : met (limits k.a) k.steps ≡ None) where
     abbrev goes-free : (h : Earlier k.a) (on : Came) → before s (limits k.a) outer c x (r h) on ≡ on
     goes-free h on = before-free s (limits k.a) outer c x (r h) (omega (arith, (room-left free).0, steps-are h)) (rw (steps-are h) (room-left free).1) on
 
@@ -137,20 +136,19 @@ module _ (k : Round) (y : Before k) where
           let z : left k ≡ 0 = omega arith in
           y.same h ∙ ap (λ n. come s (limits k.a) b n (ready outer c x) (r h)) z ∙ come-waits s (limits k.a) b outer c x (r h) ∙ goes-free h _
 
-      pub waits_there : length after ≤ term_words → (e : Reached) → e ≡ told k 0 true (there k) → Answers k e k.ws' k.positions'
+      pub waits_there : length after ≤ term_words → (e : Reached) → e ≡ told k Waiting (there k) → Answers k e k.ws' k.positions'
       waits_there l e is =
-          answers k 0 true (there k) k.ws' k.positions' y.kept (λ h. waits outer c x (r h))
+          answers k Waiting (there k) k.ws' k.positions' y.kept (λ h. waits outer c x (r h))
           (λ h. record {
             same = at_rest h ∙ fitting-goes s (limits k.a) outer c x (r h) (position s t outer b) (omega (arith, ap length (after_is h))) _;
-            number_is = refl;
-            waits-is = refl;
+            end-is = refl;
             trace-is = refl;
             holds = record { tracks = y.tracks; term = refl; around = refl; begun = refl };
           }) e is
 
-      pub long-there : term_words < length after → (e : Reached) → e ≡ told k (limit_number overlong) false (there k) → Answers k e k.ws' k.positions'
+      pub long-there : term_words < length after → (e : Reached) → e ≡ told k (Stopped Overlong) (there k) → Answers k e k.ws' k.positions'
       long-there l e is =
-          stops-here overlong (λ h. at_rest h ∙ fitting-long s (limits k.a) outer c x (r h) (position s t outer b) (omega (arith, ap length (after_is h))) _) e is
+          stops-here Overlong (λ h. at_rest h ∙ fitting-long s (limits k.a) outer c x (r h) (position s t outer b) (omega (arith, ap length (after_is h))) _) e is
 
     -- ---- after `step`
 

@@ -1,11 +1,10 @@
 -- A run of the machine from a state in an area: what it asks for, and what stands where it came to. (Where that is: `run` of rewriting/specs/Runs.)
-use Rattle.std.specs.Prelude.{ℕ, ◌≤◌, ◌≡◌, Bool, true, false, List, [], ◌∷◌, ◌++◌, length}
+use Rattle.std.specs.Prelude.{ℕ, ◌≤◌, ◌≡◌, List, [], ◌∷◌, ◌++◌, length}
 use Rattle.system.specs.Limits.{term_words}
-use Rattle.system.specs.Numbers.{taken, number_of, nested, limit_number}
+use Rattle.system.specs.declared.numbers.Limit.TheVariants.{Nested}
 use Rattle.system.specs.System.{System}
 use Rattle.system.specs.Terms.{Whole}
-use Rattle.reader.specs.Book.{system_of, Accepted}
-use Rattle.layout.specs.index.Index.{Indexed}
+use Rattle.reader.specs.Book.{system_of}
 use Rattle.rows.specs.Rows.{term_in}
 use Rattle.rewriting.specs.Trace.{Trace}
 use Rattle.rewriting.specs.Evaluation.{Config}
@@ -15,13 +14,13 @@ use Rattle.machine.specs.declared.advance.State.{State}
 use Rattle.machine.specs.advance.Area.{base_of, outer_in, count_in, last_words, Stands, Represents, Tracks}
 use Rattle.steps.specs.steps.Raised.{way_in}
 use Rattle.records.specs.recording.Kept.{limits_of, kept}
+use Rattle.runs.specs.declared.running.End.{End}
+use Rattle.runs.specs.declared.running.End.TheVariants.{Final, Waiting, Stopped}
 use Rattle.runs.specs.declared.running.From.{From}
 use Rattle.runs.specs.declared.running.Reached.{Reached}
 
 -- the area holds a state, in the subterm at the base, and the way to the base at the end of the third row
-pub record Startable (book index ws frame : List ℕ) (from : From) : Type 0 where
-  pub accepted : Accepted book from.shape
-  pub indexed : Indexed book from.shape index
+pub record Startable (book ws frame : List ℕ) (from : From) : Type 0 where
   pub tracks : Tracks (system_of book) ws frame from.state.gap (base_of frame) from.state.level
   pub way : Way (every_argument (system_of book)) (term_in ws from.state.gap) (way_in ws from.way) (base_of frame)
 
@@ -32,18 +31,12 @@ came_from s from ws frame words h =
     (outer_in ws from.state.level ++ count_in ws from.state.level ∷ [])
     (record { term = term_in ws from.state.gap; trace = h })
 
--- its number, and whether it is just before a step that no limit would stop
-abbrev pub came_number : Came → ℕ
-came_number (ended r) = number_of taken
-came_number (sunk r) = limit_number nested
-came_number (barred l outer c x r) = limit_number l
-came_number (waits outer c x r) = number_of taken
-
-abbrev pub is_waiting : Came → Bool
-is_waiting (ended r) = false
-is_waiting (sunk r) = false
-is_waiting (barred l outer c x r) = false
-is_waiting (waits outer c x r) = true
+-- how it ended there
+abbrev pub end_of : Came → End
+end_of (ended r) = Final
+end_of (sunk r) = Stopped Nested
+end_of (barred l outer c x r) = Stopped l
+end_of (waits outer c x r) = Waiting
 
 -- just before a step the area holds the state: the term, true lengths, the counts, that of the innermost level with the step's 0 begun, and the
 -- positions of the levels
@@ -61,8 +54,7 @@ Holds s base (barred l outer c x r) at ws frame = BeforeStep s base outer c r at
 Holds s base (waits outer c x r) at ws frame = BeforeStep s base outer c r at ws frame
 
 pub record Reaches (s : System) (base : ℕ) (o : Came) (e : Reached) (ws frame : List ℕ) : Type 0 where
-  pub number : e.number ≡ came_number o
-  pub waits : e.waits ≡ is_waiting o
+  pub end : e.end ≡ end_of o
   pub steps : e.steps ≡ length (config_of o).trace
   pub holds : Holds s base o e.state ws frame
 

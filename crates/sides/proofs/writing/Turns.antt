@@ -1,108 +1,91 @@
--- Writing a reduct from its end to its front: what the loop of `writing::write_reduct` keeps, and its turns.
+-- Writing a reduct from its end to its front: where the pass of `writing::write_reduct` starts and ends, and its turns.
 use Prim.Native.Nat.{ℕ, ◌+◌, ◌-◌, ◌≤◌, ◌<◌}
 use native.Mathlib.Omega.{arith}
 use mathlib.Core.Path.{◌≡◌, sym, ap, ◌∙◌, subst, subst₂}
 use mathlib.Core.List.{List, [], ◌∷◌, ◌++◌}
-use lib.ListN.{length, get_or, drop, drop_of_length-le}
+use lib.ListN.{length, drop}
+use lib.Seq.{drop-length}
 use Rattle.buffers.specs.moves.Parts.{part}
-use Rattle.system.specs.Limits.{variable, variables, term_words}
+use Rattle.system.specs.Limits.{variable, term_words}
 use Rattle.system.specs.Signature.{Signature}
 use Rattle.system.specs.System.{instance}
 use Rattle.rows.specs.declared.gap.Gap.{Gap}
+use Rattle.rows.specs.lengths.Later.{MeasuredFrom}
 use Rattle.rows.specs.lengths.Written.{Written, Copyable}
 use Rattle.rows.proofs.lengths.Writes.{written_none, written_then}
 use Rattle.matching.specs.rules.Searches.{reduct_length}
 use Rattle.matching.proofs.Matched.{instance-nil, instance-symbol, instance-variable}
-use Rattle.sides.specs.sides.Sides.{Stretches}
-use Rattle.sides.specs.declared.writing.Source.{Source}
-use Rattle.sides.specs.writing.Reduct.{stretch_at, stretch, reduct, Unwritten, Writable}
+use Rattle.sides.specs.writing.Reduct.{stretch, Unwritten, Writable}
+use Rattle.sides.specs.writing.Both.{Writing}
+use Rattle.sides.specs.passes.Tasks.{Task, AtSymbol, AtVariable}
 use Rattle.sides.proofs.writing.Kept.{unwritten-within, unwritten-words, unwritten-copyable, unwritten-length}
-use Rattle.sides.proofs.writing.Lefts.{Left, left-starts, left_here, left_split, symbol-room, left-symbol}
-use Rattle.sides.proofs.writing.Lefts.{left-named, left-member, variable-room, variable-down, left-variable}
+use Rattle.sides.proofs.passes.Lefts.{left-starts, left-named, left-member, symbol-room, left-symbol, variable-room, variable-down, left-variable}
 
--- all but the first j words of the side are written, filled from ws₀
-pub record Writing (g : Signature) (side ws₀ : List ℕ) (gap : Gap) (c : Stretches) (source : Source) (ws : List ℕ) (to j : ℕ) : Type 0 where
-  pub left : Left c.lengths side gap.front to j
-  pub written : Written g ws₀ gap gap.front ws to (instance (stretch ws₀ c source) (drop j side))
+abbrev σ : Task → ℕ → List ℕ
+σ t = stretch t.area t.stretches t.source
 
-module _ {g : Signature} {side ws₀ : List ℕ} {gap : Gap} {c : Stretches} {source : Source} (asked : Writable g side ws₀ gap c source) where
-  abbrev σ : ℕ → List ℕ
-  σ = stretch ws₀ c source
+pub writing-starts : {g : Signature} (gap : Gap) (t : Task) → t.back ≡ gap.front → Writable g t.side t.area gap t.stretches t.source →
+    Writing g gap t t.side t.area t.back
+writing-starts {g} gap t e asked =
+    let nothing : [] ≡ instance (σ t) (drop (length t.side) t.side) = sym (ap (instance (σ t)) (drop-length t.side) ∙ instance-nil (σ t)) in
+    record {
+      asked = asked;
+      back = e;
+      left = left-starts t;
+      written = subst (Written g t.area gap t.back t.area t.back) nothing
+          (written_none (record { measured = subst (λ b. MeasuredFrom g t.area gap b) (sym e) asked.measured; before = omega arith }));
+    }
 
-  pub writing-starts : Writing g side ws₀ gap c source ws₀ gap.front (length side)
-  writing-starts = record {
-    left = left-starts c.lengths side gap.front;
-    written = subst (Written g ws₀ gap gap.front ws₀ gap.front)
-        (sym (ap (instance σ) (drop_of_length-le side {i = length side} (omega arith)) ∙ instance-nil σ)) (written_none (record { measured = asked.measured; before = omega arith }));
-  }
-
+module _ {g : Signature} {gap : Gap} {t : Task} {rest ws : List ℕ} {to : ℕ} (v : Writing g gap t rest ws to) where
   -- no word before this one is written
   abbrev low : ℕ
-  low = gap.front - reduct_length c.lengths side
+  low = gap.front - reduct_length t.stretches.lengths t.side
 
-  module _ {ws : List ℕ} {to j : ℕ} (v : Writing g side ws₀ gap c source ws to j) where
-    pub writing-ends : j ≤ 0 → Written g ws₀ gap gap.front ws to (reduct side c source ws₀)
-    writing-ends h = subst (λ k. Written g ws₀ gap gap.front ws to (instance σ (drop k side))) (let e : j ≡ 0 = omega arith in e) v.written
+  room : reduct_length t.stretches.lengths t.side ≤ t.back
+  room = let r = v.asked.room in let b = v.back in omega arith
 
-    -- ---- a turn, in which word j - 1 of the side is written
+  module _ {rest' : List ℕ} where
+    module _ {w : ℕ} (k : AtSymbol t rest rest' w) where
+      pub writes-room : 0 < to
+      writes-room = symbol-room v.left k room
 
-    module _ (some : 0 < j) where
-      abbrev word : ℕ
-      word = get_or side (j - 1) 0
+      pub writes-symbol : {ws' : List ℕ} {to' : ℕ} → Written g ws gap to ws' to' (w ∷ []) → Writing g gap t rest' ws' to'
+      writes-symbol {ws'} {to'} u = record {
+        asked = v.asked;
+        back = v.back;
+        left = left-symbol v.left k u.size;
+        written = subst (Written g t.area gap t.back ws' to')
+            (sym (ap (instance (σ t)) k.turn.split ∙ instance-symbol (σ t) w (drop (length rest) t.side) k.symbol)) (written_then v.written u);
+      }
 
-      abbrev split : drop (j - 1) side ≡ word ∷ drop j side
-      split = left_split c.lengths side v.left some
+    module _ {f n : ℕ} (k : AtVariable t rest rest' f n) where
+      down : low ≤ to
+      down = let z = variable-down v.left k in let b = v.back in omega arith
 
-      -- ---- a symbol
+      stays : Unwritten g t.area low t.back f n
+      stays =
+          subst (λ b. Unwritten g t.area low b f n) (sym v.back)
+          (subst₂ (λ x y. Unwritten g t.area low gap.front x y) (sym k.start) (sym k.long) (v.asked.stays (k.word - variable) (left-member v.left k)))
 
-      module _ (h : word < variable) where
-        pub writes-room : 0 < to
-        writes-room = symbol-room c.lengths side v.left some h asked.room
+      pub variable-fits : n ≤ to
+      variable-fits = variable-room v.left k room
 
-        pub writes-symbol : {ws' : List ℕ} {to' : ℕ} → Written g ws gap to ws' to' (word ∷ []) → Writing g side ws₀ gap c source ws' to' (j - 1)
-        writes-symbol {ws'} {to'} u = record {
-          left = left-symbol c.lengths side v.left some h u.size;
-          written = subst (Written g ws₀ gap gap.front ws' to') (sym (ap (instance σ) split ∙ instance-symbol σ word (drop j side) h)) (written_then v.written u);
-        }
+      pub variable-within : f + n ≤ term_words
+      variable-within = unwritten-within v.asked.measured.gapped v.written f n low down stays
 
-      -- ---- a variable
+      pub variable-copyable : Copyable g ws gap to f n
+      variable-copyable = unwritten-copyable v.asked.measured.gapped v.written f n low down stays
 
-      module _ (w : ℕ) (is : w ≡ word) (h : variable ≤ w) where
-        pub variable-known : w - variable < variables
-        variable-known = let z = asked.sided.known (j - 1) (left_here c.lengths side v.left some) in omega arith
-
-        abbrev from : ℕ
-        from = stretch_at source (get_or c.starts (w - variable) 0)
-
-        abbrev n : ℕ
-        n = get_or c.lengths (w - variable) 0
-
-        abbrev down : low ≤ to
-        down = variable-down c.lengths side v.left some w is h
-
-        abbrev stays : Unwritten g ws₀ low gap.front from n
-        stays = asked.stays (w - variable) (left-member c.lengths side v.left some w is h)
-
-        -- by where the stretch stands, and how long it is, as the code reads them
-        module _ {f k : ℕ} (start : f ≡ from) (long : k ≡ n) where
-          pub variable-fits : k ≤ to
-          variable-fits = let z = variable-room c.lengths side v.left some w is h asked.room in omega arith
-
-          pub variable-within : f + k ≤ term_words
-          variable-within = let z = unwritten-within asked.measured.gapped v.written from n low down stays in omega arith
-
-          pub variable-copyable : Copyable g ws gap to f k
-          variable-copyable =
-              subst₂ (λ x y. Copyable g ws gap to x y) (sym start) (sym long) (unwritten-copyable asked.measured.gapped v.written from n low down stays)
-
-          pub writes-variable : {ws' : List ℕ} {to' : ℕ} → Written g ws gap to ws' to' (part f k ws) → Writing g side ws₀ gap c source ws' to' (j - 1)
-          writes-variable {ws'} {to'} u =
-              let p : part f k ws ≡ part from n ws = (λ i. part (start i) (long i) ws) in
-              let e : part f k ws ≡ σ (w - variable) = p ∙ unwritten-words asked.measured.gapped v.written from n low down stays in
-              let o = ap (λ z. z ++ instance σ (drop j side)) e in
-              let q = ap (instance σ) split ∙ instance-variable σ word (w - variable) (drop j side) (left-named c.lengths side v.left some w is h) in
-              let y = ap length p ∙ unwritten-length asked.measured.gapped v.written from n low down stays in
-              record {
-                left = left-variable c.lengths side v.left some w is h (let z = u.size in omega arith);
-                written = subst (Written g ws₀ gap gap.front ws' to') (o ∙ sym q) (written_then v.written u);
-              }
+      pub writes-variable : {ws' : List ℕ} {to' : ℕ} → Written g ws gap to ws' to' (part f n ws) → Writing g gap t rest' ws' to'
+      writes-variable {ws'} {to'} u =
+          let s = drop (length rest) t.side in
+          let there : part f n t.area ≡ σ t (k.word - variable) = (λ i. part (k.start i) (k.long i) t.area) in
+          let e : part f n ws ≡ σ t (k.word - variable) = unwritten-words v.asked.measured.gapped v.written f n low down stays ∙ there in
+          let q = ap (instance (σ t)) k.turn.split ∙ instance-variable (σ t) k.word (k.word - variable) s (left-named v.left k) in
+          let y = unwritten-length v.asked.measured.gapped v.written f n low down stays in
+          record {
+            asked = v.asked;
+            back = v.back;
+            left = left-variable v.left k (let z = u.size in omega arith);
+            written = subst (Written g t.area gap t.back ws' to') (ap (λ z. z ++ instance (σ t) s) e ∙ sym q) (written_then v.written u);
+          }

@@ -1,31 +1,21 @@
--- Sorts in a window, in the code's terms: one that is put there, those of a word's arguments, and one word.
+-- Sorts in a window, in the code's terms: those of a word's arguments that are put there, and one word.
 use Prim.Native.Nat.{ℕ, ◌+◌, ◌-◌, ◌≤◌, ◌<◌}
 use native.Mathlib.Omega.{arith}
-use native.Mathlib.Decide.{ℕ_discrete, dec_lt}
+use native.Mathlib.Decide.{dec_lt}
 use mathlib.Core.Path.{◌≡◌, refl, sym, ap, ◌∙◌}
 use mathlib.Core.Bool.{Bool, true, false, not, ◌||◌}
 use mathlib.Core.List.{List, ◌++◌}
-use lib.ListN.{length, get_or, set, length-set, length-append, get_or-append}
-use lib.Seq.{get_or-set_same, get_or-set_other, get_or-append-add}
+use lib.ListN.{length, get_or, length-append, get_or-append}
+use lib.Seq.{get_or-append-add}
 use lib.Dec.{eqb}
 use borrow.Author.Tests.{eq-eqb, ne_eqb}
 use Rattle.system.specs.Signature.{Signature, arity}
 use Rattle.system.proofs.BuiltIns.{clash}
 use Rattle.sorts.specs.Sorts.{Sorts, offset, numbers_from, result_sort}
-use Rattle.sort_test.specs.windows.Windows.{window_words, within, Placed, Put, Window}
+use Rattle.sort_test.specs.windows.Windows.{window_words, within, Put, Window}
 use Rattle.sorts.proofs.Sortings.{numbers-length}
 use Rattle.sorts.proofs.sides.Lists.{numbers-at}
 use Rattle.sort_test.proofs.windows.Windows.{within_in, within_low, within-high}
-
--- ---- a sort in the window
-
-module _ (low at e : ℕ) (window : List ℕ) (size : length window ≡ window_words) where
-  pub placed-here : low ≤ at → at - low < window_words → Placed low at e window (set window (at - low) e)
-  placed-here l h = record {
-    size = length-set window (at - low) e ∙ size;
-    here = λ _ m. get_or-set_same window (at - low) e 0 (omega arith);
-    other = λ x k m d. get_or-set_other window (at - low) (x - low) e 0 (λ z. d (omega arith));
-  }
 
 -- ---- the sorts of arguments: j of n are put there
 
@@ -34,28 +24,6 @@ pub record Putting (ks : Sorts) (low h k n : ℕ) (before : List ℕ) (j : ℕ) 
   pub size : length window ≡ window_words
   pub below : (x : ℕ) → low ≤ x → x < low + window_words → x < h → get_or window (x - low) 0 ≡ get_or before (x - low) 0
   pub above : (x : ℕ) → low ≤ x → x < low + window_words → h + n ≤ x + j → x < h + n → get_or window (x - low) 0 ≡ get_or ks (k + (h + n - 1 - x)) 0
-
-module _ (ks : Sorts) (low h k n : ℕ) (before : List ℕ) where
-  pub putting-starts : length before ≡ window_words → Putting ks low h k n before 0 before
-  putting-starts s = record { inside = omega arith; size = s; below = λ x l m b. refl; above = λ x l m a b. absurd (omega arith) }
-
-  module _ {j : ℕ} {window : List ℕ} (so : Putting ks low h k n before j window) where
-    pub putting-ends : n ≤ j → Put ks low h k n before window
-    putting-ends e = record { size = so.size; below = so.below; above = λ x l m a b. so.above x l m (omega arith) b }
-
-    pub putting-next : j < n → {at e : ℕ} → at ≡ h + (n - 1 - j) → e ≡ get_or ks (k + j) 0 → (after : List ℕ) → Placed low at e window after →
-        Putting ks low h k n before (j + 1) after
-    putting-next l {at} {e} qa qe after d = record {
-      inside = omega arith;
-      size = d.size;
-      below = λ x a b c. d.other x a b (λ z. absurd (omega arith)) ∙ so.below x a b c;
-      above = λ x a b c y. elim (ℕ_discrete x at) [
-        | yes z ↦
-            ap (λ i. get_or after (i - low) 0) z ∙ d.here (omega arith) (omega arith) ∙ qe
-            ∙ ap (λ i. get_or ks i 0) (let u : k + j ≡ k + (h + n - 1 - x) = omega arith in u)
-        | no z ↦ d.other x a b z ∙ so.above x a b (omega arith) y
-      ];
-    }
 
 -- ---- the window has the sorts to come
 

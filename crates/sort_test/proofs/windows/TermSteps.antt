@@ -26,9 +26,6 @@ use Rattle.sort_test.proofs.windows.Putting.{window-put}
 
 -- ---- the words one after the other
 
-pub whole-some : (g : Signature) {t : List ℕ} → Whole g t → 0 < length t
-whole-some g (cons h f) = omega arith
-
 -- at p the sorts es are to come
 pub record Passing (g : Signature) (ks : Sorts) (t : List ℕ) (low : ℕ) (window : List ℕ) (due p : ℕ) : Type 0 where
   pub es : List ℕ
@@ -164,9 +161,6 @@ pub record Passes (g : Signature) (ks : Sorts) (t : List ℕ) (low : ℕ) : Type
   pub passed : (m : ℕ) → m < number → windowed g ks (m * window_words) t (result_sort g ks (head t) ∷ []) ≡ true
 
 module _ (g : Signature) (few : length g ≤ variable) (ks : Sorts) (t : List ℕ) (h : Whole g t) where
-  pub passes-start : Passes g ks t 0
-  passes-start = record { number = 0; is = refl; passed = λ m l. absurd (not-suc-le-zero l) }
-
   module _ {low : ℕ} (so : Passes g ks t low) where
     pub passes-next : windowed g ks low t (result_sort g ks (head t) ∷ []) ≡ true → Passes g ks t (low + 256)
     passes-next e = record {

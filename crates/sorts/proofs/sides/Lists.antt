@@ -1,14 +1,14 @@
 -- The list of sorts by index, and a variable that is noted or compared.
-use Prim.Native.Nat.{ℕ, zero, suc, ◌+◌, ◌≤◌, ◌<◌}
+use Prim.Native.Nat.{ℕ, zero, suc, ◌+◌, ◌≤◌, ◌<◌, min}
 use native.Mathlib.Nat.{not-suc-le-zero}
 use native.Mathlib.Omega.{arith}
-use native.Mathlib.Decide.{ℕ_discrete}
+use native.Mathlib.Decide.{ℕ_discrete, dec_lt}
 use mathlib.Core.Path.{◌≡◌, refl, sym, ap, ◌∙◌}
 use mathlib.Core.Bool.{Bool, true, false}
 use mathlib.Core.Option.{Option, none, some}
 use mathlib.Core.List.{List, [], ◌∷◌}
 use lib.ListN.{length, get_or, set, get_or-eq_default}
-use lib.Seq.{set_out}
+use lib.Seq.{get_or-set_same, set_out}
 use lib.Dec.{eqb}
 use borrow.Author.Tests.{eq-eqb, ne_eqb}
 use Rattle.system.specs.Signature.{Signature, arity}
@@ -16,12 +16,10 @@ use Rattle.system.proofs.Signatures.{get_or-within, arity-listed}
 use Rattle.sorts.specs.Sorts.{Sorts, offset, numbers_from}
 use Rattle.sorts.specs.SortCheck.{unset, note}
 use Rattle.sorts.specs.sides.Ran.{Noted}
+use Rattle.sorts.proofs.Unlisted.{offset-past}
 use Rattle.sorts.proofs.Checking.{note-fresh, note-same, note-clash}
 
 -- ---- the list by index
-
-pub listed-past : (ks : Sorts) (i : ℕ) → length ks ≤ i → ◌≡◌ {A = ℕ} 0 (get_or ks i 0)
-listed-past ks i h = sym (get_or-eq_default ks 0 h)
 
 pub offset-zero : (g : Signature) → ◌≡◌ {A = ℕ} 0 (offset g 0)
 unfolding offset
@@ -42,11 +40,18 @@ offset-after (a ∷ g) (suc w) h = let z = offset-after g w (omega arith) in ome
 pub offset-next : (g : Signature) (w : ℕ) → w < length g → offset g (suc w) ≡ offset g w + 1 + arity g w
 offset-next g w h = let z = offset-after g w h in let z' = arity-listed g w h in omega arith
 
+-- that of a word that is not listed is the list's end
+pub offset-listed : (g : Signature) (w : ℕ) → offset g (min w (length g)) ≡ offset g w
+offset-listed g w = elim (dec_lt w (length g)) [
+  | yes l ↦ ap (offset g) (let z : min w (length g) ≡ w = omega arith in z)
+  | no l ↦ ap (offset g) (let z : min w (length g) ≡ length g = omega arith in z) ∙ sym (offset-past g w (omega arith))
+]
+
 -- ---- a variable at a place
 
 module _ (τ : List ℕ) (v e : ℕ) where
-  pub noted-fresh : v < length τ → get_or τ v 0 ≡ 64 → Noted (note τ v e) true (set τ v e)
-  noted-fresh h q = rw (note-fresh τ v e (get_or-within τ unset 0 v h ∙ q)) (refl, refl)
+  pub noted-fresh : v < length τ → get_or τ v 0 ≡ 64 → Noted (note τ v e) (eqb (get_or (set τ v e) v 0) e) (set τ v e)
+  noted-fresh h q = rw (note-fresh τ v e (get_or-within τ unset 0 v h ∙ q)) (eq-eqb (get_or (set τ v e) v 0) e (get_or-set_same τ v e 0 h), refl)
 
   pub noted-before : v < length τ → (get_or τ v 0 ≡ 64 → ⊥) → Noted (note τ v e) (eqb (get_or τ v 0) e) τ
   noted-before h d =

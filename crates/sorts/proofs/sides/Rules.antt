@@ -4,27 +4,16 @@ use mathlib.Core.Path.{◌≡◌, refl, sym, ap, ◌∙◌}
 use mathlib.Core.Bool.{Bool, true, false}
 use mathlib.Core.Option.{Option, none, some}
 use mathlib.Core.List.{List, [], ◌∷◌}
-use lib.ListN.{get_or, drop, replicate}
-use lib.Dec.{ltb}
-use borrow.Author.Tests.{lt-ltb}
+use lib.ListN.{get_or, replicate}
 use Rattle.system.specs.Limits.{variables}
 use Rattle.system.specs.Signature.{Signature}
 use Rattle.system.specs.System.{Rule, head}
 use Rattle.system.proofs.BuiltIns.{clash}
 use Rattle.sorts.specs.Sorts.{Sorts, offset, numbers_from, result_sort}
 use Rattle.sorts.specs.SortCheck.{Checked, check, chain, is_some, unknown, rule_sorts, sorted_rule}
-use Rattle.sorts.specs.sides.Ran.{Ran, SideChecked}
+use Rattle.sorts.specs.sides.Ran.{SideChecked}
 
 -- ---- a whole side, and both sides of a rule
-
--- what is handed back of the words from 0 on
-ran-checked : (o : Option Checked) (ws : List ℕ) (r : ℕ) (τ : List ℕ) → Ran o ws 0 r τ → SideChecked o (ltb 0 r) τ
-ran-checked none ws r τ h = rw h refl
-ran-checked (some x) ws r τ h = (lt-ltb 0 r h.0, h.4)
-
-pub side-checked : (g : Signature) (ks : Sorts) (ws : List ℕ) (k r : ℕ) (τ τ' : List ℕ) → Ran (check g ks (drop 0 ws) (numbers_from ks k 1) τ) ws 0 r τ' →
-    SideChecked (check g ks ws (numbers_from ks k 1) τ) (ltb 0 r) τ'
-side-checked g ks ws k r τ τ' h = ran-checked (check g ks ws (numbers_from ks k 1) τ) ws r τ' h
 
 checked-some : (o : Option Checked) (b : Bool) (τ : List ℕ) → SideChecked o b τ → b ≡ true → (x : Checked) × (o ≡ some x) × (x.sorts ≡ τ)
 checked-some none b τ h e = absurd (clash e h)

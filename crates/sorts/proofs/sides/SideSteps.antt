@@ -1,50 +1,46 @@
 -- The recursion over a side, in the code's terms: what a call hands back, and one turn of the loop. ws are the side's words, p is an index in them, i
 -- one in the list.
-use Prim.Native.Nat.{ℕ, zero, suc, ◌+◌, ◌*◌, ◌-◌, ◌≤◌, ◌<◌}
+use Prim.Native.Nat.{ℕ, zero, suc, ◌+◌, ◌-◌, ◌≤◌, ◌<◌}
 use native.Mathlib.Nat.{not-suc-le-zero}
 use native.Mathlib.Numerals.{add-one}
 use native.Mathlib.Omega.{arith}
 use native.Mathlib.Decide.{dec_lt}
-use mathlib.Core.Path.{◌≡◌, refl, sym, ap, ◌∙◌}
-use mathlib.Core.Logic.{◌⊎◌, inl, inr}
+use mathlib.Core.Path.{◌≡◌, refl, sym, ap, ◌∙◌, subst}
 use mathlib.Core.Bool.{Bool, true, false}
 use mathlib.Core.Option.{Option, none, some}
 use mathlib.Core.List.{List, [], ◌∷◌, ◌++◌, append-nil}
 use lib.ListN.{length, get_or, drop, drop_of_length-le}
 use lib.Seq.{drop-cons}
-use Rattle.system.specs.Limits.{variable, variables, side_words}
+use Rattle.system.specs.Limits.{variable, side_words}
 use Rattle.system.specs.Signature.{Signature, arity}
 use Rattle.sorts.specs.Sorts.{Sorts, offset, numbers_from, result_sort, argument_sorts}
 use Rattle.sorts.specs.SortCheck.{note, Checked, check, chain}
-use Rattle.sorts.specs.sides.Ran.{Ran, Noted, Mark, symbol, is_variable, Marked, most_entries}
+use Rattle.sorts.specs.sides.Ran.{Ran, Noted, MarkOf, Marked, most_entries}
+use Rattle.sorts.specs.declared.sides.Mark.{Mark}
+use Rattle.sorts.specs.declared.sides.Mark.TheVariants.{Symbol, Variable, Nothing}
+use Rattle.std.proofs.Common.{Some, None}
+use Rattle.std.proofs.Common.{Option as Found}
 use Rattle.sorts.proofs.Checking.{check-end, check-short, check-symbol, check-differ, check-variable, check-clash, check-append}
 use Rattle.sorts.proofs.sides.Lists.{noted-some, noted-none}
 
 -- ---- what a call handed back
 
-ran-some : (o : Option Checked) (ws : List ℕ) (p r : ℕ) (τ : List ℕ) → Ran o ws p r τ → (r ≡ 0 → ⊥) →
-    (p ≤ r) × (r ≤ length ws) × (o ≡ some (record { words = drop r ws; sorts = τ }))
-ran-some none ws p r τ h d = absurd (d h)
-ran-some (some x) ws p r τ h d = (h.1, h.2, (λ i. some (record { words = h.3 i; sorts = h.4 i })))
+ran-some : (o : Option Checked) (ws : List ℕ) (p : ℕ) (r : Found ℕ) (τ : List ℕ) → Ran o ws p r τ → (q : ℕ) → r ≡ Some q →
+    (p ≤ q) × (q ≤ length ws) × (o ≡ some (record { words = drop q ws; sorts = τ }))
+ran-some none ws p r τ h q e = cc
+ran-some (some x) ws p r τ h q e = let z = rw e at h.0 in (z.0, z.1, (λ i. some (record { words = z.2 i; sorts = h.1 i })))
 
-ran-none : (o : Option Checked) (ws : List ℕ) (p r : ℕ) (τ : List ℕ) → Ran o ws p r τ → r ≡ 0 → o ≡ none
+ran-none : (o : Option Checked) (ws : List ℕ) (p : ℕ) (r : Found ℕ) (τ : List ℕ) → Ran o ws p r τ → r ≡ None → o ≡ none
 ran-none none ws p r τ h e = refl
-ran-none (some x) ws p r τ h e = absurd (let z = h.0 in omega arith)
-
--- an index that is not 0 is the one behind the terms
-pub grown : {at r : ℕ} → (r ≡ 0) ⊎ ((at ≤ r) × (r ≤ side_words)) → (r ≡ 0 → ⊥) → (at ≤ r) × (r ≤ side_words)
-grown (inl e) d = absurd (d e)
-grown (inr h) d = h
+ran-none (some x) ws p r τ h e = absurd (rw e at h.0)
 
 -- ---- the loop: `due` terms are still to come, from p on, by the numbers from i on
 
 -- whatever the side: where it stands
-pub record Stands (at p i due : ℕ) (τ : List ℕ) : Type 0 where
-  pub first : 0 < p + due
+pub record Stands (at p i due : ℕ) : Type 0 where
   pub from : at ≤ p
   pub most : p ≤ side_words
   pub bound : i + due ≤ most_entries
-  pub size : length τ ≡ variables
 
 -- of a side: the check that was asked for is the one that is left
 pub record Going (g : Signature) (ks : Sorts) (ws τ₀ : List ℕ) (at k n p i due : ℕ) (τ : List ℕ) : Type 0 where
@@ -56,47 +52,27 @@ unfolding numbers_from
 numbers_more ks i zero h = absurd (not-suc-le-zero h)
 numbers_more ks i (suc n) h = ap (λ x. get_or ks i 0 ∷ x) (ap (λ j. numbers_from ks j n) (sym (add-one i)) ∙ ap (numbers_from ks (i + 1)) (let z : n ≡ suc n - 1 = omega arith in z))
 
--- which of its cases a mark is
-mark-symbol : {g : Signature} {w x a : ℕ} → Mark g w x a → (a ≡ variable → ⊥) → (w < variable) × (x ≡ offset g w) × (a ≡ arity g w)
-mark-symbol (symbol h q e l) d = (h, q, e)
-mark-symbol (is_variable h q e) d = absurd (d e)
-
-mark-variable : {g : Signature} {w x a : ℕ} → Mark g w x a → a ≡ variable → (variable ≤ w) × (x ≡ w - variable)
-mark-variable (symbol h q e l) d = absurd (omega arith)
-mark-variable (is_variable h q e) d = (h, q)
-
-mark-word : {g : Signature} {w x a : ℕ} → Mark g w x a → a < 65535
-mark-word (symbol h q e l) = omega arith
-mark-word (is_variable h q e) = omega arith
-
-module _ (ks : Sorts) (marks τ₀ : List ℕ) (at k n : ℕ) where
+module _ (ks : Sorts) (marks : List Mark) (τ₀ : List ℕ) (at k n : ℕ) where
   -- what is known at the loop's head
   pub record Loop (p i due : ℕ) (τ : List ℕ) : Type 0 where
-    pub stands : Stands at p i due τ
+    pub stands : Stands at p i due
     pub going : (g : Signature) (ws : List ℕ) → Marked g ws marks → at ≤ length ws → Going g ks ws τ₀ at k n p i due τ
 
   -- what is handed back
-  abbrev Handed : ℕ → List ℕ → Type 0
+  abbrev Handed : Found ℕ → List ℕ → Type 0
   Handed r τ = (g : Signature) (ws : List ℕ) → Marked g ws marks → at ≤ length ws → Ran (check g ks (drop at ws) (numbers_from ks k n) τ₀) ws at r τ
 
-  pub loop-starts : at ≤ side_words → 0 < at + n → k + n ≤ most_entries → length τ₀ ≡ variables → Loop at k n τ₀
-  loop-starts m f b z = record {
-    stands = record { first = f; from = omega arith; most = m; bound = b; size = z };
-    going = λ g ws d l. record { inside = l; same = refl };
-  }
-
   module _ {p i due : ℕ} {τ : List ℕ} (so : Loop p i due τ) where
-    pub loop-ends : due ≤ 0 → Handed p τ
+    pub loop-ends : due ≤ 0 → Handed (Some p) τ
     unfolding numbers_from
     loop-ends h g ws d l =
         let c = so.going g ws d l in
-        let s = so.stands in
         rw (c.same ∙ ap (λ d. check g ks (drop p ws) (numbers_from ks i d) τ) (let z : due ≡ 0 = omega arith in z) ∙ check-end g ks (drop p ws) τ)
-        ((let z = s.first in omega arith), s.from, c.inside, refl, refl)
+        ((so.stands.from, c.inside, refl), refl)
 
     module _ (more : 0 < due) where
       module _ (g : Signature) (ws : List ℕ) (d : Marked g ws marks) (l : at ≤ length ws) where
-        fails : check g ks (drop p ws) (numbers_from ks i due) τ ≡ none → (τ' : List ℕ) → Ran (check g ks (drop at ws) (numbers_from ks k n) τ₀) ws at 0 τ'
+        fails : check g ks (drop p ws) (numbers_from ks i due) τ ≡ none → (τ' : List ℕ) → Ran (check g ks (drop at ws) (numbers_from ks k n) τ₀) ws at None τ'
         fails e τ' = rw ((so.going g ws d l).same ∙ e) refl
 
         expects : numbers_from ks i due ≡ get_or ks i 0 ∷ numbers_from ks (i + 1) (due - 1)
@@ -114,93 +90,92 @@ module _ (ks : Sorts) (marks τ₀ : List ℕ) (at k n : ℕ) where
               ∙ ap (λ x. check g ks (get_or ws p 0 ∷ drop (p + 1) ws) x τ) expects
 
       -- no word is left
-      pub loop-full : side_words ≤ p → (τ' : List ℕ) → Handed 0 τ'
-      loop-full h τ' g ws d l = fails g ws d l (short g ws d l (let z = d.short in omega arith)) τ'
+      pub loop-full : length marks ≤ p → (τ' : List ℕ) → Handed None τ'
+      loop-full h τ' g ws d l = fails g ws d l (short g ws d l (let z = d.short in let y = d.size in omega arith)) τ'
 
-      module _ (inside : p < side_words) {x a : ℕ} (ex : x ≡ get_or marks (2 * p) 0) (ea : a ≡ get_or marks (2 * p + 1) 0) where
-        pub loop-short : a ≡ 65535 → (τ' : List ℕ) → Handed 0 τ'
-        loop-short h τ' g ws d l = elim (dec_lt p (length ws)) [
-          | yes m ↦ absurd (let z = mark-word (d.word p m) in omega arith)
+      module _ {f : Mark} (ef : f ≡ get_or marks p Nothing) where
+        pub loop-short : f ≡ Nothing → (τ' : List ℕ) → Handed None τ'
+        loop-short e τ' g ws d l = elim (dec_lt p (length ws)) [
+          | yes m ↦ absurd (subst (MarkOf g (get_or ws p 0)) (sym ef ∙ e) (d.word p m))
           | no m ↦ fails g ws d l (short g ws d l (omega arith)) τ'
         ]
 
-        within : (a ≡ 65535 → ⊥) → (g : Signature) (ws : List ℕ) → Marked g ws marks → p < length ws
-        within h g ws d = elim (dec_lt p (length ws)) [ yes m ↦ m | no m ↦ absurd (h (ea ∙ d.end p (omega arith) inside)) ]
+        -- another mark is that of a word
+        within : {m : Mark} → f ≡ m → (m ≡ Nothing → ⊥) → (g : Signature) (ws : List ℕ) → Marked g ws marks → (p < length ws) × MarkOf g (get_or ws p 0) m
+        within e other g ws d = elim (dec_lt p (length ws)) [
+          | yes l ↦ (l, subst (MarkOf g (get_or ws p 0)) (sym ef ∙ e) (d.word p l))
+          | no l ↦ absurd (other (sym e ∙ ef ∙ d.end p (omega arith)))
+        ]
 
-        module _ (some : a ≡ 65535 → ⊥) {e : ℕ} (ee : e ≡ get_or ks i 0) where
+        module _ {e : ℕ} (ee : e ≡ get_or ks i 0) where
           -- a variable
-          module _ (is_variable : a ≡ variable) (b : Bool) (τ' : List ℕ) (did : Noted (note τ x e) b τ') where
+          module _ {v x : ℕ} (is : f ≡ Variable v) (ex : x ≡ v) (b : Bool) (τ' : List ℕ) (did : Noted (note τ x e) b τ') where
+            marked-variable : (g : Signature) (ws : List ℕ) → Marked g ws marks → (p < length ws) × (variable ≤ get_or ws p 0) × (x ≡ get_or ws p 0 - variable)
+            marked-variable g ws d = let z = within is (λ q. cc) g ws d in (z.0, z.1.0, ex ∙ z.1.1)
+
             asks : (g : Signature) (ws : List ℕ) → Marked g ws marks → note τ x e ≡ note τ (get_or ws p 0 - variable) (get_or ks i 0)
-            asks g ws d =
-                let q : x ≡ get_or ws p 0 - variable = ex ∙ (mark-variable (d.word p (within some g ws d)) (sym ea ∙ is_variable)).1 in
-                (λ j. note τ (q j) (ee j))
+            asks g ws d = let q = (marked-variable g ws d).2 in (λ j. note τ (q j) (ee j))
 
-            above : (g : Signature) (ws : List ℕ) → Marked g ws marks → variable ≤ get_or ws p 0
-            above g ws d = (mark-variable (d.word p (within some g ws d)) (sym ea ∙ is_variable)).0
-
-            pub loop-clash : b ≡ false → (τ'' : List ℕ) → Handed 0 τ''
-            loop-clash z τ'' g ws d l = fails g ws d l
-                (here g ws d l (within some g ws d) ∙ check-clash g ks (get_or ws p 0) (get_or ks i 0) (drop (p + 1) ws) (numbers_from ks (i + 1) (due - 1)) τ (above g ws d)
+            pub loop-clash : b ≡ false → (τ'' : List ℕ) → Handed None τ''
+            loop-clash z τ'' g ws d l =
+                let m = marked-variable g ws d in
+                fails g ws d l
+                (here g ws d l m.0 ∙ check-clash g ks (get_or ws p 0) (get_or ks i 0) (drop (p + 1) ws) (numbers_from ks (i + 1) (due - 1)) τ m.1
                 (sym (asks g ws d) ∙ noted-none (note τ x e) b τ' did z)) τ''
 
-            pub loop-noted : length τ' ≡ variables → b ≡ true → Loop (p + 1) (i + 1) (due - 1) τ'
-            loop-noted size z = record {
+            pub loop-noted : p < side_words → b ≡ true → Loop (p + 1) (i + 1) (due - 1) τ'
+            loop-noted inside z = record {
               stands = (let s = so.stands in record {
-                first = omega arith;
                 from = (let y = s.from in omega arith);
                 most = omega arith;
                 bound = (let y = s.bound in omega arith);
-                size = size;
               });
-              going = λ g ws d l. (let m = within some g ws d in record {
-                inside = omega arith;
-                same = (so.going g ws d l).same ∙ here g ws d l m
-                    ∙ check-variable g ks (get_or ws p 0) (get_or ks i 0) (drop (p + 1) ws) (numbers_from ks (i + 1) (due - 1)) τ (above g ws d) τ'
+              going = λ g ws d l. (let m = marked-variable g ws d in record {
+                inside = (let y = m.0 in omega arith);
+                same = (so.going g ws d l).same ∙ here g ws d l m.0
+                    ∙ check-variable g ks (get_or ws p 0) (get_or ks i 0) (drop (p + 1) ws) (numbers_from ks (i + 1) (due - 1)) τ m.1 τ'
                     (sym (asks g ws d) ∙ noted-some (note τ x e) b τ' did z);
               });
             }
 
           -- a symbol
-          module _ (is_symbol : a ≡ variable → ⊥) {y : ℕ} (ey : y ≡ get_or ks x 0) where
-            marked : (g : Signature) (ws : List ℕ) → Marked g ws marks → (get_or ws p 0 < variable) × (x ≡ offset g (get_or ws p 0)) × (a ≡ arity g (get_or ws p 0))
-            marked g ws d =
-                let c = mark-symbol (d.word p (within some g ws d)) (λ z. is_symbol (ea ∙ z)) in
-                (c.0, ex ∙ c.1, ea ∙ c.2)
+          module _ {s t x : ℕ} (is : f ≡ Symbol s t) (ex : x ≡ s) {y : ℕ} (ey : y ≡ get_or ks x 0) where
+            marked : (g : Signature) (ws : List ℕ) → Marked g ws marks →
+                (p < length ws) × (get_or ws p 0 < variable) × (x ≡ offset g (get_or ws p 0)) × (t ≡ arity g (get_or ws p 0))
+            marked g ws d = let z = within is (λ q. cc) g ws d in (z.0, z.1.0, ex ∙ z.1.1, z.1.2)
 
             result : (g : Signature) (ws : List ℕ) → Marked g ws marks → result_sort g ks (get_or ws p 0) ≡ y
             unfolding result_sort
-            result g ws d = ap (λ j. get_or ks j 0) (sym (marked g ws d).1) ∙ sym ey
+            result g ws d = ap (λ j. get_or ks j 0) (sym (marked g ws d).2) ∙ sym ey
 
-            pub loop-differs : (y ≡ e → ⊥) → (τ' : List ℕ) → Handed 0 τ'
-            loop-differs c τ' g ws d l = fails g ws d l
-                (here g ws d l (within some g ws d) ∙ check-differ g ks (get_or ws p 0) (get_or ks i 0) (drop (p + 1) ws) (numbers_from ks (i + 1) (due - 1)) τ (marked g ws d).0
+            pub loop-differs : (y ≡ e → ⊥) → (τ' : List ℕ) → Handed None τ'
+            loop-differs c τ' g ws d l = let m = marked g ws d in fails g ws d l
+                (here g ws d l m.0 ∙ check-differ g ks (get_or ws p 0) (get_or ks i 0) (drop (p + 1) ws) (numbers_from ks (i + 1) (due - 1)) τ m.1
                 (λ z. c (sym (result g ws d) ∙ z ∙ sym ee))) τ'
 
-            module _ (z : y ≡ e) where
+            module _ (z : y ≡ e) {a : ℕ} (ea : a ≡ t) where
               arguments : (g : Signature) (ws : List ℕ) → Marked g ws marks → argument_sorts g ks (get_or ws p 0) ≡ numbers_from ks (x + 1) a
               unfolding argument_sorts
               arguments g ws d =
-                  (λ j. numbers_from ks (suc (sym (marked g ws d).1 j)) (sym (marked g ws d).2 j)) ∙ ap (λ j. numbers_from ks j a) (sym (add-one x))
+                  (λ j. numbers_from ks (suc (sym (marked g ws d).2 j)) (sym (ea ∙ (marked g ws d).3) j)) ∙ ap (λ j. numbers_from ks j a) (sym (add-one x))
 
               down : (g : Signature) (ws : List ℕ) → Marked g ws marks → at ≤ length ws →
                   check g ks (drop at ws) (numbers_from ks k n) τ₀ ≡ check g ks (drop (p + 1) ws) (numbers_from ks (x + 1) a ++ numbers_from ks (i + 1) (due - 1)) τ
               down g ws d l =
-                  (so.going g ws d l).same ∙ here g ws d l (within some g ws d)
-                  ∙ check-symbol g ks (get_or ws p 0) (get_or ks i 0) (drop (p + 1) ws) (numbers_from ks (i + 1) (due - 1)) τ (marked g ws d).0 (result g ws d ∙ z ∙ ee)
+                  (so.going g ws d l).same ∙ here g ws d l (marked g ws d).0
+                  ∙ check-symbol g ks (get_or ws p 0) (get_or ks i 0) (drop (p + 1) ws) (numbers_from ks (i + 1) (due - 1)) τ (marked g ws d).1 (result g ws d ∙ z ∙ ee)
                   ∙ ap (λ es. check g ks (drop (p + 1) ws) (es ++ numbers_from ks (i + 1) (due - 1)) τ) (arguments g ws d)
 
               -- it is the last of the terms: the loop goes on with its arguments
-              pub loop-last : x ≤ 65535 → a ≤ 65535 → due ≡ 1 → Loop (p + 1) (x + 1) a τ
+              pub loop-last : p < side_words → x ≤ 65535 → a ≤ 65535 → due ≡ 1 → Loop (p + 1) (x + 1) a τ
               unfolding numbers_from
-              loop-last bx ba one = record {
+              loop-last inside bx ba one = record {
                 stands = (let s = so.stands in record {
-                  first = omega arith;
                   from = (let y = s.from in omega arith);
                   most = omega arith;
                   bound = omega arith;
-                  size = s.size;
                 });
-                going = λ g ws d l. (let m = within some g ws d in record {
+                going = λ g ws d l. (let m = (marked g ws d).0 in record {
                   inside = omega arith;
                   same = down g ws d l
                       ∙ ap (λ m. check g ks (drop (p + 1) ws) (numbers_from ks (x + 1) a ++ numbers_from ks (i + 1) m) τ) (let c : due - 1 ≡ 0 = omega arith in c)
@@ -209,31 +184,29 @@ module _ (ks : Sorts) (marks τ₀ : List ℕ) (at k n : ℕ) where
               }
 
               -- others wait behind it: its arguments are checked by a call
-              module _ (r : ℕ) (τ' : List ℕ) (ran : (g : Signature) (ws : List ℕ) → Marked g ws marks → p + 1 ≤ length ws →
+              module _ (r : Found ℕ) (τ' : List ℕ) (ran : (g : Signature) (ws : List ℕ) → Marked g ws marks → p + 1 ≤ length ws →
                   Ran (check g ks (drop (p + 1) ws) (numbers_from ks (x + 1) a) τ) ws (p + 1) r τ') where
                 over : (g : Signature) (ws : List ℕ) → Marked g ws marks → at ≤ length ws → check g ks (drop at ws) (numbers_from ks k n) τ₀
                     ≡ chain (check g ks (drop (p + 1) ws) (numbers_from ks (x + 1) a) τ) (λ c. check g ks c.words (numbers_from ks (i + 1) (due - 1)) c.sorts)
                 over g ws d l = down g ws d l ∙ check-append g ks (drop (p + 1) ws) (numbers_from ks (x + 1) a) (numbers_from ks (i + 1) (due - 1)) τ
 
                 called : (g : Signature) (ws : List ℕ) → Marked g ws marks → Ran (check g ks (drop (p + 1) ws) (numbers_from ks (x + 1) a) τ) ws (p + 1) r τ'
-                called g ws d = ran g ws d (let m = within some g ws d in omega arith)
+                called g ws d = ran g ws d (let m = (marked g ws d).0 in omega arith)
 
-                pub loop-fails : r ≡ 0 → (τ'' : List ℕ) → Handed 0 τ''
+                pub loop-fails : r ≡ None → (τ'' : List ℕ) → Handed None τ''
                 loop-fails c τ'' g ws d l =
                     rw (over g ws d l ∙ ap (λ c. chain c (λ c. check g ks c.words (numbers_from ks (i + 1) (due - 1)) c.sorts))
                     (ran-none (check g ks (drop (p + 1) ws) (numbers_from ks (x + 1) a) τ) ws (p + 1) r τ' (called g ws d) c)) refl
 
-                pub loop-on : p + 1 ≤ r → r ≤ side_words → length τ' ≡ variables → (r ≡ 0 → ⊥) → Loop r (i + 1) (due - 1) τ'
-                loop-on low high size c = record {
+                pub loop-on : {q : ℕ} → r ≡ Some q → p + 1 ≤ q → q ≤ side_words → Loop q (i + 1) (due - 1) τ'
+                loop-on {q} c low high = record {
                   stands = (let s = so.stands in record {
-                    first = omega arith;
                     from = (let y = s.from in omega arith);
                     most = high;
                     bound = (let y = s.bound in omega arith);
-                    size = size;
                   });
-                  going = λ g ws d l. (let q = ran-some (check g ks (drop (p + 1) ws) (numbers_from ks (x + 1) a) τ) ws (p + 1) r τ' (called g ws d) c in record {
-                    inside = q.1;
-                    same = over g ws d l ∙ ap (λ c. chain c (λ c. check g ks c.words (numbers_from ks (i + 1) (due - 1)) c.sorts)) q.2;
+                  going = λ g ws d l. (let z = ran-some (check g ks (drop (p + 1) ws) (numbers_from ks (x + 1) a) τ) ws (p + 1) r τ' (called g ws d) q c in record {
+                    inside = z.1;
+                    same = over g ws d l ∙ ap (λ c. chain c (λ c. check g ks c.words (numbers_from ks (i + 1) (due - 1)) c.sorts)) z.2;
                   });
                 }

@@ -80,6 +80,13 @@ module _ {ws₀ qs ws : List ℕ} {d e j : ℕ} (v : Raisable ws₀ qs d e) (r :
             };
           }
 
+    -- what is asked for the next one, and what is kept then
+    pub raising-asks : (term_words + q < length ws) × (d ≤ get_or ws (term_words + q) 0) × (get_or ws (term_words + q) 0 - d + e ≤ 65535)
+    raising-asks = (raising-slot, raising-less (get_or ws (term_words + q) 0) refl, raising-fits (get_or ws (term_words + q) 0) refl)
+
+    pub raising-next : {ws' : List ℕ} → ws' ≡ set ws (term_words + q) (get_or ws (term_words + q) 0 - d + e) → Raising ws₀ qs d e ws' (j + 1)
+    raising-next s = subst (λ z. Raising ws₀ qs d e z (j + 1)) (sym s) (raising-turn (get_or ws (term_words + q) 0) refl)
+
 -- ---- some of them first, and then the others
 
 module _ {ws : List ℕ} (ps qs : List ℕ) {d e : ℕ} (v : Raisable ws (ps ++ qs) d e) where

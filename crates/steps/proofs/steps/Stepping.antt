@@ -1,17 +1,19 @@
 -- A step of the machine in an area of words: the way to its position, what is asked for the rewrite, and the end of it where the term would be too
 -- long. (Where it is done: Rewrote.)
-use Prim.Native.Nat.{ℕ, ◌≤◌, ◌<◌}
+use Prim.Native.Nat.{ℕ, ◌-◌, ◌≤◌, ◌<◌}
 use native.Mathlib.Omega.{arith}
-use mathlib.Core.Path.{◌≡◌, refl, sym, ◌∙◌, subst, subst₂}
+use mathlib.Core.Path.{◌≡◌, refl, sym, ap, ◌∙◌, subst, subst₂}
 use mathlib.Core.Bool.{Bool, true, false}
 use mathlib.Core.List.{List, ◌++◌}
 use lib.ListN.{length, get_or, take, drop, length-append, length-drop}
-use lib.Seq.{ext_get_or, get_or-take, length-take-le}
-use Rattle.system.specs.Limits.{levels, term_words}
+use lib.Seq.{ext_get_or, get_or-take, take_all, length-take-le}
+use Rattle.buffers.specs.moves.Parts.{part}
+use Rattle.system.specs.Limits.{levels, variables, term_words}
 use Rattle.system.specs.Signature.{Signature, span}
 use Rattle.system.specs.System.{System}
 use Rattle.system.specs.Terms.{WellFormed}
-use Rattle.reader.specs.Book.{system_of}
+use Rattle.reader.specs.declared.Shape.{Shape}
+use Rattle.reader.specs.Book.{system_of, Accepted}
 use Rattle.layout.proofs.Books.{well}
 use Rattle.rows.specs.declared.gap.Gap.{Gap}
 use Rattle.rows.specs.Rows.{term_in, lengths_in}
@@ -19,6 +21,7 @@ use Rattle.rows.specs.Measured.{Measured}
 use Rattle.rows.proofs.lengths.Measures.{measured-length, words-length}
 use Rattle.redexes.specs.declared.search.Redex.{Redex}
 use Rattle.matching.specs.Matching.{Contraction}
+use Rattle.matching.specs.rules.Searches.{reduct_length}
 use Rattle.reducts.specs.declared.putting.Reduced.{Reduced}
 use Rattle.reducts.specs.declared.putting.Subterm.{Subterm}
 use Rattle.reducts.specs.putting.Replaced.{TooLong, Placed, Kept}
@@ -28,7 +31,7 @@ use Rattle.rewriting.proofs.Aboves.{above-position, above-length}
 use Rattle.rewriting.proofs.Ways.{way-room}
 use Rattle.rewriting.proofs.Everywhere.{every-formed, every-opened}
 use Rattle.machine.specs.declared.advance.State.{State}
-use Rattle.machine.specs.advance.Area.{base_of, outer_in, count_in, Valid}
+use Rattle.machine.specs.advance.Area.{base_of, outer_in, count_in, frame_words, Valid}
 use Rattle.rewrites.specs.rewrites.Rewritten.{Reducible, rewritten, Rewritten, done, long, Rewrites}
 use Rattle.steps.specs.steps.Raised.{way_in}
 use Rattle.steps.specs.steps.Stepped as to
@@ -55,7 +58,7 @@ left {s} {ws} {gap} {u} {x} {ws₁} (long many gap' q kept) = subst (Left s ws g
 
 -- ---- the step
 
-module _ {book index ws positions : List ℕ} {state : State} {n : ℕ} {m : Redex} (v : Steppable book index ws positions state n m) where
+module _ {book ws positions : List ℕ} {shape : Shape} {state : State} {n : ℕ} {m : Redex} (acc : Accepted book shape) (v : Steppable book ws positions state n m) where
   abbrev s : System
   s = system_of book
 
@@ -91,10 +94,10 @@ module _ {book index ws positions : List ℕ} {state : State} {n : ℕ} {m : Red
   step-levels = v.tracks.represents.levels
 
   pub step-formed : WellFormed s
-  step-formed = well book v.shape v.accepted
+  step-formed = well book shape acc
 
   pub step-bounds : Bounds ws positions gap base level
-  step-bounds = bounds book v.shape v.accepted ws positions gap base level v.tracks
+  step-bounds = bounds book shape acc ws positions gap base level v.tracks
 
   around-length : length way ≡ level
   around-length = let b = step-bounds in length-take-le level positions (omega arith)
@@ -108,7 +111,7 @@ module _ {book index ws positions : List ℕ} {state : State} {n : ℕ} {m : Red
   -- and the whole way to it
   pub step-way : Way (every_argument s) t (way_in ws n ++ way) p
   step-way =
-      subst₂ (λ y z. Way (every_argument s) t (way_in ws n ++ y) z) way_above (sym (spot book v.shape v.accepted ws positions gap base level v.tracks))
+      subst₂ (λ y z. Way (every_argument s) t (way_in ws n ++ y) z) way_above (sym (spot book shape acc ws positions gap base level v.tracks))
       (every-opened s step-formed v.way step-valid.opened)
 
   pub step-every : WellFormed (every_argument s)
@@ -121,6 +124,18 @@ module _ {book index ws positions : List ℕ} {state : State} {n : ℕ} {m : Red
   pub step-few : (n ≤ base) × (base ≤ term_words)
   step-few = let b = step-bounds in (omega (arith, way-room v.way, way-length ws n), omega (arith, b.apart))
 
+  -- the width that is read where the frame says that it starts
+  pub step-reads : {at width : ℕ} → at ≡ p → width ≡ get_or (lengths_in ws gap) at 0 → width ≡ get_or (lengths_in ws gap) p 0
+  step-reads e q = q ∙ ap (λ i. get_or (lengths_in ws gap) i 0) e
+
+  -- the bindings, behind the levels
+  pub step-bindings : drop levels positions ≡ part levels (frame_words - levels) positions
+  step-bindings = let b = step-bounds in sym (take_all (frame_words - levels) (drop levels positions) (omega (arith, length-drop levels positions, b.slots)))
+
+  pub step-counted : (side : List ℕ) {size : ℕ} → size ≡ reduct_length (drop variables (part levels (frame_words - levels) positions)) side →
+      size ≡ reduct_length (drop variables (drop levels positions)) side
+  step-counted side e = e ∙ ap (λ y. reduct_length (drop variables y) side) (sym step-bindings)
+
   module _ (width : ℕ) (read : width ≡ get_or (lengths_in ws gap) p 0) where
     abbrev u : Subterm
     u = record { level = level; at = p; width = width }
@@ -128,11 +143,8 @@ module _ {book index ws positions : List ℕ} {state : State} {n : ℕ} {m : Red
     pub step-wide : width ≡ span g (drop p t) 1
     step-wide = read ∙ measured-length v.tracks.represents.measured p
 
-    pub step-reducible : Reducible book index ws gap u m (drop levels positions)
+    pub step-reducible : Reducible book ws gap u m (drop levels positions)
     step-reducible = record {
-      shape = v.shape;
-      accepted = v.accepted;
-      indexed = v.indexed;
       total = v.tracks.represents.total;
       measured = v.tracks.represents.measured;
       whole = step-valid.whole;
@@ -151,7 +163,7 @@ module _ {book index ws positions : List ℕ} {state : State} {n : ℕ} {m : Red
     step-long {r} {ws₁} rewrites q x f = let y = subst (LeftAs s ws gap u x ws₁ r) q (left (rewrites x f)) in to.long y.0 r.gap y.1 y.2
 
 -- the lengths are true after a step, and where it would leave too many words
-pub steps-measured : {book index ws positions : List ℕ} {state : State} {n : ℕ} {m : Redex} (q : Steppable book index ws positions state n m) {r : Reduced} {ws' : List ℕ} →
+pub steps-measured : {book ws positions : List ℕ} {state : State} {n : ℕ} {m : Redex} (q : Steppable book ws positions state n m) {r : Reduced} {ws' : List ℕ} →
     Steps book ws positions state r ws' → Steps book ws positions state r ws' × Measured (system_of book).arities ws' r.gap
 steps-measured {book} {ws = ws} {positions = positions} {state = state} q {r} {ws'} h = (h, go (h q.x q.contracts))
   where

@@ -1,12 +1,10 @@
 -- A step of the machine in an area: "the right side, so filled, replaces the part .. Evaluation starts anew there at the same level".
-use Rattle.std.specs.Prelude.{ℕ, ◌≤◌, ◌<◌, ◌≡◌, List, [], ◌∷◌, ◌++◌, length, get_or, drop}
+use Rattle.std.specs.Prelude.{ℕ, ◌≤◌, ◌<◌, ◌≡◌, List, [], ◌∷◌, ◌++◌, length, get_or, drop, Some}
 use Rattle.std.proofs.Math.Option.{some}
-use Rattle.reader.specs.declared.Shape.{Shape}
 use Rattle.system.specs.Limits.{levels, term_words}
 use Rattle.system.specs.Signature.{replace}
 use Rattle.system.specs.System.{System}
-use Rattle.reader.specs.Book.{system_of, Accepted}
-use Rattle.layout.specs.index.Index.{Indexed}
+use Rattle.reader.specs.Book.{system_of}
 use Rattle.rows.specs.declared.gap.Gap.{Gap}
 use Rattle.rows.specs.Rows.{term_in}
 use Rattle.rewriting.specs.Ways.{Way, every_argument}
@@ -28,13 +26,10 @@ abbrev pub subterm_here : List ℕ → List ℕ → State → List ℕ
 subterm_here ws positions state = drop (here positions state) (term_in ws state.gap)
 
 -- the area holds a state, with the way of n symbols to its base, and m is the match that was found at its innermost level
-pub record Steppable (book index ws positions : List ℕ) (state : State) (n : ℕ) (m : Redex) : Type 0 where
-  pub shape : Shape
-  pub accepted : Accepted book shape
-  pub indexed : Indexed book shape index
+pub record Steppable (book ws positions : List ℕ) (state : State) (n : ℕ) (m : Redex) : Type 0 where
   pub tracks : Tracks (system_of book) ws positions state.gap (base_of positions) state.level
   pub way : Way (every_argument (system_of book)) (term_in ws state.gap) (way_in ws n) (base_of positions)
-  pub match : m ≡ redex_of (system_of book) (subterm_here ws positions state)
+  pub match : redex_of (system_of book) (subterm_here ws positions state) ≡ Some m
   pub bound : Bound (match_of (system_of book) (subterm_here ws positions state)) (drop levels positions)
   pub x : Contraction
   pub contracts : contraction (system_of book) (subterm_here ws positions state) ≡ some x

@@ -1,22 +1,24 @@
 -- The variables of a side, counted word by word, and the counts of two sides compared.
-use Prim.Native.Nat.{ℕ, ◌+◌, ◌-◌, ◌≤◌, ◌<◌}
+use Prim.Native.Nat.{ℕ, zero, suc, ◌+◌, ◌-◌, ◌≤◌, ◌<◌}
+use native.Mathlib.Numerals.{add-one}
 use native.Mathlib.Omega.{arith}
 use native.Mathlib.Decide.{ℕ_discrete}
-use mathlib.Core.Path.{◌≡◌, sym, ◌∙◌}
-use mathlib.Core.Bool.{true, false}
+use mathlib.Core.Path.{◌≡◌, refl, sym, ap, ◌∙◌}
 use mathlib.Core.List.{List, []}
 use lib.ListN.{length, get_or, set, take, replicate, length-set, length-replicate, get_or-replicate}
-use lib.Seq.{get_or-set_same, get_or-set_other}
+use lib.Seq.{get_or-set_same, get_or-set_other, take_all}
 use lib.Dec.{leb}
-use borrow.Author.Tests.{le-leb, lt-leb}
+use Rattle.std.specs.List.{list_all, zip}
+use Rattle.std.proofs.lemmas.List.Folds.{list_all_more}
+use Rattle.std.proofs.lemmas.Slice.Zip.{length-zip, get_or-zip}
 use Rattle.system.specs.Limits.{side_words, variable, variables}
 use Rattle.system.specs.System.{Rule}
 use Rattle.matching.specs.rules.Searches.{NumberedSide}
 use Rattle.system.specs.Terms.{occurs}
 use Rattle.termination.specs.WeightTest.{keeps_at, below}
-use Rattle.termination.specs.falling.Counts.{Counts, covers}
+use Rattle.termination.specs.falling.Counts.{Counts}
 use Rattle.system.proofs.Occurrences.{occurs-nil, occurs-next, occurs-skip, occurs-take, occurs-length}
-use Rattle.termination.proofs.Decides.{below_none, below_next, below_fails, below-same}
+use Rattle.termination.proofs.Decides.{below-same}
 
 -- ---- the words of a side
 
@@ -28,9 +30,8 @@ counts_start = record {
 }
 
 -- the number of a variable that stands in a side
-pub numbered : {side : List ℕ} → NumberedSide side → {j w : ℕ} → j < length side → w ≡ get_or side j 0 → variable ≤ w →
-    (get_or side j 0 ≡ variable + (w - variable)) × (w - variable < variables)
-numbered s {j} l e h = let z = s.known j l in (omega arith, omega arith)
+pub numbered : {side : List ℕ} → NumberedSide side → {j : ℕ} → j < length side → variable ≤ get_or side j 0 → get_or side j 0 - variable < variables
+numbered s {j} l h = let z = s.known j l in omega arith
 
 -- one word more
 module _ (ws : List ℕ) (j : ℕ) (h : j < length ws) {counts : List ℕ} (c : Counts (take j ws) counts) where
@@ -73,26 +74,22 @@ count_small ws side k {counts} c v l =
 
 -- ---- the counts of two sides
 
-module _ (most counts : List ℕ) where
-  -- the counts before number v are covered
-  abbrev pub Covered : ℕ → Type 0
-  Covered v = below (λ u. leb (get_or counts u 0) (get_or most u 0)) v ≡ true
+-- the first n pairs of two lists, compared
+pairs : (xs ys : List ℕ) (n : ℕ) → n ≤ length xs → n ≤ length ys →
+    list_all (λ p. leb p.0 p.1) (take n (zip xs ys)) ≡ below (λ v. leb (get_or xs v 0) (get_or ys v 0)) n
+unfolding below
+pairs xs ys zero a b = refl
+pairs xs ys (suc n) a b =
+    ap (λ k. list_all (λ p. leb p.0 p.1) (take k (zip xs ys))) (sym (add-one n))
+    ∙ list_all_more (λ p. leb p.0 p.1) (zip xs ys) n (0, 0) (let z = length-zip xs ys in omega arith)
+    ∙ rw (pairs xs ys n (omega arith) (omega arith), get_or-zip xs ys n (0, 0) (omega arith) (omega arith)) refl
 
-  pub covered_none : Covered 0
-  covered_none = below_none _
-
-  pub covered_next : (v : ℕ) → Covered v → get_or counts v 0 ≤ get_or most v 0 → Covered (v + 1)
-  covered_next v c l = below_next _ v c (le-leb _ _ l)
-
-  pub covered-all : Covered variables → covers most counts ≡ true
-  unfolding covers
-  covered-all c = c
-
-  pub covered-fails : (v : ℕ) → v < variables → get_or most v 0 < get_or counts v 0 → covers most counts ≡ false
-  unfolding covers
-  covered-fails v k l = below_fails _ v variables k (lt-leb _ _ l)
-
--- the left side's counts cover the right side's exactly where the rule keeps its variables
-pub covers-keeps : (r : Rule) (left right : List ℕ) → Counts r.lhs left → Counts r.rhs right → covers left right ≡ below (keeps_at r) variables
-unfolding covers keeps_at
-covers-keeps r left right a b = below-same _ _ variables (λ v l. rw (a.each v l, b.each v l))
+-- the left side's counts are nowhere below the right side's exactly where the rule keeps its variables
+pub counts-keep : (r : Rule) {left right : List ℕ} → Counts r.lhs left → Counts r.rhs right →
+    list_all (λ p. leb p.0 p.1) (zip right left) ≡ below (keeps_at r) variables
+unfolding keeps_at
+counts-keep r {left} {right} a b =
+    let x = a.total in
+    let y = b.total in
+    ap (list_all (λ p. leb p.0 p.1)) (sym (take_all variables (zip right left) (let z = length-zip right left in omega arith)))
+    ∙ pairs right left variables (omega arith) (omega arith) ∙ below-same _ _ variables (λ v l. rw (a.each v l, b.each v l))

@@ -5,16 +5,20 @@ use mathlib.Core.Path.{◌≡◌, sym, ap, ◌∙◌}
 use mathlib.Core.Option.{some}
 use lib.ListN.{length}
 use Rattle.reader.specs.Answers.{argument_at}
+use Rattle.system.proofs.Taken.{number-taken, number-untaken}
 use Rattle.system.proofs.words.SpanSteps.{tail, tail-length}
 use Rattle.terms.proofs.Answering.{CheckedTerm, checked, argument-refused, argument-zero, argument-beyond, argument-there, tells_none, tells-some}
 use Rattle.terms.proofs.argument_span.Goals as goal
-use Rattle.terms.proofs.argument_span.Goals.{After-spans-start, Else-c-ne-TAKEN}
+use Rattle.terms.proofs.argument_span.Goals.{After-spans-start, Else-not-is_taken}
+use Rattle.terms.proofs.argument_span.Goals.{then-not-is_taken-via-then-not-is_taken as refused}
+use Rattle.terms.proofs.argument_span.Goals.{then-not-is_taken-via-else-not-is_taken+then-i-eq0 as none_asked}
+use Rattle.terms.proofs.argument_span.Goals.{then-not-is_taken-via-else-not-is_taken+else-i-eq0+then-arity-i as beyond}
 
-whole : (c : Else-c-ne-TAKEN) → let a = c.args in CheckedTerm a.book.now a.term.now
-whole c = checked _ _ (sym (ap (λ s. s.number) c.check_term-c.ensures) ∙ c.if-c-ne-TAKEN.false)
+whole : (c : Else-not-is_taken) → let a = c.args in CheckedTerm a.book.now a.term.now
+whole c = checked _ _ (sym (ap (λ s. s.number) c.check_term-c.ensures) ∙ number-taken c.is_taken.ensures c.if-not-is_taken.false)
 
 whole' : (c : After-spans-start) → let a = c.args in CheckedTerm a.book.now a.term.now
-whole' c = checked _ _ (sym (ap (λ s. s.number) c.check_term-c.ensures) ∙ c.if-c-ne-TAKEN.false)
+whole' c = checked _ _ (sym (ap (λ s. s.number) c.check_term-c.ensures) ∙ number-taken c.is_taken.ensures c.if-not-is_taken.false)
 
 starts : (c : After-spans-start) → 1 + c.spans-start.result ≤ length c.args.term.now
 starts c =
@@ -24,36 +28,28 @@ starts c =
 
 -- ---- the goals
 
-pub returns-then-c-ne-TAKEN : goal.returns-then-c-ne-TAKEN
-returns-then-c-ne-TAKEN c =
+pub returns-then-not-is_taken : goal.returns-then-not-is_taken
+returns-then-not-is_taken c =
     let a = c.args in
-    let k = c.check_term-c in
-    let told = tells_none a.book.now a.term.now a.i
-    (argument-refused a.book.now a.term.now a.i (λ z. c.if-c-ne-TAKEN.true (ap (λ s. s.number) k.ensures ∙ z))) in
-    record { value = told.0; within = told.1 }
-
-pub returns-then-i-eq0 : goal.returns-then-i-eq0
-returns-then-i-eq0 c =
-    let a = c.args in
-    let told = tells_none a.book.now a.term.now a.i (argument-zero a.book.now a.term.now (whole (goal.at.returns-then-i-eq0 c).Else-c-ne-TAKEN) a.i c.if-i-eq0.true) in
+    let ws = a.book.now in
+    let t = a.term.now in
+    let n = ap (λ s. s.number) c.check_term-c.ensures in
+    let told = tells_none ws t a.i (elim c.then-not-is_taken.branch [
+      | refused w ↦ argument-refused ws t a.i (λ z. number-untaken c.is_taken.ensures w.if-not-is_taken.true (n ∙ z))
+      | none_asked w ↦ argument-zero ws t (checked _ _ (sym n ∙ number-taken c.is_taken.ensures w.if-not-is_taken.false)) a.i w.if-i-eq0.true
+      | beyond w ↦ argument-beyond ws t (checked _ _ (sym n ∙ number-taken c.is_taken.ensures w.if-not-is_taken.false)) a.i (let h = w.if-i-eq0.false in omega arith)
+          (let h = w.if-arity-i.true in let r = w.arity.ensures.0 in omega arith)
+    ]) in
     record { value = told.0; within = told.1 }
 
 pub bounds-term-0 : goal.bounds-term-0
-bounds-term-0 c = (whole (goal.at.bounds-term-0 c).Else-c-ne-TAKEN).some_words
-
-pub returns-then-arity-i : goal.returns-then-arity-i
-returns-then-arity-i c =
-    let a = c.args in
-    let r = c.arity.ensures.0 in
-    let told = tells_none a.book.now a.term.now a.i
-    (argument-beyond a.book.now a.term.now (whole (goal.at.returns-then-arity-i c).Else-c-ne-TAKEN) a.i (omega arith) (omega arith)) in
-    record { value = told.0; within = told.1 }
+bounds-term-0 c = (whole (goal.at.bounds-term-0 c).Else-not-is_taken).some_words
 
 pub slice_bounds-spans-count : goal.slice_bounds-spans-count
-slice_bounds-spans-count c = (whole (goal.at.slice_bounds-spans-count c).Else-c-ne-TAKEN).some_words
+slice_bounds-spans-count c = (whole (goal.at.slice_bounds-spans-count c).Else-not-is_taken).some_words
 
 pub slice_bounds-spans-start : goal.slice_bounds-spans-start
-slice_bounds-spans-start c = (whole (goal.at.slice_bounds-spans-start c).Else-c-ne-TAKEN).some_words
+slice_bounds-spans-start c = (whole (goal.at.slice_bounds-spans-start c).Else-not-is_taken).some_words
 
 pub slice_bounds-span-count : goal.slice_bounds-span-count
 slice_bounds-span-count c = starts c
@@ -68,6 +64,6 @@ returns c =
     let r = c.arity.ensures.0 in
     let s = c.spans-start in
     let e : argument_at a.book.now t a.i ≡ some (1 + s.result) =
-    argument-there a.book.now t (whole (goal.at.returns c).Else-c-ne-TAKEN) a.i (omega arith) (omega arith) ∙ ap (λ m. some (1 + m)) (sym (rw tail at s.ensures.0)) in
+    argument-there a.book.now t (whole (goal.at.returns c).Else-not-is_taken) a.i (omega arith) (omega arith) ∙ ap (λ m. some (1 + m)) (sym (rw tail at s.ensures.0)) in
     let told = tells-some a.book.now t a.i (1 + s.result) c.span-length.result e (starts (goal.at.returns c).After-spans-start) c.span-length.ensures.0 c.span-length.ensures.1 in
     record { value = told.0; within = told.1 }

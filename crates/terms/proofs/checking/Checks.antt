@@ -1,31 +1,33 @@
--- The check of a term against a book that was scanned: the book decides first, then the term.
+-- The check of a term against a book: the book decides first, then the term.
 use Prim.Native.Nat.{ℕ}
-use mathlib.Core.Path.{◌≡◌, refl, sym, ap, ◌∙◌}
+use native.Mathlib.Omega.{arith}
+use mathlib.Core.Path.{◌≡◌, refl, ap}
+use mathlib.Core.Option.{Option, none, some}
 use mathlib.Core.List.{List}
-use Rattle.system.specs.declared.Answer.{Answer}
-use Rattle.reader.specs.declared.scan.Scan.{Scan}
+use Rattle.std.specs.Prelude.{Some, None}
+use Rattle.system.specs.declared.numbers.Fault.{Fault}
 use Rattle.system.specs.System.{System}
-use Rattle.reader.specs.Parser.{Parsed, ok, fault, read}
+use Rattle.reader.specs.Parser.{ok, fault, read}
 use Rattle.system.specs.TermCheck.{term_fault}
-use Rattle.reader.specs.Answers.{whole_answer, term_answer}
+use Rattle.reader.specs.Answers.{answer_of, whole_answer, term_answer}
 use Rattle.system.specs.Signature.{signature_of}
-use Rattle.reader.specs.scan.Sections.{scan_of}
-use Rattle.system.proofs.FaultNumbers.{fault-not-zero}
+use Rattle.reader.specs.scan.Sections.{found}
 use Rattle.reader.proofs.Located.{read-signature}
 
-module _ (ws : List ℕ) (s : Scan) (is : s ≡ scan_of (read ws)) (t : List ℕ) where
-  pub term-refused : (s.answer.number ≡ 0 → ⊥) → s.answer ≡ term_answer ws t
+module _ (ws t : List ℕ) where
+  pub term-refused : {f : Fault} {i : ℕ} → read ws ≡ fault f i → term_answer ws t ≡ answer_of (fault f i)
   unfolding term_answer
-  term-refused bad = go (read ws) refl is
-    where
-      go : (o : Parsed System) → read ws ≡ o → s ≡ scan_of o → s.answer ≡ term_answer ws t
-      go (ok x i) q e = absurd (bad (ap (λ y. y.answer.number) e))
-      go (fault f i) q e = rw (q, term_answer) (ap (λ y. y.answer) e)
+  term-refused e = rw (e, term_answer)
 
-  pub term-checked : s.answer.number ≡ 0 → (b : Answer) → b ≡ whole_answer t (term_fault (signature_of ws) 1 t 0) → b ≡ term_answer ws t
+  pub term-checked : {x : System} {i : ℕ} → read ws ≡ ok x i → term_answer ws t ≡ whole_answer t (term_fault (signature_of ws) 1 t 0)
   unfolding term_answer
-  term-checked good b eb = go (read ws) refl is
-    where
-      go : (o : Parsed System) → read ws ≡ o → s ≡ scan_of o → b ≡ term_answer ws t
-      go (ok x i) q e = rw (q, term_answer, read-signature ws q) eb
-      go (fault f i) q e = absurd (fault-not-zero f (sym (ap (λ y. y.answer.number) e) ∙ good))
+  term-checked e = rw (e, term_answer, read-signature ws e)
+
+-- which word breaks the term, if one does
+pub found-some : {o : Option ℕ} {i : ℕ} → Some i ≡ found o → o ≡ some i
+found-some {o = none} e = absurd (let z : ◌≡◌ {A = ℕ} 0 1 = cc in omega arith)
+found-some {o = some j} {i} e = let q : j ≡ i = cc in ap some q
+
+pub found-none : {o : Option ℕ} → None ≡ found o → o ≡ none
+found-none {o = none} e = refl
+found-none {o = some j} e = absurd (let z : ◌≡◌ {A = ℕ} 0 1 = cc in omega arith)

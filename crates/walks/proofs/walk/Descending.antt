@@ -5,9 +5,8 @@ use mathlib.Core.Path.{◌≡◌, sym, ap, ◌∙◌, subst}
 use mathlib.Core.Bool.{Bool, true, false}
 use mathlib.Core.List.{List}
 use lib.ListN.{get_or, set}
-use borrow.Author.Tests.{eq-eqb, ne_eqb}
-use Rattle.reader.specs.declared.Shape.{Shape}
-use Rattle.reader.specs.Book.{system_of, Accepted}
+use Rattle.reader.specs.declared.book.Book.{Book}
+use Rattle.reader.specs.Book.{system_of}
 use Rattle.system.specs.Limits.{max_arity}
 use Rattle.system.specs.System.{System, strategy}
 use Rattle.system.specs.Terms.{Member, WellFormed, among}
@@ -17,47 +16,45 @@ use Rattle.rows.specs.Rows.{counts_at, term_in}
 use Rattle.walks.specs.declared.walk.Argument.{Argument}
 use Rattle.walks.specs.declared.walk.Finger.{Finger}
 use Rattle.walks.specs.walk.Descent.{Above, Held}
-use Rattle.walks.specs.walk.Way.{Over, Found}
+use Rattle.walks.specs.walk.Way.{Over, At, Missed}
 use Rattle.walks.proofs.Arguments.{argument-behind}
 use Rattle.walks.proofs.Descent.{above-here, above-out, above_down}
 use Rattle.walks.proofs.walk.Pointing.{Bounds, points-bounds, points-down}
 
-module _ (book : List ℕ) (shape : Shape) (accepted : Accepted book shape) {t ws : List ℕ} {f : Finger} {q : ℕ} (v : Over (system_of book) t ws f q) where
+module _ (book : Book) {t ws : List ℕ} {f : Finger} {q : ℕ} (v : Over (system_of book.words.now) t ws f q) where
   pub descent-bounds : Bounds ws f
-  descent-bounds = points-bounds (system_of book) (well book shape accepted) v.points
+  descent-bounds = points-bounds (system_of book.words.now) (well book.words.now book.shape book.accepted) v.points
 
   -- the same of the term as the area holds it
-  pub over-in : Over (system_of book) (term_in ws f.gap) ws f q
-  over-in = subst (λ y. Over (system_of book) y ws f q) (sym v.points.term) v
+  pub over-in : Over (system_of book.words.now) (term_in ws f.gap) ws f q
+  over-in = subst (λ y. Over (system_of book.words.now) y ws f q) (sym v.points.term) v
 
   -- the walk has come to q
-  pub descended : q ≤ f.at → Found (system_of book) t ws f q
+  pub descended : q ≤ f.at → At (system_of book.words.now) t ws q f
   descended h =
       let e : f.at ≡ q = (let z = v.above.low in omega arith) in
-      let x = above-here (system_of book) (well book shape accepted) v.points.whole q (subst (λ p. Above (system_of book) t p q) e v.above) in
-      record { points = v.points; answer = eq-eqb f.at q e ∙ sym x }
+      let x = above-here (system_of book.words.now) (well book.words.now book.shape book.accepted) v.points.whole q (subst (λ p. Above (system_of book.words.now) t p q) e v.above) in
+      record { points = v.points; here = e; active = x }
 
 -- a turn of the loop, where it has not: the argument that holds q, and whether it stands in the strategy
 pub record Turn : Type 0 where
-  pub book : List ℕ
-  pub shape : Shape
-  pub accepted : Accepted book shape
+  pub book : Book
   pub t : List ℕ
   pub ws : List ℕ
   pub f : Finger
   pub q : ℕ
-  pub over : Over (system_of book) t ws f q
+  pub over : Over (system_of book.words.now) t ws f q
   pub lower : f.at < q
   pub a : Argument
-  pub held : Held (system_of book) (term_in ws f.gap) f.at q a
+  pub held : Held (system_of book.words.now) (term_in ws f.gap) f.at q a
   pub word : ℕ
   pub reads : word ≡ get_or (term_in ws f.gap) f.at 0
   pub stands : Bool
-  pub asked : stands ≡ among (a.number + 1) (strategy (system_of book) word)
+  pub asked : stands ≡ among (a.number + 1) (strategy (system_of book.words.now) word)
 
 module _ (τ : Turn) where
   abbrev s : System
-  s = system_of τ.book
+  s = system_of τ.book.words.now
 
   abbrev t : List ℕ
   t = τ.t
@@ -72,10 +69,10 @@ module _ (τ : Turn) where
   a = τ.a
 
   wf : WellFormed s
-  wf = well τ.book τ.shape τ.accepted
+  wf = well τ.book.words.now τ.book.shape τ.book.accepted
 
   pub turn-bounds : Bounds τ.ws τ.f
-  turn-bounds = descent-bounds τ.book τ.shape τ.accepted τ.over
+  turn-bounds = descent-bounds τ.book τ.over
 
   here : Held s t p q a
   here = subst (λ y. Held s y p q a) τ.over.points.term τ.held
@@ -93,10 +90,9 @@ module _ (τ : Turn) where
       (λ i. among (z i) (strategy s (w i))) ∙ sym τ.asked
 
   -- it does not: the position is not active
-  pub descent-stops : τ.stands ≡ false → Found s t τ.ws τ.f q
+  pub descent-stops : τ.stands ≡ false → Missed s t τ.ws q
   descent-stops n =
-      let x = above-out s wf τ.over.points.whole here.from here.high out in
-      record { points = τ.over.points; answer = ne_eqb p q (λ e. let l = τ.lower in omega arith) ∙ sym x }
+      record { finger = τ.f; points = τ.over.points; inactive = above-out s wf τ.over.points.whole here.from here.high out }
     where
       out : Member (suc a.number) (strategy s (get_or t p 0)) → ⊥
       out m = let x : true ≡ false = sym (member-among m) ∙ entry ∙ n in let z : ◌≡◌ {A = ℕ} 0 1 = cc in omega arith
@@ -111,7 +107,7 @@ module _ (τ : Turn) where
       }
 
 -- so that one more fits a number
-pub few-arguments : (book : List ℕ) (shape : Shape) → Accepted book shape → {t : List ℕ} {p q : ℕ} {a : Argument} → Held (system_of book) t p q a → a.number < max_arity
-few-arguments book shape accepted {t} {p} h =
+pub few-arguments : (book : Book) {t : List ℕ} {p q : ℕ} {a : Argument} → Held (system_of book.words.now) t p q a → a.number < max_arity
+few-arguments book {t} {p} h =
     let z = h.from.known in
-    omega (arith, (well book shape accepted).arity_bound (get_or t p 0))
+    omega (arith, (well book.words.now book.shape book.accepted).arity_bound (get_or t p 0))

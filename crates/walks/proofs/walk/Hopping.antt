@@ -5,11 +5,12 @@ use mathlib.Core.Path.{◌≡◌, sym, ap, ◌∙◌, subst}
 use mathlib.Core.List.{List}
 use lib.ListN.{length, get_or, drop}
 use Rattle.system.specs.Signature.{signature_of}
+use Rattle.reader.specs.declared.book.Book.{Book}
 use Rattle.reader.specs.Book.{system_of}
 use Rattle.system.specs.Signature.{Signature, arity, span, argument}
 use Rattle.system.specs.System.{System}
 use Rattle.layout.proofs.Books.{signature}
-use Rattle.walks.specs.walk.Descent.{Readable, Above, From, Held}
+use Rattle.walks.specs.walk.Descent.{Above, From, Held}
 use Rattle.walks.proofs.Arguments.{argument-first, argument-next}
 use Rattle.walks.proofs.Descent.{above_within, from_first, from_next, from_last}
 
@@ -20,16 +21,16 @@ pub record Hopping (s : System) (t : List ℕ) (p q last number start : ℕ) : T
   pub ends : last + 1 ≡ arity s.arities (get_or t p 0)
 
 -- the symbol's arity is read from the book
-module _ (book : List ℕ) (readable : Readable book) {t : List ℕ} {p q : ℕ} (above : Above (system_of book) t p q) (lower : p < q) where
+module _ (book : Book) {t : List ℕ} {p q : ℕ} (above : Above (system_of book.words.now) t p q) (lower : p < q) where
   abbrev s : System
-  s = system_of book
+  s = system_of book.words.now
 
   abbrev g : Signature
   g = s.arities
 
-  module _ (word : ℕ) (is : word ≡ get_or t p 0) (count : ℕ) (counts : count ≡ arity (signature_of book) word) where
+  module _ (word : ℕ) (is : word ≡ get_or t p 0) (count : ℕ) (counts : count ≡ arity (signature_of book.words.now) word) where
     known : count ≡ arity g (get_or t p 0)
-    known = counts ∙ (λ i. arity (sym (signature book readable.0 readable.1) i) (is i))
+    known = counts ∙ (λ i. arity (sym (signature book.words.now book.shape book.accepted) i) (is i))
 
     -- there is one
     pub some-argument : 0 < count

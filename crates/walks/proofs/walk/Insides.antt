@@ -12,7 +12,7 @@ use Rattle.system.specs.Signature.{Signature, span}
 use Rattle.walks.specs.walk.Descent.{within}
 
 module _ (g : Signature) (t : List ℕ) (p q : ℕ) where
-  pub within-before : q < p → within g t p q ≡ false
+  pub within-before : q < p → leb p q ≡ within g t p q
   unfolding within
   within-before h = rw (lt-leb p q h)
 

@@ -1,15 +1,9 @@
 -- Down from an active position to one in its subterm: "every argument on the way to it stands in the order of the name holding it".
 use Rattle.std.specs.Prelude.{ℕ, ◌+◌, ◌≤◌, ◌<◌, ◌≡◌, Bool, ◌&&◌, List, length, get_or, drop, leb, ltb}
-use Rattle.reader.specs.declared.Shape.{Shape}
 use Rattle.system.specs.Signature.{Signature, arity, span, argument}
 use Rattle.system.specs.System.{System}
-use Rattle.reader.specs.Book.{Accepted}
 use Rattle.rewriting.specs.Rewriting.{Active}
 use Rattle.walks.specs.declared.walk.Argument.{Argument}
-
--- the book is accepted, whatever its shape is
-abbrev pub Readable : List ℕ → Type 0
-Readable book = (shape : Shape) × Accepted book shape
 
 -- whether the position q lies in the subterm at p
 unfoldable pub within : Signature → List ℕ → ℕ → ℕ → Bool

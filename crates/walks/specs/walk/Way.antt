@@ -1,6 +1,6 @@
 -- The finger of a replay: it stays at the position of the last step, and the way to it from the root is kept beside the term. So a pair whose
 -- index is near costs little.
-use Rattle.std.specs.Prelude.{ℕ, ◌≡◌, List, length, take, drop, eqb}
+use Rattle.std.specs.Prelude.{ℕ, ◌≡◌, true, false, List, length, take, drop, Option, MatchOption}
 use Rattle.system.specs.Limits.{area_words}
 use Rattle.system.specs.System.{System}
 use Rattle.system.specs.Terms.{Whole, WellFormed}
@@ -38,7 +38,18 @@ pub record Over (s : System) (t ws : List ℕ) (f : Finger) (q : ℕ) : Type 0 w
   pub points : Points s t ws f
   pub above : Above s t f.at q
 
--- the finger is at q exactly if that position is active
-pub record Found (s : System) (t ws : List ℕ) (f : Finger) (q : ℕ) : Type 0 where
+-- the finger is at q, which is active
+pub record At (s : System) (t ws : List ℕ) (q : ℕ) (f : Finger) : Type 0 where
   pub points : Points s t ws f
-  pub answer : eqb f.at q ≡ active_at s t q
+  pub here : f.at ≡ q
+  pub active : active_at s t q ≡ true
+
+-- q is not active; the area holds the term and a way as before, to some finger
+pub record Missed (s : System) (t ws : List ℕ) (q : ℕ) : Type 0 where
+  pub finger : Finger
+  pub points : Points s t ws finger
+  pub inactive : active_at s t q ≡ false
+
+-- there is a finger exactly if q is active, and it is at q
+abbrev pub Found : System → List ℕ → List ℕ → ℕ → Option Finger → Type 0
+Found s t ws q r = MatchOption r (Missed s t ws q) (At s t ws q)

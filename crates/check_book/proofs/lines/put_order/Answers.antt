@@ -1,14 +1,10 @@
 -- `put_order` meets its contract.
-use Rattle.printing.proofs.Writing.{written_then}
+use Rattle.system.proofs.Taken.{number-taken, number-untaken}
 use Rattle.check_book.proofs.lines.Rows.{order-passes, order-fails}
 use Rattle.check_book.proofs.lines.put_order.Goals as goal
 
--- ---- the goals
-
-pub returns-then-t-eq-TAKEN : goal.returns-then-t-eq-TAKEN
-returns-then-t-eq-TAKEN c =
-    order-passes c.args.t c.if-t-eq-TAKEN.true c.put_line.ensures
+pub returns-then-is_taken : goal.returns-then-is_taken
+returns-then-is_taken g c = rw c.put_line.ensures.whole (order-passes _ c.args.t (number-taken c.is_taken.ensures c.if-is_taken.true))
 
 pub returns : goal.returns
-returns c =
-    order-fails c.args.t c.if-t-eq-TAKEN.false (written_then c.put-kind.ensures c.put_place.ensures)
+returns g c = rw (c.put_place.ensures, c.put.ensures.whole) (order-fails _ c.args.t (number-untaken c.is_taken.ensures c.if-is_taken.false))

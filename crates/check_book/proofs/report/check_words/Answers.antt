@@ -1,13 +1,17 @@
 -- `check_words` meets its contract.
-use mathlib.Core.Path.{ap}
+use mathlib.Core.Path.{ap, ◌∙◌}
+use Rattle.reader.proofs.scan.Outcomes.{scan-refused, scan-accepted}
+use Rattle.matching.specs.StrategyTest.{test_answer}
 use Rattle.check_book.proofs.report.Telling.{by-fault, by-test}
 use Rattle.check_book.proofs.report.check_words.Goals as goal
 
-pub returns-then-a-ne-TAKEN : goal.returns-then-a-ne-TAKEN
-returns-then-a-ne-TAKEN c =
-    by-fault c.args.book.now c.scan_book-s.result.answer (ap (λ y. y.answer) c.scan_book-s.ensures) c.if-a-ne-TAKEN.true c.put_fault.ensures
+pub returns-in-Err : goal.returns-in-Err
+returns-in-Err g c =
+    let s = c.scan_book-s in
+    rw c.put_fault.ensures (by-fault _ c.args.book.now (scan-refused s.result s.ensures c.in-Err.is))
 
 pub returns : goal.returns
-returns c =
-    by-test c.args.book.now c.scan_book-s.result.answer (ap (λ y. y.answer) c.scan_book-s.ensures) c.if-a-ne-TAKEN.false c.test-t.ensures
-    c.put_taken-order.ensures.0 c.put_order.ensures
+returns g c =
+    let s = c.scan_book-s in
+    rw (c.put_order.ensures, c.put_taken.ensures.whole)
+    (by-test _ c.args.book.now (scan-accepted s.result s.ensures c.in_default.is) (c.test.ensures ∙ ap (λ b. test_answer b.now) s.ensures))

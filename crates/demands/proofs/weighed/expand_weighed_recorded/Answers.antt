@@ -1,5 +1,7 @@
 -- `weighed::expand_weighed_recorded` meets its contract.
-use mathlib.Core.Path.{sym, subst}
+use mathlib.Core.Path.{sym, ap, ◌∙◌, subst}
+use Rattle.termination.specs.WeightTest.{weights_answer}
+use Rattle.evaluation.specs.Expansion.{expansion, record_after}
 use lib.ListN.{length}
 use Rattle.rewriting.specs.Evaluation.{recorded}
 use Rattle.demands.specs.Finite.{IsFinite}
@@ -8,16 +10,16 @@ use Rattle.demands.proofs.weighed.expand_weighed_recorded.Goals as goal
 
 pub returns : goal.returns
 returns c =
-    let t = c.test-test.ensures in
-    let e = c.expand_within-answer.ensures in
     let a = c.args in
     let m = a.weights.now in
     let v = a.term.now in
     let l = recorded a.limit (length a.«record».now) in
-    let finite = subst (IsFinite a.book.now m v l) (sym e.expanded) (is_finite a.book.now m v l a.out.now a.work.now) in
+    let is = c.scan_book-s.ensures in
+    let e = c.expand_within-answer.ensures.expanded ∙ ap (λ b. expansion b.now v l a.out.now a.work.now) is in
+    let finite = subst (IsFinite a.book.now m v l) (sym e) (is_finite a.book.now m v l a.out.now a.work.now) in
     record {
-      tested = t;
-      expanded = e.expanded;
-      told = e.told;
+      tested = c.test-test.ensures ∙ ap (λ b. weights_answer b.now m) is;
+      expanded = e;
+      told = c.expand_within-answer.ensures.told ∙ ap (λ b. record_after b.now v l a.out.now a.work.now a.«record».now) is;
       finite = finite;
     }

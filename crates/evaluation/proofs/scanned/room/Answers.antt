@@ -1,13 +1,18 @@
 -- `scanned::room` meets its contract.
-use mathlib.Core.Path.{sym, ◌∙◌}
+use native.Mathlib.Omega.{arith}
+use mathlib.Core.Path.{sym, ap, ◌∙◌}
 use Rattle.evaluation.proofs.Expanding.{narrow-answer, narrow-work, enough}
 use Rattle.evaluation.proofs.scanned.room.Goals as goal
+use Rattle.evaluation.proofs.scanned.room.Goals.{then-out-lt-TERM_WORDS-via-then-out-lt-TERM_WORDS, then-out-lt-TERM_WORDS-via-else-out-lt-TERM_WORDS+then-work-lt-AREA_WORDS}
 
 pub returns-then-out-lt-TERM_WORDS : goal.returns-then-out-lt-TERM_WORDS
-returns-then-out-lt-TERM_WORDS c = c.answer.ensures ∙ sym (narrow-answer _ _ c.if-out-lt-TERM_WORDS.true)
-
-pub returns-then-work-lt-AREA_WORDS : goal.returns-then-work-lt-AREA_WORDS
-returns-then-work-lt-AREA_WORDS c = c.answer-then-work-lt-AREA_WORDS.ensures ∙ sym (narrow-work _ _ c.if-out-lt-TERM_WORDS.false c.if-work-lt-AREA_WORDS.true)
+returns-then-out-lt-TERM_WORDS c = (
+  c.new.ensures ∙ elim c.then-out-lt-TERM_WORDS.branch [
+    | then-out-lt-TERM_WORDS-via-then-out-lt-TERM_WORDS w ↦ sym (narrow-answer _ _ w.if-out-lt-TERM_WORDS.true)
+    | then-out-lt-TERM_WORDS-via-else-out-lt-TERM_WORDS+then-work-lt-AREA_WORDS w ↦ sym (narrow-work _ _ w.if-out-lt-TERM_WORDS.false w.if-work-lt-AREA_WORDS.true)
+  ],
+  λ e. let n = ap (λ y. y.number) c.new.ensures in omega arith,
+)
 
 pub returns : goal.returns
-returns c = c.answer-2.ensures ∙ sym (enough _ _ c.if-out-lt-TERM_WORDS.false c.if-work-lt-AREA_WORDS.false)
+returns c = ap (λ y. y.number) (enough _ _ c.if-out-lt-TERM_WORDS.false c.if-work-lt-AREA_WORDS.false)

@@ -1,26 +1,16 @@
-use Rattle.files.proofs.words.Loads.{words-length, load-turn, load-end}
-use lib.ListN.{length-set}
-use mathlib.Core.Path.{sym}
-use borrow.Author.Rules.{rules}
+use Rattle.files.proofs.words.Loads.{words-length, stored, all_stored}
+use mathlib.Core.Path.{sym, ◌∙◌}
 use Rattle.files.proofs.words.load.Goals as goal
-
--- ---- the goals
 
 pub loop-i-preserved : goal.loop-i-preserved
 loop-i-preserved c =
-    let a = c.args in
     let l = c.loop-i in
-    let t = c.loop-i-test.true in (
-      load-turn a.words.now a.bytes.now l.words l.i l.invariant.0 c.word.result c.word.ensures t,
-      rw (length-set l.words l.i c.word.result) l.invariant.1,
-      search rules,
-    )
+    stored c.args.words.now l.words c.as_chunks.result.0.now l.i c.from_le_bytes.result l.invariant c.loop-i-test.true c.from_le_bytes.ensures
 
-pub returns : goal.returns
-returns c =
-    let a = c.args in
+pub returns-clause-count : goal.returns-clause-count
+returns-clause-count c = let e = c.as_chunks.ensures.front_len in let n = words-length c.args.bytes.now in e ∙ sym n
+
+pub returns-clause-loaded : goal.returns-clause-loaded
+returns-clause-loaded c =
     let l = c.loop-i in
-    record {
-      count = sym (words-length a.bytes.now);
-      loaded = load-end a.words.now a.bytes.now l.words l.i l.invariant.0 c.loop-i-test.false;
-    }
+    all_stored c.args.bytes.now c.args.words.now l.words c.as_chunks.result.0.now l.i c.as_chunks.ensures.front c.loop-i-test.false l.invariant

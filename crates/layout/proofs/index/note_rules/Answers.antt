@@ -1,45 +1,41 @@
-use Prim.Native.Nat.{◌≤◌, ◌<◌}
+use Prim.Native.Nat.{◌<◌}
 use native.Mathlib.Omega.{arith}
-use mathlib.Core.Path.{◌≡◌, sym, ◌∙◌}
+use borrow.Author.Rules.{rules}
+use mathlib.Core.Logic.{inl}
+use mathlib.Core.Path.{◌≡◌}
 use lib.ListN.{length}
-use Rattle.system.specs.Limits.{max_rules}
-use Rattle.layout.specs.rules.Rules.{rule_end}
-use Rattle.layout.specs.index.Index.{index_words}
-use Rattle.layout.proofs.index.Noting.{rules-start, rule-room, rules-next, rules-end}
+use Rattle.std.specs.Iterator.Adapters.{enumerate_source, enumerate_count}
+use Rattle.layout.proofs.index.Noting.{rules-start, rule-slot, rules-next, rules-end}
+use Rattle.layout.proofs.listed.Turns.{Turned, left-few, turned, ended}
 use Rattle.layout.proofs.index.note_rules.Goals as goal
-use Rattle.layout.proofs.index.note_rules.Goals.{In-loop-k}
+use Rattle.layout.proofs.index.note_rules.Goals.{In-Some}
 
--- the rule of this turn lies in the book
-room : (c : In-loop-k) → let l = c.loop-k in let b = c.args.book.now in
-    (l.k < max_rules) × (length l.index ≡ index_words) × (rule_end b l.at ≤ length b) × (length b ≤ 65535)
-room c = rule-room c.requires.0 c.loop-k.invariant c.loop-k-test.true
+-- the rule of this turn
+here : (c : In-Some) → Turned c.args.book.now.words.now (enumerate_count c.loop-k.k-iterator) c.in-Some.rule (enumerate_source c.next.new.self)
+here c = turned c.loop-k.invariant.2.at c.in-Some.ensures.steps.0
+
+slot : (c : In-Some) → c.in-Some.k < length c.loop-k.rules
+slot c = rule-slot c.args.book.now.accepted c.loop-k.invariant.2 c.in-Some.ensures.steps.1 (here c)
 
 -- ---- the goals
 
 pub loop-k-init : goal.loop-k-init
-loop-k-init c = let p = c.requires in rules-start p.0 p.1
+loop-k-init c =
+    let n = left-few (enumerate_source c.into_iter-k-iterator.result) in
+    let z : enumerate_count c.into_iter-k-iterator.result ≡ 0 = cc in
+    ((tt, tt, inl (omega arith)), tt, rules-start c.args.book.now.accepted (search) (cc) (cc) (cc))
 
-pub overflow_cast-index : goal.overflow_cast-index
-overflow_cast-index c = let r = room c in omega arith
+pub offset_bounds-rules-k : goal.offset_bounds-rules-k
+offset_bounds-rules-k c = let r = slot (goal.at.offset_bounds-rules-k c).In-Some in omega arith
 
-pub overflow_add-index : goal.overflow_add-index
-overflow_add-index c = let r = room c in omega arith
-
-pub offset_bounds-index-k : goal.offset_bounds-index-k
-offset_bounds-index-k c = let r = room c in omega arith
-
-pub bounds-index-k : goal.bounds-index-k
-bounds-index-k c = let r = room c in omega arith
-
-pub rule_at-r-requires : goal.rule_at-r-requires
-rule_at-r-requires c = (room c).2
+pub bounds-rules-k : goal.bounds-rules-k
+bounds-rules-k c = let r = slot (goal.at.bounds-rules-k c).In-Some in omega arith
 
 pub loop-k-preserved : goal.loop-k-preserved
 loop-k-preserved c =
-    rules-next c.requires.0 c.loop-k.invariant c.loop-k-test.true c.rule_at-r.ensures
-
-pub shape_of-index : goal.shape_of-index
-shape_of-index c = c.loop-k.invariant.noted.slots ∙ sym c.requires.1.slots
+    let e = c.in-Some.ensures.steps in
+    let h = here (goal.at.loop-k-preserved c).In-Some in
+    (search rules, tt, rules-next c.args.book.now.accepted c.loop-k.invariant.2 e.1 e.2 h)
 
 pub returns : goal.returns
-returns c = rules-end c.requires.0 c.loop-k.invariant c.loop-k-test.false
+returns c = rules-end c.args.book.now.accepted c.loop-k.invariant.2 (ended c.loop-k.invariant.2.at c.in-None.ensures.steps.0.0)

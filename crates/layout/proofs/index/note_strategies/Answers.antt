@@ -1,50 +1,41 @@
-use Prim.Native.Nat.{◌+◌, ◌≤◌, ◌<◌}
+use Prim.Native.Nat.{◌<◌}
 use native.Mathlib.Omega.{arith}
-use mathlib.Core.Path.{◌≡◌, sym, ◌∙◌}
-use lib.ListN.{length, get_or}
-use Rattle.system.specs.Limits.{max_symbols}
-use Rattle.layout.specs.index.Index.{index_words}
-use Rattle.layout.proofs.index.Noting.{strategies-start, strategy-room, strategies-next, strategies-end}
+use borrow.Author.Rules.{rules}
+use mathlib.Core.Logic.{inl}
+use mathlib.Core.Path.{◌≡◌}
+use lib.ListN.{length}
+use Rattle.std.specs.Iterator.Adapters.{enumerate_source, enumerate_count}
+use Rattle.layout.proofs.index.Noting.{strategies-start, strategy-slot, strategies-next, strategies-end}
+use Rattle.layout.proofs.strategies.Turns.{Turned, left-few, turned, ended}
 use Rattle.layout.proofs.index.note_strategies.Goals as goal
-use Rattle.layout.proofs.index.note_strategies.Goals.{In-loop-f}
+use Rattle.layout.proofs.index.note_strategies.Goals.{In-Some}
 
--- the strategy of this turn lies in the book
-room : (c : In-loop-f) → let l = c.loop-f in let b = c.args.book.now in
-    (l.f < max_symbols) × (length l.index ≡ index_words) × (l.at + get_or b l.at 0 < length b) × (length b ≤ 65535)
-room c = strategy-room c.requires.0 c.loop-f.invariant c.loop-f-test.true
+-- the strategy of this turn
+here : (c : In-Some) → Turned c.args.book.now.words.now (enumerate_count c.loop-f.f-iterator) c.in-Some.strategy (enumerate_source c.next.new.self)
+here c = turned c.loop-f.invariant.2.at c.in-Some.ensures.steps.0
+
+slot : (c : In-Some) → c.in-Some.f < length c.loop-f.strategies
+slot c = strategy-slot c.args.book.now.accepted c.loop-f.invariant.2 c.in-Some.ensures.steps.1 (here c)
 
 -- ---- the goals
 
 pub loop-f-init : goal.loop-f-init
-loop-f-init c = let p = c.requires in strategies-start p.0 p.1
+loop-f-init c =
+    let n = left-few (enumerate_source c.into_iter-f-iterator.result) in
+    let z : enumerate_count c.into_iter-f-iterator.result ≡ 0 = cc in
+    ((tt, tt, inl (omega arith)), tt, strategies-start c.args.book.now.accepted (search) (cc) (cc) (cc))
 
-pub overflow_cast-index : goal.overflow_cast-index
-overflow_cast-index c = let r = room c in omega arith
+pub offset_bounds-strategies-f : goal.offset_bounds-strategies-f
+offset_bounds-strategies-f c = let r = slot (goal.at.offset_bounds-strategies-f c).In-Some in omega arith
 
-pub offset_bounds-index-f : goal.offset_bounds-index-f
-offset_bounds-index-f c = let r = room c in omega arith
-
-pub bounds-index-f : goal.bounds-index-f
-bounds-index-f c = let r = room c in omega arith
-
-pub overflow_add-at : goal.overflow_add-at
-overflow_add-at c = let r = room c in omega arith
-
-pub offset_bounds-book-at : goal.offset_bounds-book-at
-offset_bounds-book-at c = let r = room c in omega arith
-
-pub bounds-book-at : goal.bounds-book-at
-bounds-book-at c = let r = room (goal.at.bounds-book-at c).In-loop-f in omega arith
-
-pub overflow_add-at-in-loop-f : goal.overflow_add-at-in-loop-f
-overflow_add-at-in-loop-f c = let r = room (goal.at.overflow_add-at-in-loop-f c).In-loop-f in omega arith
+pub bounds-strategies-f : goal.bounds-strategies-f
+bounds-strategies-f c = let r = slot (goal.at.bounds-strategies-f c).In-Some in omega arith
 
 pub loop-f-preserved : goal.loop-f-preserved
 loop-f-preserved c =
-    strategies-next c.requires.0 c.loop-f.invariant c.loop-f-test.true c.wide.ensures.0
-
-pub shape_of-index : goal.shape_of-index
-shape_of-index c = c.loop-f.invariant.noted.slots ∙ sym c.requires.1.slots
+    let e = c.in-Some.ensures.steps in
+    let h = here (goal.at.loop-f-preserved c).In-Some in
+    (search rules, tt, strategies-next c.args.book.now.accepted c.loop-f.invariant.2 e.1 e.2 h)
 
 pub returns : goal.returns
-returns c = strategies-end c.requires.0 c.loop-f.invariant c.loop-f-test.false
+returns c = strategies-end c.args.book.now.accepted c.loop-f.invariant.2 (ended c.loop-f.invariant.2.at c.in-None.ensures.steps.0.0)

@@ -1,16 +1,12 @@
 -- `rules::first_rule` meets its contract.
-use Rattle.matching.proofs.rules.Searches.{Searched, Walked}
-use Prim.Native.Nat.{◌-◌}
+use lib.ListN.{length}
+use Rattle.matching.proofs.rules.Finding.{Searched}
+use Rattle.matching.proofs.rules.Searches.{Walked}
 use Rattle.matching.proofs.rules.first_rule.Given as goal
 
 abbrev pub invariant-words : goal.invariant-words
-invariant-words l = Walked l.book l.ws l.this l.width l.j l.q l.s l.l
-
-abbrev pub decreases-words : goal.decreases-words
-decreases-words l = l.width - l.j
+invariant-words l = Walked l.book.words.now l.ws l.number (length l.rule.lhs.now) l.word-index l.q l.starts l.lengths
 
 abbrev pub invariant-rules : goal.invariant-rules
-invariant-rules l = Searched l.book l.shape l.ws l.found l.starts l.lengths l.k l.at
-
-abbrev pub decreases-rules : goal.decreases-rules
-decreases-rules l = l.shape.rules - l.k
+invariant-rules l = (goal.iterator-rules).can_next l.number-iterator × (goal.iterator-rules).is_finite l.number-iterator
+    × Searched l.book.words.now l.ws l.found l.number-iterator

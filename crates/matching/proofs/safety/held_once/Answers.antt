@@ -1,32 +1,33 @@
 -- `safety::held_once` meets its contract.
 use native.Mathlib.Omega.{arith}
 use mathlib.Core.Path.{sym, ap, ◌∙◌}
+use borrow.Author.Tests.{lt-leb}
 use lib.Dec.{eqb}
 use Rattle.system.specs.Signature.{signature_of}
 use Rattle.matching.proofs.safety.SafetySteps.{held_none, held-past, held-symbol, held-variable}
 use Rattle.matching.proofs.safety.held_once.Goals as goal
 
--- ---- the goals
+pub returns-in_default : goal.returns-in_default
+returns-in_default c = let a = c.args in sym (held_none (signature_of a.book.now) a.lhs.now a.i c.in_default.ensures.cases)
 
-pub returns-then-lhs-eq0 : goal.returns-then-lhs-eq0
-returns-then-lhs-eq0 c = let a = c.args in sym (held_none (signature_of a.book.now) a.lhs.now a.i c.if-lhs-eq0.true)
-
-pub returns-then-lhs-p : goal.returns-then-lhs-p
-returns-then-lhs-p c =
+pub returns-in_default-get : goal.returns-in_default-get
+returns-in_default-get c =
     let a = c.args in
-    let x = c.spans-p in sym (held-past (signature_of a.book.now) a.lhs.now a.i x.result x.ensures.0 c.if-lhs-p.true)
+    sym (held-past (signature_of a.book.now) a.i c.in-Some.ensures.cases.0 c.spans.ensures.0 c.in_default-get.ensures.lookup.3)
 
-pub returns-then-wide-lt-VARIABLE : goal.returns-then-wide-lt-VARIABLE
-returns-then-wide-lt-VARIABLE c =
+pub returns-then-from-ge-VARIABLE : goal.returns-then-from-ge-VARIABLE
+returns-then-from-ge-VARIABLE c =
     let a = c.args in
-    let x = c.spans-p in
-    let e = c.wide.ensures.0 in
-    sym (held-symbol (signature_of a.book.now) a.lhs.now a.i x.result x.ensures.0 (let l = c.if-wide-lt-VARIABLE.true in omega arith))
-
-pub returns : goal.returns
-returns c =
-    let a = c.args in
-    let x = c.spans-p in
-    let e = c.wide.ensures.0 in
+    let w = c.in-Some-get.ensures.lookup.3.1 0 in
+    let e = c.from.ensures in
+    let l = c.if-from-ge-VARIABLE.true in
     ap (λ n. eqb n 1) c.occurs.ensures
-    ∙ sym (held-variable (signature_of a.book.now) a.lhs.now a.i x.result x.ensures.0 (let l = c.if-wide-lt-VARIABLE.false in omega arith))
+    ∙ sym (held-variable (signature_of a.book.now) a.i c.in-Some.ensures.cases.0 c.spans.ensures.0 w (omega arith))
+
+pub returns-else-from-ge-VARIABLE : goal.returns-else-from-ge-VARIABLE
+returns-else-from-ge-VARIABLE c =
+    let a = c.args in
+    let w = c.in-Some-get.ensures.lookup.3.1 0 in
+    let e = c.from.ensures in
+    let l = c.if-from-ge-VARIABLE.false in
+    lt-leb 32768 c.from.result (omega arith) ∙ sym (held-symbol (signature_of a.book.now) a.i c.in-Some.ensures.cases.0 c.spans.ensures.0 w (omega arith))

@@ -1,200 +1,178 @@
-use Prim.Native.Nat.{◌+◌, ◌-◌, ◌≤◌, ◌<◌}
+use Prim.Native.Nat.{ℕ, ◌+◌, ◌≤◌, ◌<◌}
 use native.Mathlib.Omega.{arith}
 use mathlib.Core.Path.{◌≡◌, refl, sym, ap, ◌∙◌}
+use mathlib.Core.List.{List}
 use lib.ListN.{length, get_or, drop}
 use Rattle.system.specs.Limits.{term_words}
-use Rattle.system.specs.BuiltIns.{literal}
-use Rattle.system.specs.Signature.{signature_of}
 use Rattle.reader.specs.Book.{system_of}
 use Rattle.layout.specs.index.Index.{bucket, rule_from}
+use Rattle.layout.specs.index.Accepted.{RulesAt}
+use Rattle.layout.specs.rules.Rules.{rule_span}
+use Rattle.system.specs.System.{rule}
 use Rattle.layout.proofs.Books.{Turn, turn-of}
-use Rattle.rows.specs.Rows.{term_in}
+use Rattle.rows.specs.declared.gap.Gap.{Gap}
+use Rattle.rows.specs.Rows.{Gapped, term_in}
+use Rattle.rows.specs.gap.Gaps.{words_in}
 use Rattle.rows.proofs.lengths.Measures.{words-length}
-use Rattle.matching.specs.Bindings.{taken}
-use Rattle.redexes.specs.search.Redexes.{bound_in}
 use Rattle.matching.proofs.rules.Lists.{along-starts, along-next}
 use Rattle.redexes.proofs.search.Taking.{word-from}
-use Rattle.redexes.proofs.search.Tries.{first_some, first-fails, first_goes, try-fails, try-fits, try-goes, finds-computed, finds-nothing, finds-rule}
+use Rattle.redexes.proofs.search.Tries.{tries, no_rule_left, fewer-left, first-fails, first_goes, others-wide, others-word, try-fails, try-fits, try-goes, finds-computed, finds-nothing, finds-rule}
 use Rattle.redexes.proofs.search.first_redex.Goals as goal
-use Rattle.redexes.proofs.search.first_redex.Goals.{After-bind-n, After-rule_at-r, After-wide, At-rules, Start}
+use Rattle.redexes.proofs.search.first_redex.Goals.{After-rule-rule}
 
--- ---- what is known there: the first word, the rule of this turn, what its word takes, and that it is a word of the term
+-- ---- what is known there: the first word, that it is a word of the term, and the rule of this turn
 
-first : (c : After-wide) → c.wide.result ≡ get_or (drop c.args.spot.at (term_in c.args.area.now c.args.spot.gap)) 0 0
-first c = c.wide.ensures.0 ∙ word-from (term_in c.args.area.now c.args.spot.gap) c.args.spot.at 0 c.args.spot.at (omega arith) c.word_at-head.ensures
+first : (t : List ℕ) (p : ℕ) {w : ℕ} → w ≡ get_or t p 0 → w ≡ get_or (drop p t) 0 0
+first t p e = word-from t p 0 p (omega arith) e
 
-first' : (c : At-rules) → c.wide.result ≡ get_or (drop c.args.spot.at (term_in c.args.area.now c.args.spot.gap)) 0 0
-first' c = c.wide.ensures.0 ∙ word-from (term_in c.args.area.now c.args.spot.gap) c.args.spot.at 0 c.args.spot.at (omega arith) c.word_at-head.ensures
+within : {area : List ℕ} {gap : Gap} (p : ℕ) → Gapped area gap → p < words_in gap → (p < length (term_in area gap)) × (length (term_in area gap) ≤ term_words)
+within p m i = let n = words-length m in let l = m.lies in (omega arith, omega arith)
 
-low : (c : At-rules) → get_or (drop c.args.spot.at (term_in c.args.area.now c.args.spot.gap)) 0 0 < literal
-low c = let is = first' c in let l = c.if-wide-ge-LITERAL.false in omega arith
+-- the rule of this turn
+more : (c : After-rule-rule) → c.in-Some.number < c.args.index.now.book.shape.rules
+more c = (tries c.rules.invariant c.in-Some.is).0
 
-turn : (c : After-rule_at-r) →
-    let a = c.args in Turn a.book.now a.shape c.rules.k c.rule_start.result c.rule_at-r.result
-turn c = turn-of c.requires.0 c.rules-test.true c.rule_start.ensures.0 c.rule_at-r.ensures
+stands : (c : After-rule-rule) → let i = c.args.index.now in RulesAt i.book.words.now c.in-Some.number (get_or i.places.now.rules c.in-Some.number 0)
+stands c = c.args.index.now.indexed.rules.stands c.in-Some.number (more c)
 
-took : (c : After-bind-n) →
-    let w = c.words in
-    let b = c.args.book.now in
-    let p = c.args.spot.at in
-    c.bind-n.result ≡ taken (signature_of b) (drop p (term_in c.args.area.now c.args.spot.gap)) (get_or b (c.rule_at-r.result.lhs + w.j) 0) (w.q - p) (bound_in w.bindings)
-took c = c.bind-n.ensures.taken _ c.requires.2
+turn : (c : After-rule-rule) → let i = c.args.index.now in let at = get_or i.places.now.rules c.in-Some.number 0 in
+    Turn i.book.words.now i.book.shape c.in-Some.number at (rule_span i.book.words.now at)
+turn c = turn-of c.args.index.now.book.accepted (more c) (stands c) refl
 
-short : (s : Start) → (s.args.spot.at ≤ length (term_in s.args.area.now s.args.spot.gap)) × (length (term_in s.args.area.now s.args.spot.gap) ≤ term_words)
-short s = let m = s.requires.2.gapped in let n = words-length m in let i = s.requires.3 in let l = m.lies in (omega arith, omega arith)
+left : (c : After-rule-rule) → c.rule-rule.result.lhs.now ≡ (rule (system_of c.args.index.now.book.words.now) c.in-Some.number).lhs
+left c = ap (λ r. r.lhs) c.rule-rule.ensures
 
 -- ---- the goals
 
 pub word_at-head-requires : goal.word_at-head-requires
-word_at-head-requires c = let p = c.requires in (p.2.gapped, p.3)
+word_at-head-requires c = let p = c.requires in (p.0.gapped, p.1)
 
 pub computed_at-requires : goal.computed_at-requires
-computed_at-requires c = let p = c.requires in (p.2.gapped, p.3, c.word_at-head.ensures)
+computed_at-requires c = let p = c.requires in (p.0.gapped, p.1, c.word_at-head.ensures)
 
-pub returns-then-wide-ge-LITERAL : goal.returns-then-wide-ge-LITERAL
-returns-then-wide-ge-LITERAL c =
-    let is = first (goal.at.returns-then-wide-ge-LITERAL c).After-wide in
-    let told = (finds-computed c.requires.0 (term_in c.args.area.now c.args.spot.gap) c.args.spot.at c.computed_at.ensures (let h = c.if-wide-ge-LITERAL.true in omega arith)) in
+pub returns-then-from-ge-LITERAL : goal.returns-then-from-ge-LITERAL
+returns-then-from-ge-LITERAL c =
+    let is = first (term_in c.args.area.now c.args.spot.gap) c.args.spot.at c.word_at-head.ensures in
+    let told = finds-computed c.args.index.now.book.accepted (term_in c.args.area.now c.args.spot.gap) c.args.spot.at c.computed_at.ensures (omega arith) in
     record { found = rw c.redex_for.ensures told.0; bound = told.1 }
-
-pub first_of-k-requires : goal.first_of-k-requires
-first_of-k-requires c = let p = c.requires in (p.0, p.1)
 
 pub rules-init : goal.rules-init
 rules-init c =
-    let at = word-from (term_in c.args.area.now c.args.spot.gap) c.args.spot.at 0 c.args.spot.at (omega arith) c.word_at-head.ensures in
+    let w = first (term_in c.args.area.now c.args.spot.gap) c.args.spot.at c.word_at-head.ensures in
     record {
-      sized = c.requires.4;
+      sized = c.requires.2;
       none_found = refl;
-      along = along-starts c.requires.0 (drop c.args.spot.at (term_in c.args.area.now c.args.spot.gap)) (c.first_of-k.ensures.0 ∙ ap (λ w. rule_from (system_of c.args.book.now) 0 (bucket w)) at);
+      k = _;
+      number = c.first_of-next.ensures;
+      along = along-starts c.args.index.now.book.accepted (drop c.args.spot.at (term_in c.args.area.now c.args.spot.gap))
+          (ap (λ w. rule_from (system_of c.args.index.now.book.words.now) 0 (bucket w)) w);
     }
 
-pub rule_start-requires : goal.rule_start-requires
-rule_start-requires c = let p = c.requires in (p.0, p.1, c.rules-test.true)
+pub next_of-next-requires : goal.next_of-next-requires
+next_of-next-requires c = more (goal.at.next_of-next-requires c).After-rule-rule
 
-pub rule_at-r-requires : goal.rule_at-r-requires
-rule_at-r-requires c = c.rule_start.ensures.1
+pub rules-smaller-then-rule-head : goal.rules-smaller-then-rule-head
+rules-smaller-then-rule-head c = rw c.in-Some.is (fewer-left _ _ (more (goal.at.rules-smaller-then-rule-head c).After-rule-rule) c.next_of-next.ensures.number c.next_of-next.ensures.later)
 
--- the first word of the rule's left side is compared with it
-headed : (c : At-rules) →
-    c.word_at-head.result ≡ get_or (drop c.args.spot.at (term_in c.args.area.now c.args.spot.gap)) 0 0
-headed c =
-    word-from (term_in c.args.area.now c.args.spot.gap) c.args.spot.at 0 c.args.spot.at (omega arith) c.word_at-head.ensures
-
-within : (s : Start) → s.args.spot.at < length (term_in s.args.area.now s.args.spot.gap)
-within s = let m = s.requires.2.gapped in let n = words-length m in let i = s.requires.3 in omega arith
-
-pub offset_bounds-book-lhs : goal.offset_bounds-book-lhs
-offset_bounds-book-lhs c =
-    let w = (turn c).here in
-    let g = c.well_formed in
-    omega arith
-
-pub bounds-book-lhs : goal.bounds-book-lhs
-bounds-book-lhs c =
-    let w = (turn (goal.at.bounds-book-lhs c).After-rule_at-r).here in
-    let n = first_some (turn (goal.at.bounds-book-lhs c).After-rule_at-r) (term_in c.args.area.now c.args.spot.gap) c.args.spot.at in
-    omega arith
-
-pub next_of-k-requires : goal.next_of-k-requires
-next_of-k-requires c = let p = c.requires in (p.0, p.1, c.rules-test.true)
-
-pub rules-smaller-then-book-lhs : goal.rules-smaller-then-book-lhs
-rules-smaller-then-book-lhs c = let l = c.next_of-k.ensures in let h = c.rules-test.true in omega arith
-
-pub rules-preserved-then-book-lhs : goal.rules-preserved-then-book-lhs
-rules-preserved-then-book-lhs c =
-    let fails = first-fails (turn (goal.at.rules-preserved-then-book-lhs c).After-rule_at-r) (term_in c.args.area.now c.args.spot.gap)
-    c.args.spot.at (λ e. c.if-book-lhs.true (e ∙ sym (headed (goal.at.rules-preserved-then-book-lhs c).At-rules))) in
+pub rules-preserved-then-rule-head : goal.rules-preserved-then-rule-head
+rules-preserved-then-rule-head c =
+    let r = (goal.at.rules-preserved-then-rule-head c).After-rule-rule in
+    let t = drop c.args.spot.at (term_in c.args.area.now c.args.spot.gap) in
+    let is = first (term_in c.args.area.now c.args.spot.gap) c.args.spot.at c.word_at-head.ensures in
+    let fails = first-fails (turn r) (term_in c.args.area.now c.args.spot.gap) c.args.spot.at (λ e. c.if-rule-head.true (ap (λ l. get_or l 0 0) (left r) ∙ e ∙ sym is)) in
     record {
       sized = c.rules.invariant.sized;
       none_found = c.rules.invariant.none_found;
-      along = along-next c.requires.0 (drop c.args.spot.at (term_in c.args.area.now c.args.spot.gap)) c.rules.invariant.along c.rules-test.true fails c.next_of-k.ensures.0;
+      k = _;
+      number = c.next_of-next.ensures.number;
+      along = along-next c.args.index.now.book.accepted t (tries c.rules.invariant c.in-Some.is).1 (more r) fails refl;
     }
 
 pub overflow_add-q : goal.overflow_add-q
-overflow_add-q c = let h = within (goal.at.overflow_add-q c).Start in let y = short (goal.at.overflow_add-q c).Start in omega arith
-
-pub clear-requires : goal.clear-requires
-clear-requires c = let n = c.rules.invariant.sized in omega arith
+overflow_add-q c = let h = within c.args.spot.at c.requires.0.gapped c.requires.1 in omega arith
 
 pub words-init : goal.words-init
 words-init c =
-    first_goes (turn (goal.at.words-init c).After-rule_at-r) (term_in c.args.area.now c.args.spot.gap) c.args.spot.at (c.if-book-lhs.false ∙ headed (goal.at.words-init c).At-rules)
-    (within (goal.at.words-init c).Start) c.rules.bindings c.rules.invariant.sized c.clear.ensures
+    let r = (goal.at.words-init c).After-rule-rule in
+    let t = term_in c.args.area.now c.args.spot.gap in
+    let is = first t c.args.spot.at c.word_at-head.ensures in
+    first_goes (turn r) t c.args.spot.at (sym (ap (λ l. get_or l 0 0) (left r)) ∙ c.if-rule-head.false ∙ is)
+    (within c.args.spot.at c.requires.0.gapped c.requires.1).0 c.rules.bindings c.rules.invariant.sized c.clear.ensures (others-wide (turn r) t c.args.spot.at (left r))
 
-pub overflow_add-lhs : goal.overflow_add-lhs
-overflow_add-lhs c = let w = (turn (goal.at.overflow_add-lhs c).After-rule_at-r).here in omega arith
-
-pub offset_bounds-book-lhs-in-words : goal.offset_bounds-book-lhs-in-words
-offset_bounds-book-lhs-in-words c =
-    let w = (turn (goal.at.offset_bounds-book-lhs-in-words c).After-rule_at-r).here in
-    let g = c.well_formed in
-    omega arith
-
-pub bounds-book-lhs-in-words : goal.bounds-book-lhs-in-words
-bounds-book-lhs-in-words c = let w = (turn (goal.at.bounds-book-lhs-in-words c).After-rule_at-r).here in omega arith
-
-pub bind-n-requires : goal.bind-n-requires
-bind-n-requires c =
+pub bind-requires : goal.bind-requires
+bind-requires c =
+    let r = (goal.at.bind-requires c).After-rule-rule in
+    let u = turn r in
+    let t = term_in c.args.area.now c.args.spot.gap in
     let o = c.words.invariant in
-    ((_, c.requires.2), o.onward, (turn (goal.at.bind-n-requires c).After-rule_at-r).here.low c.words.j c.words-test.true, o.sized, o.walked.lies)
+    let wide = others-wide u t c.args.spot.at (left r) in
+    let low = u.here.low (c.words.l-index + 1) (let h = c.words-test.true in omega arith) in
+    ((_, c.requires.0), o.onward, (let e = others-word u t c.args.spot.at (left r) c.words.l-index c.words-test.true in omega arith), o.sized, o.walked.lies)
 
-pub next_of-k-requires-then-n-eq0 : goal.next_of-k-requires-then-n-eq0
-next_of-k-requires-then-n-eq0 c =
-    let p = c.requires in
-    let e = c.words.invariant.same in
-    (p.0, p.1, (let l = c.rules-test.true in omega arith))
+pub next_of-next-requires-in_default-bind : goal.next_of-next-requires-in_default-bind
+next_of-next-requires-in_default-bind c = more (goal.at.next_of-next-requires-in_default-bind c).After-rule-rule
 
 pub rules-smaller : goal.rules-smaller
 rules-smaller c =
-    let e = c.words.invariant.same in
-    let l = c.next_of-k-then-n-eq0.ensures in
-    let h = c.rules-test.true in
-    omega arith
+    let e = c.next_of-next-in_default-bind.ensures in
+    rw c.in-Some.is (fewer-left _ _ (more (goal.at.rules-smaller c).After-rule-rule) e.number e.later)
 
 pub rules-preserved : goal.rules-preserved
 rules-preserved c =
-    let w = c.words in
-    let fails = try-fails (turn (goal.at.rules-preserved c).After-rule_at-r) (term_in c.args.area.now c.args.spot.gap)
-    c.args.spot.at w.invariant c.words-test.true (took (goal.at.rules-preserved c).After-bind-n) c.if-n-eq0.true in
+    let r = (goal.at.rules-preserved c).After-rule-rule in
+    let u = turn r in
+    let t = term_in c.args.area.now c.args.spot.gap in
+    let p = c.args.spot.at in
+    let o = c.words.invariant in
+    let none = sym c.in_default-bind.is ∙ c.bind.ensures.taken _ c.requires.0 in
+    let fails = try-fails u t p (others-wide u t p (left r)) o (let h = c.words-test.true in omega arith) (others-word u t p (left r) c.words.l-index c.words-test.true) none in
     record {
-      sized = c.bind-n.auto.bindings ∙ w.invariant.sized;
+      sized = c.bind.auto.bindings ∙ o.sized;
       none_found = c.rules.invariant.none_found;
-      along = along-next c.requires.0 (drop c.args.spot.at (term_in c.args.area.now c.args.spot.gap))
-          c.rules.invariant.along c.rules-test.true fails (rw w.invariant.same at c.next_of-k-then-n-eq0.ensures.0);
+      k = _;
+      number = c.next_of-next-in_default-bind.ensures.number;
+      along = along-next c.args.index.now.book.accepted (drop p t) (tries c.rules.invariant c.in-Some.is).1 (more r) fails refl;
     }
 
 pub overflow_add-q-in-words : goal.overflow_add-q-in-words
 overflow_add-q-in-words c =
-    let w = c.words in
-    let y = short (goal.at.overflow_add-q-in-words c).Start in
-    let f = try-fits (turn (goal.at.overflow_add-q-in-words c).After-rule_at-r) (term_in c.args.area.now c.args.spot.gap)
-    c.args.spot.at w.invariant c.words-test.true (took (goal.at.overflow_add-q-in-words c).After-bind-n) c.if-n-eq0.false y.0 in
+    let r = (goal.at.overflow_add-q-in-words c).After-rule-rule in
+    let u = turn r in
+    let t = term_in c.args.area.now c.args.spot.gap in
+    let p = c.args.spot.at in
+    let y = within p c.requires.0.gapped c.requires.1 in
+    let takes = c.in-Some-bind.ensures.taken _ c.requires.0 in
+    let f = try-fits u t p (others-wide u t p (left r)) c.words.invariant (let h = c.words-test.true in omega arith) (others-word u t p (left r) c.words.l-index c.words-test.true)
+    takes (omega arith) in
     omega arith
 
 pub words-preserved : goal.words-preserved
 words-preserved c =
+    let r = (goal.at.words-preserved c).After-rule-rule in
+    let u = turn r in
+    let t = term_in c.args.area.now c.args.spot.gap in
+    let p = c.args.spot.at in
     let o = c.words.invariant in
-    let much = c.if-n-eq0.false in
-    try-goes (turn (goal.at.words-preserved c).After-rule_at-r) (term_in c.args.area.now c.args.spot.gap) c.args.spot.at o c.words-test.true (took (goal.at.words-preserved c).After-bind-n)
-    much (c.bind-n.auto.bindings ∙ o.sized) (c.bind-n.ensures.bound much)
+    try-goes u t p (others-wide u t p (left r)) o (let h = c.words-test.true in omega arith) (others-word u t p (left r) c.words.l-index c.words-test.true)
+    (c.in-Some-bind.ensures.taken _ c.requires.0) (c.bind.auto.bindings ∙ o.sized) c.in-Some-bind.ensures.bound
 
 -- no rule of the list is left
-pub shape_of-bindings-after-rules : goal.shape_of-bindings-after-rules
-shape_of-bindings-after-rules c = c.rules.invariant.sized ∙ sym c.requires.4
-
-pub returns-after-rules : goal.returns-after-rules
-returns-after-rules c = let told = (finds-nothing c.requires.0 (term_in c.args.area.now c.args.spot.gap) c.args.spot.at (low (goal.at.returns-after-rules c).At-rules)
-    c.rules.invariant.along c.rules-test.false) in
-    record { found = rw c.rules.invariant.none_found told.0; bound = told.1 }
+pub returns-in_default : goal.returns-in_default
+returns-in_default c =
+    let is = first (term_in c.args.area.now c.args.spot.gap) c.args.spot.at c.word_at-head.ensures in
+    let v = c.rules.invariant in
+    let told = finds-nothing c.args.index.now.book.accepted (term_in c.args.area.now c.args.spot.gap) c.args.spot.at (omega arith) v.along (no_rule_left v c.in_default.is) in
+    record { found = rw v.none_found told.0; bound = told.1 }
 
 -- all words of a left side are matched
 pub shape_of-bindings-after-words : goal.shape_of-bindings-after-words
-shape_of-bindings-after-words c = c.words.invariant.sized ∙ sym c.requires.4
+shape_of-bindings-after-words c = c.words.invariant.sized ∙ sym c.requires.2
 
 pub returns-after-words : goal.returns-after-words
-returns-after-words c = let told = finds-rule c.requires.0 (term_in c.args.area.now c.args.spot.gap) c.args.spot.at (low (goal.at.returns-after-words c).At-rules)
-    c.rules.invariant.along (turn (goal.at.returns-after-words c).After-rule_at-r) c.rule_start.ensures.0 c.rule_at-r.ensures
-    c.words.invariant c.words-test.false in
+returns-after-words c =
+    let is = first (term_in c.args.area.now c.args.spot.gap) c.args.spot.at c.word_at-head.ensures in
+    let r = (goal.at.returns-after-words c).After-rule-rule in
+    let t = term_in c.args.area.now c.args.spot.gap in
+    let told = finds-rule c.args.index.now.book.accepted t c.args.spot.at (omega arith)
+    (tries c.rules.invariant c.in-Some.is).1 (turn r) (stands r) refl (others-wide (turn r) t c.args.spot.at (left r)) c.words.invariant (omega arith) in
     record { found = told.0; bound = told.1 }

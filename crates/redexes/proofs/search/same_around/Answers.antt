@@ -56,9 +56,6 @@ returns-then-word_at c =
     sym (same-stops (even (goal.at.returns-then-word_at c).Start) c.loop-i.invariant (let n = (long (goal.at.returns-then-word_at c).Start).0 in let h = c.loop-i-test.true in omega arith)
     (λ e. c.if-word_at.true (b.0 ∙ e ∙ sym b.1)))
 
-pub overflow_add-i : goal.overflow_add-i
-overflow_add-i c = let s = c.requires in let l = s.0.lies in omega arith
-
 pub loop-i-preserved : goal.loop-i-preserved
 loop-i-preserved c =
     let b = both (goal.at.loop-i-preserved c).After-word_at-in-loop-i in

@@ -10,8 +10,8 @@ returns-then-i-gap c =
     let p = c.requires in
     (sym (slot-before a.gap a.i c.if-i-gap.true), omega (arith, c.if-i-gap.true, p.0.low, p.0.high))
 
-pub returns : goal.returns
-returns c =
+pub returns-else-i-gap : goal.returns-else-i-gap
+returns-else-i-gap c =
     let l = c.if-i-gap.false in
     let a = c.args in
     let p = c.requires in

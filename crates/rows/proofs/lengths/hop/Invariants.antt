@@ -2,8 +2,5 @@
 use Rattle.rows.proofs.lengths.Hops.{Hopping}
 use Rattle.rows.proofs.lengths.hop.Given as goal
 
-abbrev pub invariant-loop-due : goal.invariant-loop-due
-invariant-loop-due l = Hopping l.area l.gap l.from l.k l.at l.due
-
-abbrev pub decreases-loop-due : goal.decreases-loop-due
-decreases-loop-due l = l.due
+abbrev pub invariant-loop : goal.invariant-loop
+invariant-loop l = Hopping l.area l.gap l.from l.k l.at l.counter

@@ -1,16 +1,21 @@
--- `lengths::lay` meets its contract: the term is laid into the third row, and put from there at the end of the first, word by word.
 use native.Mathlib.Omega.{arith}
-use Rattle.rows.proofs.lengths.Writes.{lay-fits, written-laid}
+use Rattle.system.specs.Signature.{signature_of}
+use Rattle.buffers.proofs.Fronts.{front-turn}
+use Rattle.rows.proofs.lengths.Pushes.{pushing-first, pushing-last, pushing-next}
 use Rattle.rows.proofs.lengths.lay.Goals as goal
 
--- ---- the goals
-
-pub push_all-requires : goal.push_all-requires
-push_all-requires c =
+pub loop-w-init : goal.loop-w-init
+loop-w-init c =
     let a = c.args in
-    (c.requires.0, omega arith, lay-fits a.area.now a.term.now c.requires.0 c.requires.1 c.copy_in.ensures)
+    pushing-first (signature_of a.book.now) a.area.now a.term.now (omega (arith, c.requires.1)) cc
+
+pub loop-w-preserved : goal.loop-w-preserved
+loop-w-preserved c =
+    let a = c.args in
+    let t = front-turn c.loop-w.invariant.front _ _ c.in-Some.ensures.steps in
+    pushing-next (signature_of a.book.now) a.area.now a.term.now (omega (arith, c.requires.1)) c.loop-w.invariant t c.push-at.ensures
 
 pub returns : goal.returns
 returns c =
     let a = c.args in
-    written-laid a.area.now a.term.now c.requires.0 c.requires.1 c.copy_in.ensures c.push_all.ensures
+    pushing-last (signature_of a.book.now) a.area.now a.term.now (omega (arith, c.requires.1)) c.loop-w.invariant c.in-None.ensures.steps.0

@@ -2,7 +2,7 @@
 use Prim.Native.Nat.{◌+◌, ◌-◌, ◌≤◌}
 use native.Mathlib.Omega.{arith}
 use mathlib.Core.Path.{◌≡◌}
-use lib.ListN.{drop, length-set}
+use lib.ListN.{drop}
 use Rattle.system.specs.Limits.{term_words}
 use Rattle.system.specs.Signature.{span, signature_of}
 use Rattle.rows.specs.Rows.{term_in}
@@ -21,30 +21,8 @@ small c =
 
 -- ---- the goals
 
-pub hop-end-requires : goal.hop-end-requires
-hop-end-requires c =
-    let o = c.requires.0 in
-    let b = o.before in
-    (o.measured.gapped, omega arith)
-
-pub overflow_sub-area : goal.overflow_sub-area
-overflow_sub-area c = let s = small c in omega arith
-
 pub overflow_cast-area : goal.overflow_cast-area
 overflow_cast-area c = let s = small c in omega arith
-
-pub bounds-area-at-2 : goal.bounds-area-at-2
-bounds-area-at-2 c =
-    let a = c.args in
-    let o = c.requires.0 in
-    let h = o.measured.gapped in
-    let r = h.room in
-    let l = h.lies.low in
-    let k = h.lies.high in
-    let b = o.before in
-    let s = c.requires.1 in
-    let z = length-set a.area.now (a.to - 1) a.w in
-    omega arith
 
 pub returns : goal.returns
 returns c =

@@ -5,8 +5,9 @@ use Rattle.reader.specs.Book.{system_of}
 use Rattle.runs.proofs.running.Running.{Running}
 use Rattle.runs.proofs.running.run_at.Given as goal
 
-abbrev pub invariant-loop-met : goal.invariant-loop-met
-invariant-loop-met l = Running (system_of l.book) (record { from = l.from; ws = l.initial.area; frame = l.initial.frame; words = l.initial.«record» }) l.area l.frame l.«record» l.gap l.level l.steps
+abbrev pub invariant-loop-redex : goal.invariant-loop-redex
+invariant-loop-redex l = Running (system_of l.index.book.words.now)
+    (record { from = l.from; ws = l.initial.area; frame = l.initial.frame; words = l.initial.«record» }) l.area l.frame l.«record» l.gap l.level l.steps
 
-abbrev pub decreases-loop-met : goal.decreases-loop-met
-decreases-loop-met l = l.from.most - (l.steps - l.from.steps)
+abbrev pub decreases-loop-redex : goal.decreases-loop-redex
+decreases-loop-redex l = l.from.most - (l.steps - l.from.steps)

@@ -1,22 +1,21 @@
-use native.Mathlib.Omega.{arith}
-use Rattle.sides.proofs.Ends.{alike-none, alike_next}
+-- `sides::shared_end` meets its contract.
+use Rattle.std.proofs.Common.{reverse, ◌∙◌, rules, tests}
+use Rattle.std.specs.List.{zip}
+use Rattle.std.proofs.lemmas.List.Folds.{length-prefix_len}
+use Rattle.std.proofs.lemmas.Iterator.{YieldsList-from_zip}
+use Rattle.std.proofs.lemmas.Iterator.Adapters.{YieldsList-from_rev_slice}
+use Rattle.std.proofs.lemmas.Iterator.Consumers.{YieldsList-at, count_from_yields_List}
+use Rattle.std.proofs.lemmas.Iterator.Search.{YieldsList-from_take_while}
+use Rattle.sides.proofs.Ends.{same, ends-alike}
 use Rattle.sides.proofs.sides.shared_end.Goals as goal
 
--- ---- the goals
-
-pub loop-j-init : goal.loop-j-init
-loop-j-init c = alike-none c.args.lhs.now c.args.rhs.now
-
-pub returns-then-rhs-j : goal.returns-then-rhs-j
-returns-then-rhs-j c = let v = c.loop-j.invariant in (v.left, v.right, v.same)
-
-pub returns-then-lhs-j : goal.returns-then-lhs-j
-returns-then-lhs-j c = let v = c.loop-j.invariant in (v.left, v.right, v.same)
-
-pub loop-j-preserved : goal.loop-j-preserved
-loop-j-preserved c =
-    let a = c.args in
-    alike_next a.lhs.now a.rhs.now c.loop-j.invariant c.loop-j-test.true (let z = c.if-rhs-j.false in omega arith) c.if-lhs-j.false
-
 pub returns : goal.returns
-returns c = let v = c.loop-j.invariant in (v.left, v.right, v.same)
+returns c =
+    let l = c.args.lhs.now in
+    let r = c.args.rhs.now in
+    let n = count_from_yields_List _ c.count.result c.count.ensures.ran
+    (YieldsList-from_take_while _ same
+    (YieldsList-at c.take_while.ensures.source
+    (YieldsList-from_zip (YieldsList-at c.zip.ensures.first (YieldsList-from_rev_slice l (cc))) (YieldsList-at c.zip.ensures.second (YieldsList-from_rev_slice r (cc)))))
+    c.take_while.ensures.closure c.take_while.ensures.done (λ x b q k. search (rules, tests))) in
+    ends-alike l r c.count.result (n ∙ length-prefix_len same (zip (reverse l) (reverse r)))

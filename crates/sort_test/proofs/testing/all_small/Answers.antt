@@ -1,20 +1,13 @@
-use native.Mathlib.Omega.{arith}
-use mathlib.Core.Path.{refl, ◌∙◌}
-use Rattle.sort_test.proofs.testing.TestSteps.{small-ends, small-fails, small-next}
+-- `testing::all_small` meets its contract.
+use Rattle.std.proofs.Common.{◌∙◌, leb, rules, tests}
+use Rattle.std.proofs.lemmas.Iterator.{YieldsList-from_slice}
+use Rattle.std.proofs.lemmas.Iterator.Search.{all_from_yields_List}
+use Rattle.system.specs.Limits.{max_sort}
+use Rattle.sort_test.proofs.testing.TestSteps.{all_small_is}
 use Rattle.sort_test.proofs.testing.all_small.Goals as goal
 
-pub loop-i-init : goal.loop-i-init
-loop-i-init c = refl
-
-pub returns-then-wide-gt-MAX_SORT : goal.returns-then-wide-gt-MAX_SORT
-returns-then-wide-gt-MAX_SORT c =
-    let e = c.wide.ensures.0 in
-    small-fails c.args.kinds.now c.loop-i.i c.loop-i-test.true (omega arith) ∙ c.loop-i.invariant
-
-pub loop-i-preserved : goal.loop-i-preserved
-loop-i-preserved c =
-    let e = c.wide.ensures.0 in
-    small-next c.args.kinds.now c.loop-i.i c.loop-i-test.true (omega arith) ∙ c.loop-i.invariant
-
 pub returns : goal.returns
-returns c = small-ends c.args.kinds.now c.loop-i.i c.loop-i-test.false ∙ c.loop-i.invariant
+returns c =
+    let ks = c.args.kinds.now in
+    all_from_yields_List (λ k. leb k max_sort) _ _ _ c.all.ensures.ran (YieldsList-from_slice ks c.iter.ensures.rest) (λ x b q k. search (rules, tests))
+    ∙ all_small_is ks

@@ -1,43 +1,38 @@
 -- `testing::test` meets its contract.
-use Rattle.layout.proofs.Accepting.{scan-refused}
+use mathlib.Core.Path.{◌≡◌, refl, sym, ap, ◌∙◌}
+use Rattle.reader.proofs.scan.Outcomes.{scan-refused, scan-words}
+use Rattle.sort_test.specs.SortTest.{sorts_answer}
 use Rattle.sort_test.proofs.Tests.{sorts-refused}
-use Rattle.sort_test.proofs.testing.TestSteps.{scanned, scan-missorted, scan-ill, scan-term, narrow-book}
+use Rattle.sort_test.proofs.testing.TestSteps.{book-unlisted, listed-ill, listed-term}
 use Rattle.sort_test.proofs.testing.test.Goals as goal
+use Rattle.sort_test.proofs.testing.test.Goals.{In-Ok}
 
-pub returns-then-a-ne-TAKEN : goal.returns-then-a-ne-TAKEN
-returns-then-a-ne-TAKEN c =
-    let a = c.args in
-    scan-refused a.book.now a.scan c.requires c.if-a-ne-TAKEN.true (λ f i e. sorts-refused a.book.now a.term.now a.kinds.now e)
+-- the book is of the words that were scanned
+told : (c : In-Ok) → let a = c.args in sorts_answer c.in-Ok.book.words.now a.term.now a.kinds.now ≡ sorts_answer a.scan.now.words.now a.term.now a.kinds.now
+told c = let a = c.args in ap (λ b. sorts_answer b a.term.now a.kinds.now) (scan-words a.scan.now refl c.in-Ok.is)
 
-pub lists-requires : goal.lists-requires
-lists-requires c =
+-- ---- the goals
+
+pub returns-in-Err : goal.returns-in-Err
+returns-in-Err c =
     let a = c.args in
-    narrow-book (scanned a.book.now a.term.now a.kinds.now a.scan c.requires c.if-a-ne-TAKEN.false)
+    let s = a.scan.now in
+    c.into.ensures ∙ sym (sorts-refused s.words.now a.term.now a.kinds.now (scan-refused s refl c.in-Err.is))
 
 pub returns-then-not-lists : goal.returns-then-not-lists
 returns-then-not-lists c =
     let a = c.args in
-    scan-missorted a.book.now a.term.now a.kinds.now a.scan c.requires c.if-a-ne-TAKEN.false c.lists.ensures c.if-not-lists.true
+    c.new.ensures ∙ book-unlisted c.in-Ok.book.accepted a.term.now a.kinds.now c.lists.ensures c.if-not-lists.true
+    ∙ told (goal.at.returns-then-not-lists c).In-Ok
 
-pub first_ill-k-requires : goal.first_ill-k-requires
-first_ill-k-requires c =
+pub returns-in-Some : goal.returns-in-Some
+returns-in-Some c =
     let a = c.args in
-    scanned a.book.now a.term.now a.kinds.now a.scan c.requires c.if-a-ne-TAKEN.false
+    c.new-in-Some.ensures ∙ listed-ill c.in-Ok.book.accepted a.term.now a.kinds.now c.lists.ensures c.if-not-lists.false c.in-Some.ensures
+    ∙ told (goal.at.returns-in-Some c).In-Ok
 
-pub returns-then-k-shape : goal.returns-then-k-shape
-returns-then-k-shape c =
+pub returns-in-None : goal.returns-in-None
+returns-in-None c =
     let a = c.args in
-    scan-ill a.book.now a.term.now a.kinds.now a.scan c.requires c.if-a-ne-TAKEN.false c.lists.ensures c.if-not-lists.false c.first_ill-k.result
-    c.first_ill-k.ensures c.if-k-shape.true
-
-pub test_term-requires : goal.test_term-requires
-test_term-requires c =
-    let a = c.args in
-    narrow-book (scanned a.book.now a.term.now a.kinds.now a.scan c.requires c.if-a-ne-TAKEN.false)
-
-pub returns : goal.returns
-returns c =
-    let a = c.args in
-    scan-term a.book.now a.term.now a.kinds.now a.scan c.requires c.if-a-ne-TAKEN.false c.lists.ensures c.if-not-lists.false c.first_ill-k.result
-    c.first_ill-k.ensures c.if-k-shape.false
-    c.test_term.ensures
+    c.test_term.ensures ∙ listed-term c.in-Ok.book.accepted a.term.now a.kinds.now c.lists.ensures c.if-not-lists.false c.in-None.ensures
+    ∙ told (goal.at.returns-in-None c).In-Ok

@@ -1,107 +1,49 @@
 use native.Mathlib.Omega.{arith}
-use mathlib.Core.Path.{refl, sym, ◌∙◌}
-use mathlib.Core.Logic.{inl, inr}
-use Rattle.sorts.proofs.sides.SideSteps.{loop-starts, loop-ends, loop-full, loop-short, loop-clash, loop-noted, loop-differs, loop-last, loop-fails, loop-on, grown}
+use Rattle.sorts.specs.declared.sides.Mark.TheVariants.{Nothing}
+use Rattle.sorts.proofs.sides.SideSteps.{loop-ends, loop-full, loop-short, loop-clash, loop-noted, loop-differs, loop-last, loop-fails, loop-on}
 use Rattle.sorts.proofs.sides.+check.Goals as goal
 
-pub loop-due-init : goal.loop-due-init
-loop-due-init t c = let r = c.requires in loop-starts _ _ _ _ _ _ r.0 r.1 r.2 r.3
+pub returns-in_err-v-clause-ran : goal.returns-in_err-v-clause-ran
+returns-in_err-v-clause-ran t c =
+    rw c.from_residual.ensures (loop-full _ _ _ _ _ _ c.loop-due.invariant c.loop-due-test.true c.in_err-v.ensures.lookup.3 _)
 
-pub returns-then-p-ge-SIDE_WORDS : goal.returns-then-p-ge-SIDE_WORDS
-returns-then-p-ge-SIDE_WORDS t c =
-    let so = c.loop-due.invariant in
-    record {
-      sized = so.stands.size;
-      grows = inl refl;
-      ran = loop-full _ _ _ _ _ _ so c.loop-due-test.true c.if-p-ge-SIDE_WORDS.true _;
-    }
+pub returns-in-Nothing-clause-ran : goal.returns-in-Nothing-clause-ran
+returns-in-Nothing-clause-ran t c =
+    loop-short _ _ _ _ _ _ c.loop-due.invariant c.loop-due-test.true (c.in_ok-v.ensures.lookup.3.1 Nothing) c.in-Nothing.is _
 
-pub returns-then-a : goal.returns-then-a
-returns-then-a t c =
-    let so = c.loop-due.invariant in
-    record {
-      sized = so.stands.size;
-      grows = inl refl;
-      ran = loop-short _ _ _ _ _ _ so c.loop-due-test.true c.if-p-ge-SIDE_WORDS.false c.wide-x.ensures.0 refl c.if-a.true _;
-    }
+pub returns-then-not-note-clause-ran : goal.returns-then-not-note-clause-ran
+returns-then-not-note-clause-ran t c =
+    loop-clash _ _ _ _ _ _ c.loop-due.invariant c.loop-due-test.true (c.in_ok-v.ensures.lookup.3.1 Nothing) c.listed-e.ensures
+    c.in-Variable.is c.wide.ensures.0 c.note.result _ c.note.ensures c.if-not-note.true _
 
-pub returns-then-not-note : goal.returns-then-not-note
-returns-then-not-note t c =
-    let so = c.loop-due.invariant in record {
-      sized = c.note.ensures.sized;
-      grows = inl refl;
-      ran = loop-clash _ _ _ _ _ _ so c.loop-due-test.true c.if-p-ge-SIDE_WORDS.false c.wide-x.ensures.0 refl c.if-a.false
-          c.listed-e.ensures c.if-a-2.true c.note.result _ c.note.ensures.noted c.if-not-note.true _;
-    }
+pub loop-due-preserved-in-Variable : goal.loop-due-preserved-in-Variable
+loop-due-preserved-in-Variable t c =
+    loop-noted _ _ _ _ _ _ c.loop-due.invariant c.loop-due-test.true (c.in_ok-v.ensures.lookup.3.1 Nothing) c.listed-e.ensures
+    c.in-Variable.is c.wide.ensures.0 c.note.result _ c.note.ensures (let l = c.in_ok-v.ensures.lookup.3.0 in omega arith) c.if-not-note.false
 
-pub loop-due-preserved-then-a-2 : goal.loop-due-preserved-then-a-2
-loop-due-preserved-then-a-2 t c =
-    let so = c.loop-due.invariant in
-    loop-noted _ _ _ _ _ _ so c.loop-due-test.true c.if-p-ge-SIDE_WORDS.false c.wide-x.ensures.0 refl c.if-a.false
-    c.listed-e.ensures c.if-a-2.true c.note.result _ c.note.ensures.noted c.note.ensures.sized c.if-not-note.false
-
-pub returns-then-listed-e : goal.returns-then-listed-e
-returns-then-listed-e t c =
-    let so = c.loop-due.invariant in record {
-      sized = so.stands.size;
-      grows = inl refl;
-      ran = loop-differs _ _ _ _ _ _ so c.loop-due-test.true c.if-p-ge-SIDE_WORDS.false c.wide-x.ensures.0 refl c.if-a.false
-          c.listed-e.ensures c.if-a-2.false c.listed.ensures c.if-listed-e.true _;
-    }
+pub returns-then-listed-e-clause-ran : goal.returns-then-listed-e-clause-ran
+returns-then-listed-e-clause-ran t c =
+    loop-differs _ _ _ _ _ _ c.loop-due.invariant c.loop-due-test.true (c.in_ok-v.ensures.lookup.3.1 Nothing) c.listed-e.ensures
+    c.in-Symbol.is c.wide-x.ensures.0 c.listed.ensures c.if-listed-e.true _
 
 pub loop-due-preserved-then-due-eq1 : goal.loop-due-preserved-then-due-eq1
 loop-due-preserved-then-due-eq1 t c =
-    let so = c.loop-due.invariant in
-    let q = c.wide-due.ensures.0 in
-    loop-last _ _ _ _ _ _ so c.loop-due-test.true c.if-p-ge-SIDE_WORDS.false c.wide-x.ensures.0 q (λ z. c.if-a.false (sym q ∙ z))
-    c.listed-e.ensures (λ z. c.if-a-2.false (sym q ∙ z)) c.listed.ensures c.if-listed-e.false
-    c.wide-x.ensures.1 c.wide-due.ensures.1 c.if-due-eq1.true
+    loop-last _ _ _ _ _ _ c.loop-due.invariant c.loop-due-test.true (c.in_ok-v.ensures.lookup.3.1 Nothing) c.listed-e.ensures
+    c.in-Symbol.is c.wide-x.ensures.0 c.listed.ensures c.if-listed-e.false c.wide-due.ensures.0
+    (let l = c.in_ok-v.ensures.lookup.3.0 in omega arith) c.wide-x.ensures.1 c.wide-due.ensures.1 c.if-due-eq1.true
 
-pub check-next-requires : goal.check-next-requires
-check-next-requires t c =
-    let so = c.loop-due.invariant.stands in
-    let l = c.if-p-ge-SIDE_WORDS.false in
-    let f = so.from in
-    let m = c.requires.0 in
-    let x = c.wide-x.ensures.1 in
-    let y = c.wide.ensures.1 in
-    (omega arith, (omega arith, omega arith, omega arith, so.size))
-
-pub returns-then-next-eq0 : goal.returns-then-next-eq0
-returns-then-next-eq0 t c =
-    let so = c.loop-due.invariant in
-    let q = c.wide.ensures.0 in record {
-      sized = c.check-next.ensures.sized;
-      grows = inl refl;
-      ran = loop-fails _ _ _ _ _ _ so c.loop-due-test.true c.if-p-ge-SIDE_WORDS.false c.wide-x.ensures.0 q (λ z. c.if-a.false (sym q ∙ z))
-          c.listed-e.ensures (λ z. c.if-a-2.false (sym q ∙ z)) c.listed.ensures c.if-listed-e.false
-          c.check-next.result _ c.check-next.ensures.ran c.if-next-eq0.true _;
-    }
-
-pub loop-due-smaller : goal.loop-due-smaller
-loop-due-smaller t c =
-    let l = c.if-p-ge-SIDE_WORDS.false in
-    let z = grown c.check-next.ensures.grows c.if-next-eq0.false in
-    let z0 = z.0 in
-    omega arith
+pub returns-in_err-p-in-Symbol-clause-ran : goal.returns-in_err-p-in-Symbol-clause-ran
+returns-in_err-p-in-Symbol-clause-ran t c =
+    rw c.from_residual-in_err-p-in-Symbol.ensures (loop-fails _ _ _ _ _ _ c.loop-due.invariant c.loop-due-test.true
+    (c.in_ok-v.ensures.lookup.3.1 Nothing) c.listed-e.ensures c.in-Symbol.is c.wide-x.ensures.0 c.listed.ensures c.if-listed-e.false
+    c.wide-else-due-eq1.ensures.0 c.check.result _ c.check.ensures.ran c.in_err-p-in-Symbol.was _)
 
 pub loop-due-preserved : goal.loop-due-preserved
 loop-due-preserved t c =
-    let so = c.loop-due.invariant in
-    let q = c.wide.ensures.0 in
-    let z = grown c.check-next.ensures.grows c.if-next-eq0.false in
-    loop-on _ _ _ _ _ _ so c.loop-due-test.true c.if-p-ge-SIDE_WORDS.false c.wide-x.ensures.0 q (λ z. c.if-a.false (sym q ∙ z))
-    c.listed-e.ensures (λ z. c.if-a-2.false (sym q ∙ z)) c.listed.ensures c.if-listed-e.false
-    c.check-next.result _ c.check-next.ensures.ran z.0 z.1 c.check-next.ensures.sized c.if-next-eq0.false
+    let z = c.in_ok-p-in-Symbol.ensures.grows in
+    loop-on _ _ _ _ _ _ c.loop-due.invariant c.loop-due-test.true (c.in_ok-v.ensures.lookup.3.1 Nothing) c.listed-e.ensures
+    c.in-Symbol.is c.wide-x.ensures.0 c.listed.ensures c.if-listed-e.false c.wide-else-due-eq1.ensures.0 c.check.result _ c.check.ensures.ran
+    c.in_ok-p-in-Symbol.was z.0 z.1
 
-pub returns : goal.returns
-returns t c =
-    let so = c.loop-due.invariant in
-    record {
-      sized = so.stands.size;
-      grows = inr (so.stands.from, so.stands.most);
-      ran = loop-ends _ _ _ _ _ _ so c.loop-due-test.false;
-    }
-
-pub note-requires : goal.note-requires
-note-requires t c = c.loop-due.invariant.stands.size
+pub returns-clause-ran : goal.returns-clause-ran
+returns-clause-ran t c = loop-ends _ _ _ _ _ _ c.loop-due.invariant c.loop-due-test.false

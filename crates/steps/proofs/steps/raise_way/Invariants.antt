@@ -1,11 +1,7 @@
 -- `steps::raise_way` meets its contract: a law of Raising at each place.
-use Prim.Native.Nat.{◌-◌}
 use Rattle.steps.proofs.steps.Raising.{Raising}
 use Rattle.steps.specs.steps.Raised.{way_in}
 use Rattle.steps.proofs.steps.raise_way.Given as goal
 
 abbrev pub invariant-loop-k : goal.invariant-loop-k
 invariant-loop-k l = Raising l.initial.area (way_in l.initial.area l.n) l.width l.size l.area l.k
-
-abbrev pub decreases-loop-k : goal.decreases-loop-k
-decreases-loop-k l = l.n - l.k

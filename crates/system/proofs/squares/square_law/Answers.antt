@@ -6,4 +6,4 @@ use Rattle.system.proofs.squares.square_law.Goals as goal
 
 pub returns : goal.returns
 unfolding values square_law
-returns c = value-at square_law literals c.args.n (search rules)
+returns c = rw c.from.ensures (value-at square_law literals c.args.n (search rules))

@@ -1,11 +1,7 @@
--- `falling::count` meets its contract. The loop's invariant: the words before index j are counted.
-use Prim.Native.Nat.{◌-◌, ◌≤◌}
-use lib.ListN.{length, take}
+-- `falling::count` meets its contract.
+use lib.ListN.{take}
 use Rattle.termination.specs.falling.Counts.{Counts}
 use Rattle.termination.proofs.falling.count.Given as goal
 
-abbrev pub invariant-loop-j : goal.invariant-loop-j
-invariant-loop-j l = (l.j ≤ length l.words) × Counts (take l.j l.words) l.counts
-
-abbrev pub decreases-loop-j : goal.decreases-loop-j
-decreases-loop-j l = length l.words - l.j
+abbrev pub invariant-loop-w : goal.invariant-loop-w
+invariant-loop-w l = Counts (take l.w-index l.words) l.counts

@@ -1,12 +1,15 @@
--- The book decides first, then the term.
-use Rattle.terms.proofs.checking.Checks.{term-refused, term-checked}
+-- The words of an accepted book, and so the term's own answer.
+use mathlib.Core.Path.{sym, ap, ◌∙◌}
+use Rattle.reader.specs.Answers.{whole_answer}
+use Rattle.terms.proofs.checking.Checks.{term-checked, found-some, found-none}
 use Rattle.terms.proofs.checking.check.Goals as goal
 
--- ---- the goals
+pub returns-in-Some : goal.returns-in-Some
+returns-in-Some c =
+    let t = c.args.term.now in
+    c.new.ensures ∙ ap (whole_answer t) (sym (found-some c.in-Some.ensures)) ∙ sym (term-checked _ t c.args.book.now.accepted.accepted)
 
-pub returns-then-a-ne-TAKEN : goal.returns-then-a-ne-TAKEN
-returns-then-a-ne-TAKEN c = let a = c.args in term-refused a.book.now a.scan c.requires a.term.now c.if-a-ne-TAKEN.true
-
-pub returns : goal.returns
-returns c = let a = c.args in
-    term-checked a.book.now a.scan c.requires a.term.now c.if-a-ne-TAKEN.false c.first_break.result c.first_break.ensures
+pub returns-in-None : goal.returns-in-None
+returns-in-None c =
+    let t = c.args.term.now in
+    c.new-in-None.ensures ∙ ap (whole_answer t) (sym (found-none c.in-None.ensures)) ∙ sym (term-checked _ t c.args.book.now.accepted.accepted)

@@ -1,5 +1,6 @@
+use Prim.Native.Nat.{◌+◌, ◌-◌}
 use native.Mathlib.Omega.{arith}
-use mathlib.Core.Path.{sym, ◌∙◌}
+use mathlib.Core.Path.{◌≡◌, sym, ◌∙◌}
 use Rattle.walks.proofs.walk.Pointing.{Bounds, points-bounds, points-up}
 use Rattle.walks.proofs.walk.Climbing.{climbed-here, climbed-all}
 use Rattle.walks.proofs.walk.climb.Goals as goal
@@ -11,15 +12,14 @@ bounds c = let p = c.requires.0 in points-bounds p.0 p.1 (c.loop-level.invariant
 
 -- ---- the goals
 
-pub loop-level-init : goal.loop-level-init
-loop-level-init c = λ s wf v. v
-
 pub inside-requires : goal.inside-requires
 inside-requires c = let b = bounds (goal.at.inside-requires c).At-loop-level in (b.gapped, b.within)
 
 pub returns-then-inside : goal.returns-then-inside
 returns-then-inside c =
-    λ s wf v. let p = c.loop-level.invariant s wf v in climbed-here s wf p c.args.q (sym (c.inside.ensures s.arities p.measured) ∙ c.if-inside.true)
+    let l = c.loop-level in
+    let e : l.level - 1 + 1 ≡ l.level = omega arith in
+    λ s wf v. let p = l.invariant s wf v in rw e (climbed-here s wf p c.args.q (sym (c.inside.ensures s.arities p.measured) ∙ c.if-inside.true))
 
 pub overflow_add-level : goal.overflow_add-level
 overflow_add-level c = let b = bounds (goal.at.overflow_add-level c).At-loop-level in omega arith
@@ -36,4 +36,6 @@ loop-level-preserved c =
 
 pub returns : goal.returns
 returns c =
-    λ s wf v. climbed-all s wf (c.loop-level.invariant s wf v) c.args.q c.requires.1 c.loop-level-test.false
+    let l = c.loop-level in
+    let e : 0 ≡ l.level = omega arith in
+    λ s wf v. rw e (climbed-all s wf (l.invariant s wf v) c.args.q c.requires.1 c.loop-level-test.false)

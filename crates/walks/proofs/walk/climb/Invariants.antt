@@ -5,8 +5,8 @@ use Rattle.walks.specs.walk.Way.{PointsIn}
 use Rattle.walks.proofs.walk.climb.Given as goal
 
 abbrev pub invariant-loop-level : goal.invariant-loop-level
-invariant-loop-level l = (s : System) → WellFormed s → PointsIn s l.area (record { gap = l.gap; level = l.initial.level; at = l.initial.at })
-    → PointsIn s l.area (record { gap = l.gap; level = l.level; at = l.at })
+invariant-loop-level l = (s : System) → WellFormed s → PointsIn s l.area (record { gap = l.f.gap; level = l.f.level; at = l.initial.at })
+    → PointsIn s l.area (record { gap = l.f.gap; level = l.level; at = l.at })
 
 abbrev pub decreases-loop-level : goal.decreases-loop-level
 decreases-loop-level l = l.level

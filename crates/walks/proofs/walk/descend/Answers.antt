@@ -1,14 +1,14 @@
 use native.Mathlib.Omega.{arith}
-use mathlib.Core.Path.{refl, ◌∙◌}
+use mathlib.Core.Path.{◌∙◌}
 use lib.ListN.{length-set}
 use Rattle.rows.specs.Rows.{term_in}
 use Rattle.walks.proofs.walk.Pointing.{Bounds}
-use Rattle.walks.proofs.walk.Descending.{Turn, descent-bounds, over-in, descended, turn-bounds, argument-ends, descent-stops, descends, few-arguments}
+use Rattle.walks.proofs.walk.Descending.{Turn, descent-bounds, descended, turn-bounds, argument-ends, descent-stops, descends, few-arguments}
 use Rattle.walks.proofs.walk.descend.Goals as goal
-use Rattle.walks.proofs.walk.descend.Goals.{After-stands_in, At-loop-at}
+use Rattle.walks.proofs.walk.descend.Goals.{After-stands_in, At-loop-f}
 
-bounds : (c : At-loop-at) → Bounds c.loop-at.area (record { gap = c.args.f.gap; level = c.loop-at.level; at = c.loop-at.at })
-bounds c = descent-bounds c.args.book.now c.args.shape c.requires.0 c.loop-at.invariant.0
+bounds : (c : At-loop-f) → Bounds c.loop-f.area c.loop-f.f
+bounds c = descent-bounds c.args.index.now.book c.loop-f.invariant.0
 
 -- where the argument is known that holds q, and where it is known whether it stands in the strategy
 
@@ -17,15 +17,13 @@ turn c =
     let a = c.args in
     let k = c.holder-a in
     record {
-      book = a.book.now;
-      shape = a.shape;
-      accepted = c.requires.0;
+      book = a.index.now.book;
       t = term_in a.area.now a.f.gap;
-      ws = c.loop-at.area;
-      f = (record { gap = c.args.f.gap; level = c.loop-at.level; at = c.loop-at.at });
+      ws = c.loop-f.area;
+      f = c.loop-f.f;
       q = a.q;
-      over = c.loop-at.invariant.0;
-      lower = c.loop-at-test.true;
+      over = c.loop-f.invariant.0;
+      lower = c.loop-f-test.true;
       a = k.result;
       held = k.ensures;
       word = c.word_at.result;
@@ -36,27 +34,12 @@ turn c =
 
 -- ---- the goals
 
-pub loop-at-init : goal.loop-at-init
-loop-at-init c = (c.requires.2, refl)
-
-pub holder-a-requires : goal.holder-a-requires
-holder-a-requires c =
-    let v = c.loop-at.invariant.0 in
-    let a = c.args in
-    ((a.shape, c.requires.0), v.points.measured, (over-in a.book.now a.shape c.requires.0 v).above, c.loop-at-test.true)
-
 pub word_at-requires : goal.word_at-requires
-word_at-requires c = let b = bounds (goal.at.word_at-requires c).At-loop-at in (b.gapped, b.within)
+word_at-requires c = let b = bounds (goal.at.word_at-requires c).At-loop-f in (b.gapped, b.within)
 
 pub overflow_add-a : goal.overflow_add-a
 overflow_add-a c =
-    omega (arith, few-arguments c.args.book.now c.args.shape c.requires.0 c.holder-a.ensures)
-
-pub stands_in-requires : goal.stands_in-requires
-stands_in-requires c = (c.requires.0, c.requires.1)
-
-pub shape_of-area-then-not-stands_in : goal.shape_of-area-then-not-stands_in
-shape_of-area-then-not-stands_in c = c.loop-at.invariant.1
+    omega (arith, few-arguments c.args.index.now.book c.holder-a.ensures)
 
 pub returns-then-not-stands_in : goal.returns-then-not-stands_in
 returns-then-not-stands_in c = descent-stops (turn (goal.at.returns-then-not-stands_in c).After-stands_in) c.if-not-stands_in.true
@@ -67,22 +50,22 @@ overflow_cast-area c = let b = turn-bounds (turn (goal.at.overflow_cast-area c).
 pub overflow_add-area : goal.overflow_add-area
 overflow_add-area c = let b = turn-bounds (turn (goal.at.overflow_add-area c).After-stands_in) in omega arith
 
-pub offset_bounds-area-level : goal.offset_bounds-area-level
-offset_bounds-area-level c = let b = turn-bounds (turn (goal.at.offset_bounds-area-level c).After-stands_in) in omega arith
+pub offset_bounds-area-f : goal.offset_bounds-area-f
+offset_bounds-area-f c = let b = turn-bounds (turn (goal.at.offset_bounds-area-f c).After-stands_in) in omega arith
 
-pub bounds-area-level : goal.bounds-area-level
-bounds-area-level c = let b = turn-bounds (turn (goal.at.bounds-area-level c).After-stands_in) in omega arith
+pub bounds-area-f : goal.bounds-area-f
+bounds-area-f c = let b = turn-bounds (turn (goal.at.bounds-area-f c).After-stands_in) in omega arith
 
-pub overflow_add-level : goal.overflow_add-level
-overflow_add-level c = let b = turn-bounds (turn (goal.at.overflow_add-level c).After-stands_in) in omega arith
+pub overflow_add-f : goal.overflow_add-f
+overflow_add-f c = let b = turn-bounds (turn (goal.at.overflow_add-f c).After-stands_in) in omega arith
 
-pub loop-at-smaller : goal.loop-at-smaller
-loop-at-smaller c = let e = argument-ends (turn (goal.at.loop-at-smaller c).After-stands_in) in let l = (turn (goal.at.loop-at-smaller c).After-stands_in).lower in omega arith
+pub loop-f-smaller : goal.loop-f-smaller
+loop-f-smaller c = let e = argument-ends (turn (goal.at.loop-f-smaller c).After-stands_in) in let l = (turn (goal.at.loop-f-smaller c).After-stands_in).lower in omega arith
 
-pub loop-at-preserved : goal.loop-at-preserved
-loop-at-preserved c =
-    let l = c.loop-at in
-    (descends (turn (goal.at.loop-at-preserved c).After-stands_in) c.if-not-stands_in.false, length-set l.area _ l.at ∙ l.invariant.1)
+pub loop-f-preserved : goal.loop-f-preserved
+loop-f-preserved c =
+    let l = c.loop-f in
+    (descends (turn (goal.at.loop-f-preserved c).After-stands_in) c.if-not-stands_in.false, length-set l.area _ l.f.at ∙ l.invariant.1)
 
 pub returns : goal.returns
-returns c = descended c.args.book.now c.args.shape c.requires.0 c.loop-at.invariant.0 c.loop-at-test.false
+returns c = descended c.args.index.now.book c.loop-f.invariant.0 c.loop-f-test.false

@@ -7,8 +7,8 @@ use Rattle.rows.specs.Rows.{term_in}
 use Rattle.walks.specs.walk.Way.{Over}
 use Rattle.walks.proofs.walk.descend.Given as goal
 
-abbrev pub invariant-loop-at : goal.invariant-loop-at
-invariant-loop-at l = Over (system_of l.book) (term_in l.initial.area l.gap) l.area (record { gap = l.gap; level = l.level; at = l.at }) l.q × (length l.area ≡ length l.initial.area)
+abbrev pub invariant-loop-f : goal.invariant-loop-f
+invariant-loop-f l = Over (system_of l.index.book.words.now) (term_in l.initial.area l.initial.f.gap) l.area l.f l.q × (length l.area ≡ length l.initial.area)
 
-abbrev pub decreases-loop-at : goal.decreases-loop-at
-decreases-loop-at l = l.q - l.at
+abbrev pub decreases-loop-f : goal.decreases-loop-f
+decreases-loop-f l = l.q - l.f.at

@@ -1,31 +1,30 @@
-use Rattle.reader.proofs.scan.numbers.NumberSteps.{numbers-next, numbers-stop}
-use Rattle.reader.proofs.scan.numbers.Sections.{times-end}
 use Rattle.reader.specs.Parser.{number}
+use Rattle.reader.proofs.scan.numbers.Sections.{passed, times-end}
+use Rattle.reader.proofs.scan.numbers.NumberSteps.{numbers-next, numbers-stop}
 use native.Mathlib.Omega.{arith}
-use mathlib.Core.Path.{refl, sym, ◌∙◌}
+use Prim.Native.Nat.{◌+◌, ◌-◌}
+use mathlib.Core.Path.{◌≡◌, sym, ◌∙◌}
 use Rattle.reader.proofs.scan.numbers.read_numbers.Goals as goal
 
-pub loop-left-init : goal.loop-left-init
-loop-left-init c = (omega arith, λ f e. refl)
-
-pub returns-then-f-ne-TAKEN : goal.returns-then-f-ne-TAKEN
-returns-then-f-ne-TAKEN c = let l = c.loop-left in
+pub returns-in_err-read_number-clause-value : goal.returns-in_err-read_number-clause-value
+returns-in_err-read_number-clause-value c =
+    let l = c.loop-i in
     let a = c.args in
-    record {
-      value = λ f e. sym (numbers-stop a.book.now f 0 a.high l.i l.left (omega arith) c.check-f.result (c.check-f.ensures.value f e) c.if-f-ne-TAKEN.true) ∙ l.invariant.1 f e;
-      within = omega arith;
-    }
+    passed _ c.from_residual.ensures.1
+    ∙ sym (numbers-stop a.book.now a.otherwise 0 a.high l.i (a.at + a.n - l.i) (omega arith) c.in_err-read_number.ensures.value) ∙ l.invariant.1
 
-pub loop-left-preserved : goal.loop-left-preserved
-loop-left-preserved c = let l = c.loop-left in
+pub loop-i-preserved : goal.loop-i-preserved
+loop-i-preserved c =
+    let l = c.loop-i in
     let a = c.args in
-    let n = c.check-f.ensures.inside c.if-f-ne-TAKEN.false in
-    (let h = n.here in omega arith, λ f e. sym (numbers-next a.book.now f 0 a.high l.i l.left (omega arith) n) ∙ l.invariant.1 f e)
+    let n = c.in_ok-read_number.ensures.inside in
+    let h = n.here in
+    let m : a.at + a.n - (l.i + 1) ≡ a.at + a.n - l.i - 1 = omega arith in
+    (omega arith, rw m (sym (numbers-next a.book.now a.otherwise 0 a.high l.i (a.at + a.n - l.i) (omega arith) n) ∙ l.invariant.1))
 
-pub returns : goal.returns
-returns c = let l = c.loop-left in
+pub returns-clause-value : goal.returns-clause-value
+returns-clause-value c =
+    let l = c.loop-i in
     let a = c.args in
-    record {
-      value = λ f e. sym (times-end (number a.book.now f 0 a.high) l.left l.i (omega arith)) ∙ l.invariant.1 f e;
-      within = omega arith;
-    }
+    let e : l.i ≡ a.at + a.n = omega arith in
+    rw (← e) (sym (times-end (number a.book.now a.otherwise 0 a.high) (a.at + a.n - l.i) l.i (omega arith)) ∙ l.invariant.1)

@@ -1,28 +1,30 @@
 -- A rule: its left side decides, and then its right side.
-use Rattle.reader.proofs.scan.sections.SectionSteps.{rule-refused, rule-right}
+use Rattle.reader.specs.Parser.{read_side, read_rule}
+use Rattle.reader.specs.scan.Sections.{section_of}
 use Rattle.system.specs.Signature.{signature_of}
-use native.Mathlib.Omega.{arith}
-use mathlib.Core.Path.{sym}
+use Rattle.reader.specs.declared.scan.sides.SideRole.TheVariants.{Left, Right}
+use Rattle.reader.proofs.scan.numbers.Sections.{passed, stop}
+use Rattle.reader.proofs.scan.sections.SectionSteps.{rule-right, side-last}
+use mathlib.Core.Path.{sym, ap, ◌∙◌}
 use Rattle.reader.proofs.scan.sections.read_rule.Goals as goal
 
-pub returns-then-l-ne-TAKEN : goal.returns-then-l-ne-TAKEN
-returns-then-l-ne-TAKEN c = let a = c.args in
-    let l = c.read_side-l in
-    record {
-      value = sym (rule-refused a.book.now (signature_of a.book.now) a.at l.result l.ensures.value c.if-l-ne-TAKEN.true);
-      within = l.ensures.within.0;
-    }
-
-pub read_side-r-requires : goal.read_side-r-requires
-read_side-r-requires c = let l = c.read_side-l in
-    let h = l.ensures.within in
-    omega arith
-
-pub returns : goal.returns
-returns c =
+pub returns-in_err-l-clause-value : goal.returns-in_err-l-clause-value
+unfolding read_rule
+returns-in_err-l-clause-value c =
     let a = c.args in
-    let l = c.read_side-l in record {
-      value = sym (rule-right a.book.now (signature_of a.book.now) a.at l.result l.ensures.value c.if-l-ne-TAKEN.false c.read_side-r.result
-          c.read_side-r.ensures.value);
-      within = c.read_side-r.ensures.within.0;
-    }
+    passed _ c.from_residual.ensures.1 ∙ stop _ _ (read_side a.book.now (signature_of a.book.now) Left 0 a.at) _ c.in_err-l.ensures.value
+
+pub returns-in_err-r-clause-value : goal.returns-in_err-r-clause-value
+returns-in_err-r-clause-value c =
+    let a = c.args in
+    let l = c.in_ok-l in
+    let r = rule-right a.book.now (signature_of a.book.now) a.at l.ensures.value in
+    passed _ c.from_residual-in_err-r.ensures.1
+    ∙ stop _ _ (read_side a.book.now (signature_of a.book.now) Right l.l.known l.l.end) _ c.in_err-r.ensures.value ∙ sym (ap section_of r.1)
+
+pub returns-clause-value : goal.returns-clause-value
+returns-clause-value c =
+    let a = c.args in
+    let l = c.in_ok-l in
+    let r = rule-right a.book.now (signature_of a.book.now) a.at l.ensures.value in
+    side-last (read_side a.book.now (signature_of a.book.now) Right l.l.known l.l.end) _ c.in_ok-r.ensures.value ∙ sym (ap section_of r.1)

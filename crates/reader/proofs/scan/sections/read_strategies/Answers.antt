@@ -1,58 +1,25 @@
-use Rattle.reader.proofs.scan.numbers.Sections.{each-end, each_next, each-stop}
-use Rattle.system.proofs.words.BookWords.{signature-room, signature-word}
-use Rattle.system.specs.Signature.{signature_of}
 use Rattle.reader.specs.scan.Sections.{section_of}
 use Rattle.reader.specs.Parser.{read_strategy}
-use lib.ListN.{length}
-use Prim.Native.Nat.{◌<◌}
-use native.Mathlib.Omega.{arith}
-use mathlib.Core.Path.{refl, sym, ap, ◌∙◌}
-use borrow.Author.Rules.{rules}
+use Rattle.reader.proofs.scan.numbers.Sections.{passed, each-end, each_next, each-stop}
+use mathlib.Core.Path.{sym, ap, ◌∙◌}
 use Rattle.reader.proofs.scan.sections.read_strategies.Goals as goal
 
--- ---- the goals
-
-pub loop-k-init : goal.loop-k-init
-loop-k-init c = (omega arith, c.symbols-n.ensures, omega arith, refl)
-
-pub offset_bounds-book-k : goal.offset_bounds-book-k
-offset_bounds-book-k c = let l = c.loop-k in
+pub returns-in_err-end-clause-value : goal.returns-in_err-end-clause-value
+returns-in_err-end-clause-value c =
+    let l = c.loop-arity in
     let a = c.args in
-    let h = signature-room a.book.now l.k (omega arith) in
-    search rules
+    let e = c.in_err-end.ensures.value ∙ ap (λ n. section_of (read_strategy a.book.now n l.end)) c.wide.ensures.0 in
+    passed _ c.from_residual.ensures.1 ∙ sym (each-stop (read_strategy a.book.now) a.arities.now l.arity-index l.end c.loop-arity-test.true e) ∙ l.invariant.1
 
-pub bounds-book-k : goal.bounds-book-k
-bounds-book-k c = let l = c.loop-k in
+pub loop-arity-preserved : goal.loop-arity-preserved
+loop-arity-preserved c =
+    let l = c.loop-arity in
     let a = c.args in
-    signature-room a.book.now l.k (omega arith)
+    let e = c.in_ok-end.ensures.value ∙ ap (λ n. section_of (read_strategy a.book.now n l.end)) c.wide.ensures.0 in
+    (c.in_ok-end.ensures.within, sym (each_next (read_strategy a.book.now) a.arities.now l.arity-index l.end c.loop-arity-test.true e) ∙ l.invariant.1)
 
-pub returns-then-s-ne-TAKEN : goal.returns-then-s-ne-TAKEN
-returns-then-s-ne-TAKEN c = let l = c.loop-k in
+pub returns-clause-value : goal.returns-clause-value
+returns-clause-value c =
+    let l = c.loop-arity in
     let a = c.args in
-    let ws = a.book.now in
-    let h : l.k < length (signature_of ws) = omega arith in
-    let e = c.read_strategy-s.ensures.value ∙ ap (λ n. section_of (read_strategy ws n l.i)) (c.wide.ensures.0 ∙ sym (signature-word ws l.k h)) in
-    record {
-      value = sym (each-stop (read_strategy ws) (signature_of ws) l.k l.i h c.read_strategy-s.result e c.if-s-ne-TAKEN.true) ∙ l.invariant.3;
-      within = c.read_strategy-s.ensures.within;
-    }
-
-pub loop-k-preserved : goal.loop-k-preserved
-loop-k-preserved c = let l = c.loop-k in
-    let a = c.args in
-    let ws = a.book.now in
-    let h : l.k < length (signature_of ws) = omega arith in
-    let e = c.read_strategy-s.ensures.value ∙ ap (λ n. section_of (read_strategy ws n l.i)) (c.wide.ensures.0 ∙ sym (signature-word ws l.k h)) in (
-      omega arith,
-      omega arith,
-      c.read_strategy-s.ensures.within,
-      sym (each_next (read_strategy ws) (signature_of ws) l.k l.i h c.read_strategy-s.result e c.if-s-ne-TAKEN.false) ∙ l.invariant.3,
-    )
-
-pub returns : goal.returns
-returns c = let l = c.loop-k in
-    let a = c.args in
-    record {
-      value = sym (each-end (read_strategy a.book.now) (signature_of a.book.now) l.k l.i (omega arith)) ∙ l.invariant.3;
-      within = omega arith;
-    }
+    sym (each-end (read_strategy a.book.now) a.arities.now l.arity-index l.end c.loop-arity-test.false) ∙ l.invariant.1

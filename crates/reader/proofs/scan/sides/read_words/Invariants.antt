@@ -10,8 +10,5 @@ use mathlib.Core.Path.{◌≡◌}
 use Rattle.reader.proofs.scan.sides.read_words.Given as goal
 
 abbrev pub invariant-loop-j : goal.invariant-loop-j
-invariant-loop-j l = (l.j ≤ l.n) × (l.at + l.j ≤ length l.book) × (l.due ≤ 1 + 65535 * l.j) × (l.seen ≤ l.known + l.j) ×
+invariant-loop-j l = (l.at + l.j ≤ length l.book) × (l.due ≤ 1 + 65535 * l.j) × (l.seen ≤ l.known + l.j) ×
     (side_of (read_words l.book (signature_of l.book) l.role (eqb l.j 0) (l.n - l.j) l.due l.seen (l.at + l.j)) ≡ side_of (read_words l.book (signature_of l.book) l.role true l.n 1 l.known l.at))
-
-abbrev pub decreases-loop-j : goal.decreases-loop-j
-decreases-loop-j l = l.n - l.j

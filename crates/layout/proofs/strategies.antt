@@ -1,0 +1,3 @@
+-- The walk over the strategies of a book.
+pub mod Turns
+pub mod Walks

@@ -1,0 +1,6 @@
+-- `strategies::strategies_of` meets its contract.
+use Rattle.layout.proofs.strategies.Walks.{walk-starts}
+use Rattle.layout.proofs.strategies.strategies_of.Goals as goal
+
+pub invariant_of-result : goal.invariant_of-result
+invariant_of-result c = let w = walk-starts c.args.book.now.accepted in record { within = w.within; stands = w.stands }

@@ -1,0 +1,2 @@
+pub mod Walked
+pub mod Listed

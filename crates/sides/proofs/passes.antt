@@ -1,0 +1,3 @@
+-- A side, filled, written from its end to its front
+pub mod Turns
+pub mod Lefts
