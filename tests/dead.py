@@ -15,8 +15,16 @@ TOKEN = re.compile(r"\[\]|[^\s(){}\[\].;:,@\"«»λ⌜⌝⟦⟧]+")
 USE = re.compile(r"^\s*(?:ghost )?use ([^\s{;]+)\.\{([^}]*)\}")
 # what a file of invariants or of answers gives for a goal, under its name
 ANSWER = re.compile(r"(?:abbrev )?pub (\S+) : \w+\.\1\b")
-# laws that nothing names and that stay, each with its reason
-KEPT = {}
+# laws that nothing names and that stay, each with its reason; files' word_at and redexes' built-number stay too, and share their names with others
+KEPT = {
+    "fault-of": "a number tells its fault back, as users and C read it: no two faults have one",
+    "below-builtin": "words below 16,384 are names: no levels and no operators",
+    "below-literal": "words below 16,384 are names: no levels",
+    "number-place": "the reader's language: a refused count, length or entry is refused where it stands",
+    "weight-take": "the first words of a side or a term weigh no more than all of it",
+    "term-end": "a gap that is the whole row leaves no word of a term",
+    "listed-number": "a rule's number tells whether the book lists it: below 128; built-number, beside it, has the others",
+}
 
 
 def strip(line, code):

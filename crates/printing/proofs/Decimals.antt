@@ -1,16 +1,16 @@
 -- The decimal digits of a number: without the places, as `{}` of std writes them, and how many they are.
 use Prim.Native.Nat.{ℕ, zero, suc, ◌/◌, ◌%◌, ◌^◌, ◌≤◌, ◌<◌}
 use native.Mathlib.Omega.{arith}
-use native.Mathlib.Nat.{mod-eq_of_lt, div-eq_of_lt}
+use native.Mathlib.Nat.{pow-suc, mod-eq_of_lt, div-eq_of_lt}
 use native.Mathlib.Decide.{dec_lt}
 use mathlib.Core.Path.{◌≡◌, refl, sym, ◌∙◌}
 use mathlib.Core.Bool.{cond}
 use mathlib.Core.List.{[], ◌∷◌, ◌++◌}
-use lib.ListN.{length}
+use lib.ListN.{length, length-append}
 use lib.Dec.{ltb}
 use borrow.Author.Tests.{lt-ltb, le-ltb}
 use Rattle.std.specs.Fmt.{decimal as written}
-use Rattle.std.proofs.lemmas.Fmt.{decimal_from_appends, length-decimal-le, length-decimal-le_succ}
+use Rattle.std.proofs.lemmas.Fmt.{decimal_from_appends, length-decimal-le_succ}
 use Rattle.printing.specs.Text.{digit, decimal_in, decimal}
 
 -- a number below ten has one digit, any other those of its tenth and the last one
@@ -56,14 +56,28 @@ unfolding decimal
 decimal_written n h = decimal_from_appends decimal_in (record { one = in_one; more = in-more }) (suc n) n h (omega (arith, length-decimal-le_succ n h))
 
 -- no more digits than the places that hold the number
-decimal-length : (k n : ℕ) → 0 < k → n < 10 ^ k → n < 2 ^ 64 → length (decimal n) ≤ k
-decimal-length k n p h f = rw (decimal_written n f) (length-decimal-le k n p h f)
+in-length : (k j n : ℕ) → n < 10 ^ suc j → length (decimal_in k n) ≤ suc j
+unfolding decimal_in
+in-length zero j n h = omega arith
+in-length (suc k) zero n h = rw (in_one k n h) (omega arith)
+in-length (suc k) (suc j) n h =
+    elim (dec_lt n 10) [
+      | yes z ↦ rw (in_one k n z) (omega arith)
+      | no z ↦
+          let p = pow-suc 10 (suc j) in
+          let l = in-length k j (n / 10) (omega arith) in
+          rw (in-more k n (omega arith), length-append) (omega arith)
+    ]
+
+pub decimal-length : (j n : ℕ) → n < 10 ^ suc j → length (decimal n) ≤ suc j
+unfolding decimal
+decimal-length j n = in-length (suc n) j n
 
 pub decimal_five : (n : ℕ) → n < 2 ^ 16 → length (decimal n) ≤ 5
-decimal_five n h = decimal-length 5 n (omega arith) (omega arith) (omega arith)
+decimal_five n h = decimal-length 4 n (omega arith)
 
 pub decimal_ten : (n : ℕ) → n < 2 ^ 32 → length (decimal n) ≤ 10
-decimal_ten n h = decimal-length 10 n (omega arith) (omega arith) (omega arith)
+decimal_ten n h = decimal-length 9 n (omega arith)
 
 pub decimal_twenty : (n : ℕ) → n < 2 ^ 64 → length (decimal n) ≤ 20
-decimal_twenty n h = decimal-length 20 n (omega arith) (omega arith) h
+decimal_twenty n h = decimal-length 19 n (omega arith)

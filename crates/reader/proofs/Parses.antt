@@ -8,7 +8,7 @@ use mathlib.Core.Option.{Option, none, some}
 use mathlib.Core.List.{List, [], ◌∷◌}
 use lib.ListN.{length, get_or, drop}
 use lib.Dec.{ltb, leb}
-use borrow.Author.Tests.{lt-ltb, le-ltb, ltb-true, le-leb, leb-true}
+use borrow.Author.Tests.{lt-ltb, le-ltb, ltb-true, le-leb, lt-leb, leb-true}
 use Rattle.system.specs.declared.numbers.Fault.{Fault}
 use Rattle.system.specs.declared.numbers.Fault.TheVariants.{Missing}
 use Rattle.reader.specs.Parser.{ok, fault, Parser, outside, word, number}
@@ -33,6 +33,14 @@ one w = w ∷ []
 pub none-outside : (f : Fault) (low high : ℕ) {w : ℕ} → low ≤ w → w ≤ high → outside f low high w ≡ none
 unfolding outside
 none-outside f low high {w} l h = rw (le-leb low w l, le-leb w high h)
+
+pub below-outside : (f : Fault) (low high : ℕ) {w : ℕ} → w < low → outside f low high w ≡ some f
+unfolding outside
+below-outside f low high {w} l = rw (lt-leb low w l)
+
+pub above-outside : (f : Fault) (low high : ℕ) {w : ℕ} → low ≤ w → high < w → outside f low high w ≡ some f
+unfolding outside
+above-outside f low high {w} l h = rw (le-leb low w l, lt-leb w high h)
 
 pub outside-none : (f : Fault) (low high : ℕ) {w : ℕ} → outside f low high w ≡ none → (low ≤ w) × (w ≤ high)
 unfolding outside
@@ -92,8 +100,20 @@ module _ (ws : List ℕ) where
           let k : j ≡ suc i = let q = b.ends in omega arith in
           word-here check i d.0 (rw d.1 c) ∙ rw (d.1, k)
 
-  -- a number that is read
+  -- the four ways a number is read
   module _ (f : Fault) (low high i : ℕ) where
+    pub number-missing : length ws ≤ i → number ws f low high i ≡ fault Missing i
+    unfolding number
+    number-missing h = word-missing (outside f low high) i h
+
+    pub number-below : i < length ws → get_or ws i 0 < low → number ws f low high i ≡ fault f i
+    unfolding number
+    number-below h l = word-refused (outside f low high) i h (below-outside f low high l)
+
+    pub number-above : i < length ws → low ≤ get_or ws i 0 → high < get_or ws i 0 → number ws f low high i ≡ fault f i
+    unfolding number
+    number-above h l u = word-refused (outside f low high) i h (above-outside f low high l u)
+
     pub number-here : i < length ws → low ≤ get_or ws i 0 → get_or ws i 0 ≤ high → number ws f low high i ≡ ok (get_or ws i 0) (suc i)
     unfolding number
     number-here h l u = word-here (outside f low high) i h (none-outside f low high l u)

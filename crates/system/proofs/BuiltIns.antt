@@ -8,7 +8,7 @@ use mathlib.Core.Bool.{Bool, true, false, ◌&&◌}
 use mathlib.Core.List.{List, [], ◌∷◌}
 use lib.ListN.{length}
 use lib.Dec.{ltb, leb}
-use borrow.Author.Tests.{lt-ltb, le-ltb, ltb-true, le-leb, leb-true, eq-eqb, ne_eqb}
+use borrow.Author.Tests.{lt-ltb, le-ltb, ltb-true, le-leb, lt-leb, leb-true, eq-eqb, ne_eqb}
 use Rattle.system.specs.Limits.{max_entries}
 use Rattle.system.specs.BuiltIns.{literal, literals, maximum, minimum, square, last_built_in}
 use Rattle.system.specs.BuiltIns.{is_literal, is_built_in, is_binary, is_unary, built_in_arity, built_in_strategy, larger, smaller}
@@ -42,6 +42,10 @@ pub range-builtin : (w : ℕ) → literal ≤ w → w ≤ last_built_in → is_b
 unfolding is_built_in
 range-builtin w l h = rw (le-leb literal w l, le-leb w last_built_in h)
 
+pub below-builtin : (w : ℕ) → w < literal → is_built_in w ≡ false
+unfolding is_built_in
+below-builtin w h = rw (lt-leb literal w h)
+
 pub above-builtin : (w : ℕ) → literal ≤ w → is_built_in w ≡ leb w last_built_in
 unfolding is_built_in
 above-builtin w h = rw (le-leb literal w h)
@@ -55,6 +59,10 @@ literal-is n h = rw (le-leb literal (literal + n) (omega arith), lt-ltb (literal
 pub is-literal : (w : ℕ) → is_literal w ≡ true → (literal ≤ w) × (w < maximum)
 unfolding is_literal
 is-literal w e = let c = both _ _ e in (leb-true literal w c.0, ltb-true w maximum c.1)
+
+pub below-literal : (w : ℕ) → w < literal → is_literal w ≡ false
+unfolding is_literal
+below-literal w h = rw (lt-leb literal w h)
 
 pub above-literal : (w : ℕ) → literal ≤ w → is_literal w ≡ ltb w maximum
 unfolding is_literal
@@ -173,6 +181,14 @@ smaller-words c m n a b = elim (dec_lt m n) [
   | no l ↦ rw (le-ltb m n (omega arith), le-ltb (m - c) (n - c) (omega arith)) (omega arith)
 ]
 
+pub larger-second : (m n : ℕ) → m < n → larger m n ≡ n
+unfolding larger
+larger-second m n h = rw (lt-ltb m n h)
+
+pub larger-first : (m n : ℕ) → n ≤ m → larger m n ≡ m
+unfolding larger
+larger-first m n h = rw (le-ltb m n h)
+
 pub smaller-first : (m n : ℕ) → m ≤ n → smaller m n ≡ m
 unfolding smaller
 smaller-first m n h = elim (dec_lt m n) [ yes l ↦ rw (lt-ltb m n l) | no l ↦ rw (le-ltb m n (omega arith)) (omega arith) ]
@@ -182,8 +198,7 @@ unfolding smaller
 smaller-second m n h = rw (le-ltb m n (omega arith))
 
 pub larger-below : (m n c : ℕ) → m < c → n < c → larger m n < c
-unfolding larger
-larger-below m n c a b = elim (dec_lt m n) [ yes l ↦ rw (lt-ltb m n l) b | no l ↦ rw (le-ltb m n (omega arith)) a ]
+larger-below m n c a b = elim (dec_lt m n) [ yes l ↦ rw (larger-second m n l) b | no l ↦ rw (larger-first m n (omega arith)) a ]
 
 pub smaller-below : (m n c : ℕ) → m < c → n < c → smaller m n < c
 unfolding smaller

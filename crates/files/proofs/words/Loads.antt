@@ -1,5 +1,5 @@
 -- The words of a file's bytes, pair by pair, as the loop that loads them has them.
-use Prim.Native.Nat.{ℕ, ◌+◌, ◌*◌, ◌/◌, ◌≤◌, ◌<◌, suc}
+use Prim.Native.Nat.{ℕ, zero, suc, ◌+◌, ◌*◌, ◌/◌, ◌≤◌, ◌<◌}
 use native.Mathlib.Omega.{arith}
 use mathlib.Core.Path.{◌≡◌, refl, ap, ◌∙◌}
 use mathlib.Core.List.{List, [], ◌∷◌, map}
@@ -11,7 +11,7 @@ use Rattle.buffers.proofs.Over.{over-append}
 use mir.Syntax.{w16}
 use Rattle.std.specs.Simd.{first_chunks}
 use Rattle.std.specs.Int.{from_le_bytes}
-use Rattle.files.specs.Words.{words_of}
+use Rattle.files.specs.Words.{word_of, words_of}
 
 pub words-length : (bs : List ℕ) → length (words_of bs) ≡ length bs / 2
 unfolding words_of
@@ -19,7 +19,17 @@ words-length [] = refl
 words-length (l ∷ []) = refl
 words-length (l ∷ h ∷ bs) = let e = words-length bs in omega arith
 
--- each word is its two bytes, the low one first
+-- each word is its two bytes, the low one first: by its index, and all together
+pub word_at : (bs : List ℕ) (i : ℕ) → i < length (words_of bs) → get_or (words_of bs) i 0 ≡ word_of (get_or bs (2 * i) 0) (get_or bs (2 * i + 1) 0)
+unfolding words_of
+word_at [] i h = absurd (omega arith)
+word_at (l ∷ []) i h = absurd (omega arith)
+word_at (l ∷ k ∷ bs) zero h = refl
+word_at (l ∷ k ∷ bs) (suc i) h =
+    let a : 2 * suc i ≡ suc (suc (2 * i)) = omega arith in
+    let b : 2 * suc i + 1 ≡ suc (suc (2 * i + 1)) = omega arith in
+    rw (b, a) (word_at bs i (omega arith))
+
 words_pairs : (bs : List ℕ) → words_of bs ≡ map (from_le_bytes w16) (first_chunks 2 (length bs / 2) bs)
 unfolding words_of
 words_pairs [] = refl

@@ -233,6 +233,9 @@ module _ (ws : List ℕ) (room : counts_at ≤ length ws) where
   pub even-end : drop term_words (term_in ws (even term_words)) ≡ []
   even-end = row-end (word_row ws) (word-row-length ws room)
 
+  pub term-end : term_in ws (behind term_words) ≡ []
+  term-end = row-behind term_words (word_row ws) ∙ ap (drop term_words) (sym (row-even term_words (word_row ws))) ∙ even-end
+
   pub onward-end : {g : Signature} → Onward g ws (even term_words) term_words
   unfolding spans
   onward-end {g} = record {
