@@ -12,7 +12,7 @@ use std::io;
 
 fn main(rt: HostRuntime) -> io::Result<()> {
     let mut buffer = [0u8; BOOK_BYTES + 1];
-    let book = read_file(&rt, "show.book", &mut buffer);
+    let book = read_file(&rt, b"show.book", &mut buffer);
     let mut page = Page::<{ report::TEXT_BYTES }>::new();
     report::verdict(book, &mut page);
     rt.write_all(page.as_bytes())

@@ -11,9 +11,9 @@ use std::io;
 
 fn main(rt: HostRuntime) -> io::Result<()> {
     let mut buffer = [0u8; BOOK_BYTES + 1];
-    let book = read_file(&rt, "show.book", &mut buffer);
+    let book = read_file(&rt, b"show.book", &mut buffer);
     let mut buffer = [0u8; report::CUE_BYTES + 1];
-    let cue = read_file(&rt, "show.cue", &mut buffer);
+    let cue = read_file(&rt, b"show.cue", &mut buffer);
     let mut page = Page::<{ report::TEXT_BYTES }>::new();
     report::report(book, cue, &mut page);
     rt.write_all(page.as_bytes())

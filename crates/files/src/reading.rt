@@ -6,11 +6,12 @@ use std::io::Read;
 use std::rt::Files;
 
 // Reads a file into a buffer that has room for one byte more than the file may have, so that a longer one shows: the bytes that were read, or
-// nothing for a file that is not there.
-pub fn read_file<'a>(files: &impl Files, path: &str, buffer: &'a mut [u8]) -> Option<&'a [u8]>
+// nothing for a file that is not there. A path that is no UTF-8 names no file, since std opens none by such a path.
+pub fn read_file<'a>(files: &impl Files, path: &[u8], buffer: &'a mut [u8]) -> Option<&'a [u8]>
     ensures { IfSome result (λ bs. length bs.now ≤ length buffer.old) }
 {
-    let mut file = File::open(files, path).ok()?;
+    let name = std::str::from_utf8(path).ok()?;
+    let mut file = File::open(files, name).ok()?;
     let size = read_full(&mut file, buffer);
     Some(&buffer[..size])
 }
@@ -21,7 +22,10 @@ fn read_full(input: &mut impl Read, bytes: &mut [u8]) -> usize
     ensures { result ≤ length bytes.old }
 {
     let mut done = 0;
-    while let Ok(n @ 1..) = input.read(&mut bytes[done..]) {
+    while done < bytes.len() {
+        let Ok(n @ 1..) = input.read(&mut bytes[done..]) else {
+            break;
+        };
         done += n;
     }
     done

@@ -1,3 +1,3 @@
 pub mod Cases
 pub mod Decimals
-pub mod Pages
+pub mod Writing

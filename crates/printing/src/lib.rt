@@ -1,13 +1,93 @@
-// Pages of text for the programs, in fixed memory: lines, numbers, the three numbers of an answer, and words.
+// Text for the programs, in fixed memory: lines, numbers, the three numbers of an answer, and words; written into bytes that are lent, or put on a
+// page.
 //
-// Methods, and no `write!` or Display: these promise their text only where they answer Ok, and `report::report` and `verdict` promise it outright.
+// Each function writes from the index `at` on and answers the index behind what it wrote; its contract gives the whole text at exit. A page goes by
+// the same functions, in bytes of its own.
+//
+// Functions and methods, and no `write!` or Display: these promise their text only where they answer Ok, and `report::report` and `verdict`
+// promise it outright.
 #![tactic(auto)]
 
-ghost use Rattle.std.specs.Prelude.{◌≡◌, ◌+◌, ◌*◌, ◌≤◌, ◌<◌, [], ◌++◌, length};
+ghost use Rattle.std.specs.Prelude.{◌≡◌, ◌+◌, ◌*◌, ◌≤◌, ◌<◌, [], ◌∷◌, ◌++◌, length};
 ghost use Rattle.printing.specs.Text.{decimal, line, heading, numbers_line, word_lines};
+ghost use Rattle.printing.specs.lent.Written.{Written};
 
 use std::marker::Model;
 use system::Answer;
+
+// Bytes as they are.
+pub fn put(text: &mut [u8], at: usize, bytes: &[u8]) -> usize
+    requires { at + length bytes.now ≤ length text.old }
+    ensures { Written text.old at bytes.now result text.new }
+{
+    let end = at + bytes.len();
+    text[at..end].copy_from_slice(bytes);
+    end
+}
+
+// Bytes, and the line's end.
+pub fn put_line(text: &mut [u8], at: usize, bytes: &[u8]) -> usize
+    requires { at + length bytes.now < length text.old }
+    ensures { Written text.old at (line bytes.now) result text.new }
+{
+    let end = put(text, at, bytes);
+    put(text, end, b"\n")
+}
+
+// The heading of an answer.
+#[tactic(auto, unfolding(crate::specs::Text::heading))]
+pub fn put_heading(text: &mut [u8], at: usize) -> usize
+    requires { at + 19 ≤ length text.old }
+    ensures { Written text.old at heading result text.new }
+{
+    put_line(text, at, b"number place steps")
+}
+
+// A number's decimal digits. A place comes by `as u64`, here and in check_book: std has no From for it.
+#[tactic(auto, using(crate::proofs::Decimals::decimal_written))]
+pub fn put_decimal(text: &mut [u8], at: usize, n: u64) -> usize
+    requires { at + length (decimal n) ≤ length text.old }
+    ensures { Written text.old at (decimal n) result text.new }
+{
+    put(text, at, itoa::Buffer::new().format(n).as_bytes())
+}
+
+// A number's decimal digits, and one byte behind them.
+fn put_number(text: &mut [u8], at: usize, n: u64, mark: u8) -> usize
+    requires { at + length (decimal n) < length text.old }
+    ensures { Written text.old at (decimal n ++ (mark ∷ [])) result text.new }
+{
+    let end = put_decimal(text, at, n);
+    text[end] = mark;
+    end + 1
+}
+
+// The three numbers of an answer on a line: no more than 10, 20 and 10 digits.
+pub fn put_numbers(text: &mut [u8], at: usize, a: Answer) -> usize
+    requires { at + 43 ≤ length text.old }
+    ensures { Written text.old at (numbers_line a) result text.new × (result ≤ at + 43) }
+{
+    let Answer {
+        number,
+        place,
+        steps,
+    } = a;
+    let end = put_number(text, at, u64::from(number), b' ');
+    let end = put_number(text, end, place as u64, b' ');
+    put_number(text, end, u64::from(steps), b'\n')
+}
+
+// A word a line, each of no more than 5 digits.
+pub fn put_words(text: &mut [u8], at: usize, ws: &[u16]) -> usize
+    requires { at + 6 * length ws.now ≤ length text.old }
+    ensures { Written text.old at (word_lines ws.now) result text.new }
+{
+    let mut end = at;
+    for w in ws {
+        end = put_number(text, end, u64::from(*w), b'\n');
+    }
+    end
+}
 
 // A text of at most N bytes. In a contract a page is the list of the bytes that were put so far.
 #[derive(Drop)]
@@ -50,26 +130,23 @@ impl<const N: usize> Page<N> {
     }
 
     // A text as it is.
+    #[tactic(auto, using(crate::proofs::Writing::written_page))]
     pub fn put(&mut self, text: &str)
         requires { length self.old + length text.now ≤ N }
         ensures whole { self.new ≡ self.old ++ text.now }
         ensures len { length self.new ≡ length self.old + length text.now }
     {
-        let start = self.len;
-        let end = start + text.len();
-        let room = &mut self.bytes[..];
-        room[start..end].copy_from_slice(text.as_bytes());
-        self.len = end;
+        self.len = put(&mut self.bytes, self.len, text.as_bytes());
     }
 
     // A text, and the line's end.
+    #[tactic(auto, using(crate::proofs::Writing::written_page))]
     pub fn put_line(&mut self, text: &str)
         requires { length self.old + length text.now < N }
         ensures whole { self.new ≡ self.old ++ line text.now }
         ensures len { length self.new ≡ length self.old + length text.now + 1 }
     {
-        self.put(text);
-        self.put("\n");
+        self.len = put_line(&mut self.bytes, self.len, text.as_bytes());
     }
 
     // The heading of an answer.
@@ -79,54 +156,35 @@ impl<const N: usize> Page<N> {
         ensures whole { self.new ≡ self.old ++ heading }
         ensures len { length self.new ≡ length self.old + 19 }
     {
-        self.put_line("number place steps");
+        self.len = put_heading(&mut self.bytes, self.len);
     }
 
-    // A number's decimal digits. A place comes by `as u64`, here and in check_book: std has no From for it.
-    #[tactic(auto, using(crate::proofs::Decimals::decimal_written))]
+    // A number's decimal digits.
+    #[tactic(auto, using(crate::proofs::Writing::written_page))]
     pub fn put_decimal(&mut self, n: u64)
         requires { length self.old + length (decimal n) ≤ N }
         ensures whole { self.new ≡ self.old ++ decimal n }
         ensures len { length self.new ≡ length self.old + length (decimal n) }
     {
-        self.put(itoa::Buffer::new().format(n));
+        self.len = put_decimal(&mut self.bytes, self.len, n);
     }
 
-    // A number's decimal digits, and what stands behind them.
-    fn put_number(&mut self, n: u64, mark: &str)
-        requires { length self.old + length (decimal n) + length mark.now ≤ N }
-        ensures whole { self.new ≡ self.old ++ (decimal n ++ mark.now) }
-        ensures len { length self.new ≡ length self.old + length (decimal n) + length mark.now }
-    {
-        self.put_decimal(n);
-        self.put(mark);
-    }
-
-    // The three numbers of an answer on a line: no more than 10, 20 and 10 digits.
-    #[tactic(auto, using(crate::proofs::Decimals::decimal_ten, crate::proofs::Decimals::decimal_twenty), unfolding(crate::specs::Text::numbers_line))]
+    // The three numbers of an answer on a line.
+    #[tactic(auto, using(crate::proofs::Writing::written_page))]
     pub fn put_numbers(&mut self, a: Answer)
         requires { length self.old + 43 ≤ N }
         ensures whole { self.new ≡ self.old ++ numbers_line a }
         ensures short { length self.new ≤ length self.old + 43 }
     {
-        let Answer {
-            number,
-            place,
-            steps,
-        } = a;
-        self.put_number(u64::from(number), " ");
-        self.put_number(place as u64, " ");
-        self.put_number(u64::from(steps), "\n");
+        self.len = put_numbers(&mut self.bytes, self.len, a);
     }
 
-    // A word a line, each of no more than 5 digits.
-    #[tactic(auto, using(crate::proofs::Decimals::decimal_five, crate::proofs::Pages::lines_more), unfolding(crate::specs::Text::word_lines))]
+    // A word a line.
+    #[tactic(auto, using(crate::proofs::Writing::written_page))]
     pub fn put_words(&mut self, ws: &[u16])
         requires { length self.old + 6 * length ws.now ≤ N }
         ensures { self.new ≡ self.old ++ word_lines ws.now }
     {
-        for w in ws {
-            self.put_number(u64::from(*w), "\n");
-        }
+        self.len = put_words(&mut self.bytes, self.len, ws);
     }
 }
