@@ -17,7 +17,7 @@ use runs::run::run;
 use system::Answer;
 use system::limits::{AREA_WORDS, TERM_WORDS};
 use system::numbers::Verdict;
-use terms::checking::check;
+use terms::checking::check_over;
 
 // What `expand` does, over a book that was scanned.
 pub fn expand_scanned(
@@ -92,7 +92,7 @@ pub fn check_call<'a>(
 {
     room(out, work)?;
     let book = scan.outcome?;
-    passed(check(&book, term))?;
+    passed(check_over(&book, term))?;
     Ok(book)
 }
 

@@ -1,12 +1,13 @@
 -- What words weigh, word by word, and as a step limit.
-use Prim.Native.Nat.{ℕ, ◌+◌, ◌≤◌, ◌<◌, min}
+use Prim.Native.Nat.{ℕ, zero, suc, ◌+◌, ◌≤◌, ◌<◌}
+use native.Mathlib.Numerals.{add-one}
 use native.Mathlib.Omega.{arith}
-use native.Mathlib.Decide.{dec_lt}
-use mathlib.Core.Path.{◌≡◌, refl, ◌∙◌}
+use mathlib.Core.Path.{◌≡◌, refl, ap, ◌∙◌}
 use mathlib.Core.Bool.{true, false}
 use mathlib.Core.List.{List, [], ◌∷◌, ◌++◌}
-use lib.ListN.{get_or}
-use Rattle.std.specs.List.{fold}
+use lib.ListN.{length, get_or, take, drop}
+use lib.Seq.{drop-cons}
+use Rattle.std.proofs.lemmas.List.{drop_all}
 use borrow.Author.Tests.{lt-ltb, le-ltb, lt-leb}
 use Rattle.system.specs.Limits.{variable, max_steps}
 use Rattle.system.specs.BuiltIns.{literal, maximum, last_built_in, is_literal, is_built_in}
@@ -58,6 +59,13 @@ module _ (m : Weights) where
   weight-append [] b = omega arith
   weight-append (w ∷ a) b = let z = weight-append a b in omega arith
 
+  -- the first of them weigh no more than all
+  pub weight-take : (k : ℕ) (ws : List ℕ) → weight m (take k ws) ≤ weight m ws
+  unfolding weight
+  weight-take zero ws = omega arith
+  weight-take (suc k) [] = omega arith
+  weight-take (suc k) (w ∷ ws) = let z = weight-take k ws in omega arith
+
   -- as a step limit: the weight where it fits, else the largest
   pub limit-small : (ws : List ℕ) → weight m ws ≤ max_steps → weight_limit m ws ≡ weight m ws
   unfolding weight_limit
@@ -67,16 +75,14 @@ module _ (m : Weights) where
   unfolding weight_limit
   limit-large ws h = smaller-second (weight m ws) max_steps h
 
--- ---- the sum, no larger than the largest step limit at any word
+-- ---- the words that are left
 
-module _ (m : Weights) where
-  limited : (ws : List ℕ) (a : ℕ) → a ≤ max_steps → fold (λ sum w. min (sum + word_weight m w) max_steps) a ws ≡ min (a + weight m ws) max_steps
+module _ (m : Weights) (ws : List ℕ) where
+  -- one word, and those behind it
+  pub weight-drop : (i : ℕ) → i < length ws → weight m (drop i ws) ≡ word_weight m (get_or ws i 0) + weight m (drop (i + 1) ws)
   unfolding weight
-  limited [] a h = omega arith
-  limited (w ∷ ws) a h = let z = limited ws (min (a + word_weight m w) max_steps) (omega arith) in omega arith
+  weight-drop i h = rw (add-one, drop-cons ws i 0 h)
 
-  pub fold-limit : (ws : List ℕ) → fold (λ sum w. min (sum + word_weight m w) max_steps) 0 ws ≡ weight_limit m ws
-  fold-limit ws = let z = limited ws 0 (omega arith) in elim (dec_lt max_steps (weight m ws)) [
-    | yes l ↦ (let y = limit-large m ws l in omega arith)
-    | no l ↦ (let y = limit-small m ws (omega arith) in omega arith)
-  ]
+  pub weight-end : (i : ℕ) → length ws ≤ i → weight m (drop i ws) ≡ 0
+  unfolding weight
+  weight-end i h = ap (weight m) (drop_all i ws h)

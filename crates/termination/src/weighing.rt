@@ -4,6 +4,7 @@ ghost use Rattle.termination.specs.Weights.{built_in_weight, word_weight};
 ghost use Rattle.termination.specs.WeightTest.{weight_limit};
 
 use system::built_ins::{LITERAL, is_built_in, is_literal};
+use system::limits::MAX_STEPS;
 use system::words::wide;
 
 // What a word weighs that is no name: an operator 1, all others nothing.
@@ -31,8 +32,12 @@ fn word_weight(weights: &[u16], w: u16) -> u16
 pub fn weigh(weights: &[u16], words: &[u16]) -> u32
     ensures { result ≡ weight_limit weights.now words.now }
 {
-    words.iter().fold(
-        0u32,
-        |sum, w| sum.saturating_add(u32::from(word_weight(weights, *w))),
-    )
+    let mut sum = 0u32;
+    for w in words {
+        let Some(more) = sum.checked_add(u32::from(word_weight(weights, *w))) else {
+            return MAX_STEPS;
+        };
+        sum = more;
+    }
+    sum
 }

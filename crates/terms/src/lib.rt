@@ -1,5 +1,5 @@
 // Terms (01: cues) against a book: whether words are one whole term, and one argument of it. None of the operations here asks anything of its
-// caller; `checking` is the inner interface for the layers above, over an accepted book.
+// caller; `checking` is the inner interface for the layers above, over a book that was scanned or accepted.
 #![tactic(auto)]
 
 ghost use Rattle.std.specs.Prelude.{◌≡◌, ◌+◌, ◌≤◌, length};
@@ -17,10 +17,7 @@ use system::words::{arity, span, spans};
 pub fn check_term(book: &[u16], term: &[u16]) -> Answer
     ensures { result ≡ term_answer book.now term.now }
 {
-    match scan_book(book).outcome {
-        Ok(b) => checking::check(&b, term),
-        Err(r) => r.into(),
-    }
+    checking::check(&scan_book(book), term)
 }
 
 // Where argument i (from 1) of the term's first symbol stands: 0 and 0 exactly when the book or the term would be refused, or there is no such

@@ -1,14 +1,23 @@
--- `weighing::weigh` meets its contract.
-use Rattle.std.proofs.Common.{◌∙◌, ◌+◌, min, rules}
-use Rattle.std.proofs.lemmas.Iterator.{YieldsList-from_slice}
-use Rattle.std.proofs.lemmas.Iterator.Consumers.{fold_from_yields_List}
-use Rattle.system.specs.Limits.{max_steps}
-use Rattle.termination.specs.Weights.{word_weight}
-use Rattle.termination.proofs.Words.{fold-limit}
+use native.Mathlib.Omega.{arith}
+use mathlib.Core.Path.{sym}
+use Rattle.termination.proofs.Words.{weight-drop, weight-end, limit-small, limit-large}
 use Rattle.termination.proofs.weighing.weigh.Goals as goal
+
+pub returns-in_default : goal.returns-in_default
+returns-in_default c =
+    let a = c.args in
+    let z = weight-drop a.weights.now a.words.now c.loop-w.w-index (omega arith) in
+    sym (limit-large a.weights.now a.words.now (omega (arith, c.in_default.ensures)))
+
+pub loop-w-preserved : goal.loop-w-preserved
+loop-w-preserved c =
+    let a = c.args in
+    let z = weight-drop a.weights.now a.words.now c.loop-w.w-index (omega arith) in
+    let e = c.in-Some.ensures in
+    (omega arith, omega arith)
 
 pub returns : goal.returns
 returns c =
-    let m = c.args.weights.now in
-    fold_from_yields_List _ (λ sum w. min (sum + word_weight m w) max_steps) 0 _ c.fold.ensures.ran (YieldsList-from_slice c.args.words.now c.iter.ensures.rest)
-    (λ a x b q k. search rules) ∙ fold-limit m c.args.words.now
+    let a = c.args in
+    let z = weight-end a.weights.now a.words.now c.loop-w.w-index (omega arith) in
+    omega (arith, limit-small a.weights.now a.words.now (omega arith))

@@ -2,7 +2,7 @@
 use mathlib.Core.Path.{sym, ap, ◌∙◌}
 use Rattle.reader.specs.Answers.{whole_answer}
 use Rattle.terms.proofs.checking.Checks.{term-checked, found-some, found-none}
-use Rattle.terms.proofs.checking.check.Goals as goal
+use Rattle.terms.proofs.checking.check_over.Goals as goal
 
 pub returns-in-Some : goal.returns-in-Some
 returns-in-Some c =
