@@ -21,10 +21,12 @@ pub fn clear(w: &mut [u16], at: usize, n: usize)
     w[at..at + n].fill(0);
 }
 
-// All of src, written over w from `at` on.
+// All of src, written over w from `at` on: word by word, since std's copy_from_slice asks memmove of the desk (include/cue.h).
 pub fn copy_in(w: &mut [u16], at: usize, src: &[u16])
     requires { at + length src.now ≤ length w.old }
     ensures { w.new ≡ over w.old at src.now }
 {
-    w[at..at + src.len()].copy_from_slice(src);
+    for i in 0..src.len() {
+        w[at + i] = src[i];
+    }
 }

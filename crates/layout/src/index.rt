@@ -3,6 +3,7 @@ ghost use Rattle.std.specs.Prelude.{◌≡◌, ◌≤◌, ◌<◌, IfSome};
 ghost use Rattle.system.specs.System.{strategy, rule};
 ghost use Rattle.reader.specs.Book.{system_of};
 ghost use Rattle.layout.specs.listed.Listed.{rule_of};
+ghost use Rattle.layout.specs.index.Accepted.{RulesAt};
 ghost use Rattle.layout.specs.index.Index.{bucket, rule_from, rule_after, RuleNumber, StrategiesNoted, RulesNoted, Linked, Indexed};
 
 use crate::listed::{Rule, rules_of};
@@ -104,10 +105,11 @@ impl<'a> Index<'a> {
         &self.book.words[first..end]
     }
 
-    // Rule k.
+    // Rule k, and where it stands.
     pub fn rule(&self, k: usize) -> Rule<'a>
         requires { k < self.now.book.shape.rules }
-        ensures { rule_of result ≡ rule (system_of self.now.book.words.now) k }
+        ensures at { RulesAt self.now.book.words.now k result.at }
+        ensures sides { rule_of result ≡ rule (system_of self.now.book.words.now) k }
     {
         let at = wide(self.places.rules[k]);
         rule_at(&self.book, at)

@@ -191,6 +191,7 @@ pub fn first_redex(
         bindings.new }
 {
     let Spot { gap, at: p } = spot;
+    let index = *index; // a copy, which no write of a binding can change: its parts are not read again for each rule
     let head = word_at(area, gap, p);
     if LITERAL <= usize::from(head) {
         return redex_for(computed_at(area, gap, head, p));
@@ -199,15 +200,14 @@ pub fn first_redex(
     let mut next = index.first_of(head);
     'rules: while let Some(number) = next {
         let rule = index.rule(number);
+        next = index.next_of(number);
         if rule.lhs[0] != head {
-            next = index.next_of(number);
             continue 'rules;
         }
         clear(bindings, 0, BINDINGS);
         let mut q = p + 1;
         'words: for &l in &rule.lhs[1..] {
             let Some(n) = bind(area, spot, bindings, l, q) else {
-                next = index.next_of(number);
                 continue 'rules;
             };
             q += n;

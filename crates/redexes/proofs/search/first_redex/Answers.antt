@@ -40,7 +40,7 @@ turn : (c : After-rule-rule) → let i = c.args.index.now in let at = get_or i.p
 turn c = turn-of c.args.index.now.book.accepted (more c) (stands c) refl
 
 left : (c : After-rule-rule) → c.rule-rule.result.lhs.now ≡ (rule (system_of c.args.index.now.book.words.now) c.in-Some.number).lhs
-left c = ap (λ r. r.lhs) c.rule-rule.ensures
+left c = ap (λ r. r.lhs) c.rule-rule.ensures.sides
 
 -- ---- the goals
 
@@ -109,12 +109,9 @@ bind-requires c =
     let low = u.here.low (c.words.l-index + 1) (let h = c.words-test.true in omega arith) in
     ((_, c.requires.0), o.onward, (let e = others-word u t c.args.spot.at (left r) c.words.l-index c.words-test.true in omega arith), o.sized, o.walked.lies)
 
-pub next_of-next-requires-in_default-bind : goal.next_of-next-requires-in_default-bind
-next_of-next-requires-in_default-bind c = more (goal.at.next_of-next-requires-in_default-bind c).After-rule-rule
-
 pub rules-smaller : goal.rules-smaller
 rules-smaller c =
-    let e = c.next_of-next-in_default-bind.ensures in
+    let e = c.next_of-next.ensures in
     rw c.in-Some.is (fewer-left _ _ (more (goal.at.rules-smaller c).After-rule-rule) e.number e.later)
 
 pub rules-preserved : goal.rules-preserved
@@ -130,7 +127,7 @@ rules-preserved c =
       sized = c.bind.auto.bindings ∙ o.sized;
       none_found = c.rules.invariant.none_found;
       k = _;
-      number = c.next_of-next-in_default-bind.ensures.number;
+      number = c.next_of-next.ensures.number;
       along = along-next c.args.index.now.book.accepted (drop p t) (tries c.rules.invariant c.in-Some.is).1 (more r) fails refl;
     }
 

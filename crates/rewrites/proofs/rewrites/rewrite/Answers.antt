@@ -36,7 +36,7 @@ pub reduct_length-requires : goal.reduct_length-requires
 reduct_length-requires c =
     let acc = c.args.index.now.book.accepted in
     let e = c.shared_end in (
-      kept-sided acc c.requires (listed-rule acc c.requires c.in-Listed.is).2 (ap (λ r. r.lhs) c.rule-rule.ensures) (ap (λ r. r.rhs) c.rule-rule.ensures) e.result e.ensures.1 e.ensures.2,
+      kept-sided acc c.requires (listed-rule acc c.requires c.in-Listed.is).2 (ap (λ r. r.lhs) c.rule-rule.ensures.sides) (ap (λ r. r.rhs) c.rule-rule.ensures.sides) e.result e.ensures.1 e.ensures.2,
       c.requires.many,
     )
 
@@ -45,20 +45,20 @@ pub overflow_sub-width : goal.overflow_sub-width
 overflow_sub-width c =
     let acc = c.args.index.now.book.accepted in
     let e = c.shared_end in
-    kept-fits acc c.requires (listed-rule acc c.requires c.in-Listed.is).2 (ap (λ r. r.lhs) c.rule-rule.ensures) (ap (λ r. r.rhs) c.rule-rule.ensures)
+    kept-fits acc c.requires (listed-rule acc c.requires c.in-Listed.is).2 (ap (λ r. r.lhs) c.rule-rule.ensures.sides) (ap (λ r. r.rhs) c.rule-rule.ensures.sides)
     e.result e.ensures.1 e.ensures.2 c.reduct_length.result c.reduct_length.ensures
 
 pub put_reduct-requires : goal.put_reduct-requires
 put_reduct-requires c =
     let acc = c.args.index.now.book.accepted in
     let e = c.shared_end in
-    listed-puttable acc c.requires (listed-rule acc c.requires c.in-Listed.is).2 (ap (λ r. r.lhs) c.rule-rule.ensures) (ap (λ r. r.rhs) c.rule-rule.ensures)
+    listed-puttable acc c.requires (listed-rule acc c.requires c.in-Listed.is).2 (ap (λ r. r.lhs) c.rule-rule.ensures.sides) (ap (λ r. r.rhs) c.rule-rule.ensures.sides)
     e.result e.ensures.1 e.ensures.2 c.reduct_length.result c.reduct_length.ensures
 
 pub returns-in-Listed : goal.returns-in-Listed
 returns-in-Listed c =
     let acc = c.args.index.now.book.accepted in
     let e = c.shared_end in
-    listed-rewrites acc c.requires (listed-rule acc c.requires c.in-Listed.is).2 (ap (λ r. r.lhs) c.rule-rule.ensures) (ap (λ r. r.rhs) c.rule-rule.ensures)
+    listed-rewrites acc c.requires (listed-rule acc c.requires c.in-Listed.is).2 (ap (λ r. r.lhs) c.rule-rule.ensures.sides) (ap (λ r. r.rhs) c.rule-rule.ensures.sides)
     e.result e.ensures.1 e.ensures.2 c.reduct_length.result c.reduct_length.ensures
     _ _ c.put_reduct.ensures

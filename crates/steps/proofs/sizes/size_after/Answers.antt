@@ -46,7 +46,7 @@ pub reduct_length-size-requires : goal.reduct_length-size-requires
 reduct_length-size-requires c =
     let acc = c.args.index.now.book.accepted in
     let p = step-reducible acc c.requires c.length_at-width.result (step-reads acc c.requires c.from-at.ensures c.length_at-width.ensures.0) in (
-      size-sided acc p (listed-rule acc p c.in-Listed.is).2 (ap (λ r. r.rhs) c.rule-rule.ensures),
+      size-sided acc p (listed-rule acc p c.in-Listed.is).2 (ap (λ r. r.rhs) c.rule-rule.ensures.sides),
       subst (λ y. length y ≡ binding_words) (step-bindings acc c.requires) p.many,
     )
 
@@ -55,7 +55,7 @@ overflow_add-result-in-Listed c =
     let acc = c.args.index.now.book.accepted in
     let p = step-reducible acc c.requires c.length_at-width.result (step-reads acc c.requires c.from-at.ensures c.length_at-width.ensures.0) in
     let counted = step-counted acc c.requires _ c.reduct_length-size.ensures in
-    let right = ap (λ r. r.rhs) c.rule-rule.ensures in
+    let right = ap (λ r. r.rhs) c.rule-rule.ensures.sides in
     omega (arith, c.words.ensures, small acc p, size-bound acc p (listed-rule acc p c.in-Listed.is).2 right c.reduct_length-size.result counted)
 
 pub returns-in-Listed : goal.returns-in-Listed
@@ -63,6 +63,6 @@ returns-in-Listed c x q =
     let acc = c.args.index.now.book.accepted in
     let p = step-reducible acc c.requires c.length_at-width.result (step-reads acc c.requires c.from-at.ensures c.length_at-width.ensures.0) in
     let counted = step-counted acc c.requires _ c.reduct_length-size.ensures in
-    let right = ap (λ r. r.rhs) c.rule-rule.ensures in
+    let right = ap (λ r. r.rhs) c.rule-rule.ensures.sides in
     ap (λ y. y - c.length_at-width.result + c.reduct_length-size.result) c.words.ensures
     ∙ size-listed acc p (listed-rule acc p c.in-Listed.is).2 right c.reduct_length-size.result counted x q

@@ -21,5 +21,8 @@ rule_at-requires c =
     let n = rule-count b.words.now b.shape b.accepted in
     (c.args.k, (omega arith), stands (goal.at.rule_at-requires c).After-wide-at)
 
-pub returns : goal.returns
-returns c = c.rule_at.ensures.sides c.args.k c.requires (stands (goal.at.returns c).After-wide-at)
+pub returns-clause-at : goal.returns-clause-at
+returns-clause-at c = rw c.rule_at.ensures.at (stands (goal.at.returns-clause-at c).After-wide-at)
+
+pub returns-clause-sides : goal.returns-clause-sides
+returns-clause-sides c = c.rule_at.ensures.sides c.args.k c.requires (stands (goal.at.returns-clause-sides c).After-wide-at)
