@@ -68,7 +68,7 @@ fn follow(index: &Index<'_>, area: &mut [u16], from: Finger, pair: Pair) -> Resu
     ensures followed { Follows (system_of index.now.book.words.now) (term_in area.old from.gap) pair area.new result }
     ensures measured { IfOk result (λ f. Measured (system_of index.now.book.words.now).arities area.new f.gap) }
 {
-    let Some(f) = find(index, area, from, pair.at) else {
+    let Ok(f) = find(index, area, from, pair.at) else {
         return Err(Halt::Untrue);
     };
     let mut bindings = [0u16; BINDINGS];

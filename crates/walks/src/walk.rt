@@ -84,8 +84,8 @@ fn climb(area: &[u16], f: Finger, q: usize) -> Finger
     Finger { level: 0, at, ..f }
 }
 
-// Goes down to q, as long as the argument that holds q stands in the strategy, and notes the way.
-fn descend(index: &Index<'_>, area: &mut [u16], f: Finger, q: usize) -> Option<Finger>
+// Goes down to q, as long as the argument that holds q stands in the strategy, and notes the way. Where one does not, the walk ends at its symbol.
+fn descend(index: &Index<'_>, area: &mut [u16], f: Finger, q: usize) -> Result<Finger, Finger>
     requires { Over (system_of index.now.book.words.now) (term_in area.old f.gap) area.old f q }
     ensures { Found (system_of index.now.book.words.now) (term_in area.old f.gap) area.new q result }
 {
@@ -94,22 +94,23 @@ fn descend(index: &Index<'_>, area: &mut [u16], f: Finger, q: usize) -> Option<F
     while f.at < q {
         let a = holder(&index.book, area, f.gap, f.at, q);
         if !index.stands_in(word_at(area, f.gap, f.at), a.number + 1) {
-            return None;
+            return Err(f);
         }
         area[COUNTS + f.level] = f.at as u16;
         f.level += 1;
         f.at = a.start;
     }
-    Some(f)
+    Ok(f)
 }
 
-// Brings the finger to the position q if that is active; none if it is not. Any word of a record may be asked for.
-pub fn find(index: &Index<'_>, area: &mut [u16], f: Finger, q: usize) -> Option<Finger>
+// Brings the finger to the position q if that is active, and to another position if it is not: `Err` has the finger there, where the walk ended, and
+// one may go on from it. Any word of a record may be asked for.
+pub fn find(index: &Index<'_>, area: &mut [u16], f: Finger, q: usize) -> Result<Finger, Finger>
     requires { PointsIn (system_of index.now.book.words.now) area.old f }
     ensures { Found (system_of index.now.book.words.now) (term_in area.old f.gap) area.new q result }
 {
     if words(f.gap) <= q {
-        return None;
+        return Err(f);
     }
     let over = climb(area, f, q);
     descend(index, area, over, q)

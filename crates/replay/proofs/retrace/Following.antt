@@ -42,7 +42,7 @@ use Rattle.walks.proofs.walk.Pointing.{points-bounds}
 use Rattle.replay.proofs.retrace.Stepping.{step_words, step-raisable, points-stepped, points-reducible}
 
 -- the pair's position is not active
-pub missed : {s : System} {t ws : List ℕ} (p : Pair) → Missed s t ws p.at → told_by s t p.at p.number ≡ none
+pub missed : {s : System} {t ws : List ℕ} {f : Finger} (p : Pair) → Missed s t ws p.at f → told_by s t p.at p.number ≡ none
 missed {s} {t} p v = told-inactive s t p.at p.number v.inactive
 
 -- the walk came to it, and the rules were tried there

@@ -35,6 +35,7 @@ use Rattle.runs.specs.declared.running.From.{From}
 use Rattle.runs.specs.declared.running.Reached.{Reached}
 use Rattle.runs.specs.run.RunResult.{Runnable, Hands, Ran}
 use Rattle.runs.specs.running.Reaches.{Startable, came_from, end_of, Reaches, Continues}
+use Rattle.runs.proofs.run.Enough.{Moves, run-moves}
 
 -- what was asked for, the index built, the term laid in the area, the frame, and how many steps the run may take
 pub record Begun : Type 0 where
@@ -105,6 +106,10 @@ module _ (v : Begun) where
     unfolding evaluation
     is-evaluation = run-evaluates s limits 0 formed v.most (start v.term) (omega arith) (omega arith)
 
+    -- and 11 stops it before it would wait
+    moves : Moves o
+    moves = run-moves s limits 0 v.most (0 ∷ []) (start v.term) (omega arith)
+
     abbrev Tells : Came → Type 0
     Tells o = words ≡ kept v.bounds.recorded v.lent (config_of o).trace
 
@@ -128,7 +133,7 @@ module _ (v : Begun) where
     handed (Stopped l) = Err l
 
     pub ends : (end : End) → e.end ≡ end → Ends (record { outcome = handed end; steps = e.steps })
-    ends end is = as-evaluation _ (go o reaches.0, reaches.1 ∙ ap (kept v.bounds.recorded v.lent) (told o))
+    ends end is = as-evaluation _ (go o moves reaches.0, reaches.1 ∙ ap (kept v.bounds.recorded v.lent) (told o))
       where
         told : (o : Came) → (config_of o).trace ≡ trace_of (outcome_of o)
         told (ended r) = refl
@@ -136,14 +141,14 @@ module _ (v : Begun) where
         told (barred l outer c x r) = refl
         told (waits outer c x r) = refl
 
-        hands : (o : Came) → Reaches s 0 o e ws frame → Hands (outcome_of o) (handed (end_of o)) ws
-        hands (ended r) z = (z.holds.measured.gapped.lies, z.holds.term)
-        hands (sunk r) z = refl
-        hands (barred l outer c x r) z = refl
-        hands (waits outer c x r) z = refl
+        hands : (o : Came) → Moves o → Reaches s 0 o e ws frame → Hands (outcome_of o) (handed (end_of o)) ws
+        hands (ended r) m z = (z.holds.measured.gapped.lies, z.holds.term)
+        hands (sunk r) m z = refl
+        hands (barred l outer c x r) m z = refl
+        hands (waits outer c x r) m z = absurd m
 
-        go : (o : Came) → Reaches s 0 o e ws frame → Ran (outcome_of o) (record { outcome = handed end; steps = e.steps }) ws
-        go o z = record {
-          hands = subst (λ n. Hands (outcome_of o) (handed n) ws) (sym z.end ∙ is) (hands o z);
+        go : (o : Came) → Moves o → Reaches s 0 o e ws frame → Ran (outcome_of o) (record { outcome = handed end; steps = e.steps }) ws
+        go o m z = record {
+          hands = subst (λ n. Hands (outcome_of o) (handed n) ws) (sym z.end ∙ is) (hands o m z);
           steps = z.steps ∙ ap length (told o);
         }

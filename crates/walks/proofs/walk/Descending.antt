@@ -89,10 +89,14 @@ module _ (τ : Turn) where
       let w : get_or t p 0 ≡ τ.word = ap (λ y. get_or y p 0) (sym τ.over.points.term) ∙ sym τ.reads in
       (λ i. among (z i) (strategy s (w i))) ∙ sym τ.asked
 
-  -- it does not: the position is not active
-  pub descent-stops : τ.stands ≡ false → Missed s t τ.ws q
+  -- it does not: the position is not active, and the walk ends before it
+  pub descent-stops : τ.stands ≡ false → Missed s t τ.ws q τ.f
   descent-stops n =
-      record { finger = τ.f; points = τ.over.points; inactive = above-out s wf τ.over.points.whole here.from here.high out }
+      record {
+        points = τ.over.points;
+        elsewhere = λ e. let l = τ.lower in omega arith;
+        inactive = above-out s wf τ.over.points.whole here.from here.high out;
+      }
     where
       out : Member (suc a.number) (strategy s (get_or t p 0)) → ⊥
       out m = let x : true ≡ false = sym (member-among m) ∙ entry ∙ n in let z : ◌≡◌ {A = ℕ} 0 1 = cc in omega arith

@@ -1,6 +1,6 @@
 -- The finger of a replay: it stays at the position of the last step, and the way to it from the root is kept beside the term. So a pair whose
 -- index is near costs little.
-use Rattle.std.specs.Prelude.{ℕ, ◌≡◌, true, false, List, length, take, drop, Option, MatchOption}
+use Rattle.std.specs.Prelude.{ℕ, ◌≡◌, ◌≢◌, true, false, List, length, take, drop, Result, MatchResult}
 use Rattle.system.specs.Limits.{area_words}
 use Rattle.system.specs.System.{System}
 use Rattle.system.specs.Terms.{Whole, WellFormed}
@@ -44,12 +44,12 @@ pub record At (s : System) (t ws : List ℕ) (q : ℕ) (f : Finger) : Type 0 whe
   pub here : f.at ≡ q
   pub active : active_at s t q ≡ true
 
--- q is not active; the area holds the term and a way as before, to some finger
-pub record Missed (s : System) (t ws : List ℕ) (q : ℕ) : Type 0 where
-  pub finger : Finger
-  pub points : Points s t ws finger
+-- q is not active: the walk to it ended at another position, and the finger is there
+pub record Missed (s : System) (t ws : List ℕ) (q : ℕ) (f : Finger) : Type 0 where
+  pub points : Points s t ws f
+  pub elsewhere : f.at ≢ q
   pub inactive : active_at s t q ≡ false
 
--- there is a finger exactly if q is active, and it is at q
-abbrev pub Found : System → List ℕ → List ℕ → ℕ → Option Finger → Type 0
-Found s t ws q r = MatchOption r (Missed s t ws q) (At s t ws q)
+-- the finger is at q exactly if that position is active; if it is not, the finger is where the walk ended
+abbrev pub Found : System → List ℕ → List ℕ → ℕ → Result Finger Finger → Type 0
+Found s t ws q r = MatchResult r (At s t ws q) (Missed s t ws q)

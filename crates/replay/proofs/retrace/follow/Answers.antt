@@ -4,31 +4,39 @@ use native.Mathlib.Omega.{arith}
 use mathlib.Core.Path.{◌≡◌, refl, sym, ◌∙◌, subst}
 use Rattle.reader.specs.Book.{system_of}
 use Rattle.layout.proofs.Books.{well, signature}
+use Rattle.rows.specs.Rows.{term_in}
 use Rattle.rows.specs.gap.Gaps.{words_in}
 use Rattle.rows.specs.Measured.{Measured}
 use Rattle.replay.specs.retrace.Retraces.{wrong, long, goes}
+use Rattle.walks.specs.walk.Way.{At, Found}
 use Rattle.walks.proofs.walk.Pointing.{Bounds, points-bounds}
 use Rattle.replay.proofs.retrace.Following.{missed, Searched, searched, nothing, other, told, Chosen}
 use Rattle.replay.proofs.retrace.Following.{reducible, exceeds, next-few, placed-lies, placed-words, way-raisable, way-raised}
 use Rattle.replay.proofs.retrace.follow.Goals as goal
-use Rattle.replay.proofs.retrace.follow.Goals.{In-Some, After-first_redex, After-length_at-width, After-words-2}
+use Rattle.replay.proofs.retrace.follow.Goals.{In-Ok, After-first_redex, After-length_at-width, After-words-2}
 
-bounds : (c : In-Some) → Bounds c.find.new.area c.in-Some.f
+-- the walk came to the pair's position, which is active: the finger is there, since it is what the walk answered
+came : (c : In-Ok) → let a = c.args in At (system_of a.index.now.book.words.now) (term_in a.area.now a.from.gap) c.find.new.area a.pair.at c.in-Ok.f
+came c =
+    let a = c.args in
+    subst (Found (system_of a.index.now.book.words.now) (term_in a.area.now a.from.gap) c.find.new.area a.pair.at) c.in-Ok.is c.find.ensures
+
+bounds : (c : In-Ok) → Bounds c.find.new.area c.in-Ok.f
 bounds c =
     let b = c.args.index.now.book in
-    points-bounds (system_of b.words.now) (well b.words.now b.shape b.accepted) c.in-Some.ensures.points
+    points-bounds (system_of b.words.now) (well b.words.now b.shape b.accepted) (came c).points
 
 -- what was found at the pair's position, read once
 abbrev found : After-first_redex → Searched
-found c = searched c.args.index.now.book c.args.pair c.in-Some.ensures c.first_redex.ensures.found c.first_redex.auto.bindings c.first_redex.ensures.bound
+found c = searched c.args.index.now.book c.args.pair c.in-Ok.ensures c.first_redex.ensures.found c.first_redex.auto.bindings c.first_redex.ensures.bound
 
 -- the rule is the pair's; and the width is read
 abbrev chosen : After-length_at-width → Chosen
 chosen c =
     record {
-      at = searched c.args.index.now.book c.args.pair c.in-Some.ensures c.first_redex.ensures.found c.first_redex.auto.bindings c.first_redex.ensures.bound;
-      m = c.in-Some-first_redex.m;
-      one = c.in-Some-first_redex.is;
+      at = searched c.args.index.now.book c.args.pair c.in-Ok.ensures c.first_redex.ensures.found c.first_redex.auto.bindings c.first_redex.ensures.bound;
+      m = c.in-Some.m;
+      one = c.in-Some.is;
       same = sym c.number.ensures ∙ c.if-number-pair.false;
       width = c.length_at-width.result;
       read = c.length_at-width.ensures.0;
@@ -42,8 +50,8 @@ returns-in_default-clause-followed c = wrong (missed c.args.pair c.in_default.en
 pub first_redex-requires : goal.first_redex-requires
 first_redex-requires c =
     let b = c.args.index.now.book in
-    let m = subst (λ g. Measured g c.find.new.area c.in-Some.f.gap) (signature b.words.now b.shape b.accepted) c.in-Some.ensures.points.measured in
-    (m, (bounds (goal.at.first_redex-requires c).In-Some).within, refl)
+    let m = subst (λ g. Measured g c.find.new.area c.in-Ok.f.gap) (signature b.words.now b.shape b.accepted) c.in-Ok.ensures.points.measured in
+    (m, (bounds (goal.at.first_redex-requires c).In-Ok).within, refl)
 
 pub returns-in_default-first_redex-clause-followed : goal.returns-in_default-first_redex-clause-followed
 returns-in_default-first_redex-clause-followed c =
@@ -53,12 +61,12 @@ returns-in_default-first_redex-clause-followed c =
 pub returns-then-number-pair-clause-followed : goal.returns-then-number-pair-clause-followed
 returns-then-number-pair-clause-followed c =
     let k = found (goal.at.returns-then-number-pair-clause-followed c).After-first_redex in
-    wrong (other k c.in-Some-first_redex.is (λ e. c.if-number-pair.true (c.number.ensures ∙ e))) k.found.points.total
+    wrong (other k c.in-Some.is (λ e. c.if-number-pair.true (c.number.ensures ∙ e))) k.found.points.total
 
 -- ---- the rewrite
 
 pub length_at-width-requires : goal.length_at-width-requires
-length_at-width-requires c = let b = bounds (goal.at.length_at-width-requires c).In-Some in (b.gapped, b.within)
+length_at-width-requires c = let b = bounds (goal.at.length_at-width-requires c).In-Ok in (b.gapped, b.within)
 
 pub rewrite-r-requires : goal.rewrite-r-requires
 rewrite-r-requires c = reducible (chosen (goal.at.rewrite-r-requires c).After-length_at-width)
@@ -86,7 +94,7 @@ overflow_sub-words c =
 
 -- by how much they are raised
 size : (c : After-words-2) → let w = c.length_at-width.result in
-    c.words.result + w - c.words-2.result ≡ words_in c.rewrite-r.result.gap + w - words_in c.in-Some.f.gap
+    c.words.result + w - c.words-2.result ≡ words_in c.rewrite-r.result.gap + w - words_in c.in-Ok.f.gap
 size c = λ i. c.words.ensures i + c.length_at-width.result - c.words-2.ensures i
 
 pub raise_way-requires : goal.raise_way-requires
