@@ -27,9 +27,9 @@
  * not called.
  *
  *   linked                                                  bytes   needs           red zone
- *   libcue.a                                               30,656   memmove, memset used
- *   libcue.a, cue_test_strategies and cue_expand alone     18,178   memmove, memset used
- *   libcue_replay.a                                        19,719   memmove, memset used
+ *   libcue.a                                               30,417   memset          used
+ *   libcue.a, cue_test_strategies and cue_expand alone     18,018   memset          used
+ *   libcue_replay.a                                        19,616   memset          used
  *
  * An expansion is lent 8 KB for the answer and 24 KB to work in. The stack that a call takes, read from the compiled archives with everything
  * that is called, is below 4,096 bytes for each function (`bash tests/stack.sh` measures it, and holds both tables to the archives):
@@ -50,7 +50,7 @@
  *   cue_expand_checked      libcue.a                   2,336
  *   cue_expand_twice        libcue.a                   2,336
  *   cue_expand_recorded     libcue.a                   2,304
- *   cue_replay              libcue_replay.a            2,240
+ *   cue_replay              libcue_replay.a            2,256
  *   cue_expand_retraced     libcue_replay.a            3,968
  */
 #ifndef CUE_H
